@@ -1,0 +1,87 @@
+// Datum steps on Cartesian positions, forward and inverse, and chains of up to eight of them.
+
+// Geocentric coordinates in whole units of 0.00001 m.
+pub struct Position {
+    pub x: i64,
+    pub y: i64,
+    pub z: i64,
+}
+
+// A datum (1 to 10) at an epoch, in thousandths of a year (0: none).
+pub struct Realization {
+    pub datum: i64,
+    pub epoch: i64,
+}
+
+// A point's name: up to 16 bytes, eight to a word, the first byte highest, zeros after the last. It is never examined here.
+pub struct Id {
+    pub high: u64,
+    pub low: u64,
+}
+
+// A control point.
+pub struct Point {
+    pub id: Id,
+    pub issue: i64,
+    pub realization: Realization,
+    pub position: Position,
+}
+
+// T: a shift, in units.
+pub struct Shift {
+    pub dx: i64,
+    pub dy: i64,
+    pub dz: i64,
+}
+
+// V: a velocity, in units a year.
+pub struct Velocity {
+    pub vx: i64,
+    pub vy: i64,
+    pub vz: i64,
+}
+
+// How the rotations of a Bursa-Wolf step turn: P, and C with all three signs changed.
+pub enum Convention {
+    PositionVector,
+    CoordinateFrame,
+}
+
+// B: shifts in units, rotations in 0.00001", scale in 10^-11.
+pub struct BursaWolf {
+    pub convention: Convention,
+    pub dx: i64,
+    pub dy: i64,
+    pub dz: i64,
+    pub rx: i64,
+    pub ry: i64,
+    pub rz: i64,
+    pub s: i64,
+}
+
+// A kind of step carries just its own numbers. Frame is F: to ITRF2014, its figures are those of the datum before.
+pub enum Kind {
+    Shift(Shift),
+    Velocity(Velocity),
+    BursaWolf(BursaWolf),
+    Frame,
+}
+
+// A step, with its datum and epoch before and after.
+pub struct Step {
+    pub kind: Kind,
+    pub before: Realization,
+    pub after: Realization,
+}
+
+// A chain: the first `length` of its eight places.
+pub struct Chain {
+    pub steps: [Step; 8],
+    pub length: usize,
+}
+
+// What a conversion answers: the point, or the refusal number.
+pub enum Answer {
+    Converted(Point),
+    Refused(u8),
+}

@@ -1,0 +1,131 @@
+-- The laws of lines and of a program's run over them. Assumes nothing.
+use Prim.Native.Nat.{ℕ, zero, suc, _+_, _-_, _*_, _≤_, _<_}
+use mathlib.Core.Path.{_≡_, refl, sym, ap, _∙_}
+use mathlib.Core.List.{List, [], _∷_, _++_}
+use mathlib.Core.Bool.{Bool, true, false}
+use lib.Dec.{eqb}
+use native.Mathlib.Nat.{add-zero}
+use lib.ListN.{length, getD, take, drop, set, length-append, length-drop, length-take, drop-of-length-le}
+use lib.Seq.{sets, drop-cons, drop-drop}
+use native.Mathlib.Numerals.{add-one}
+use native.Mathlib.Omega.{arith}
+use borrow.Author.Tests.{eq-eqb, ne-eqb}
+use Rattle.refusal.specs.Order.{pick}
+use Rattle.listing.specs.Lines.{feed, push, lines, firstLength, lineEnd}
+use Rattle.listing.specs.Fold.{Rules, run}
+
+-- ---- the first line's length, by its first byte
+pub length-feed : (s : List ℕ) (i : ℕ) → i < length s → getD s i 0 ≡ feed → firstLength (drop i s) ≡ 1
+unfolding firstLength
+length-feed s i h e = rw (drop-cons s i 0 h, eq-eqb (getD s i 0) feed e)
+
+pub length-more : (s : List ℕ) (i : ℕ) → i < length s → (getD s i 0 ≡ feed → ⊥) → firstLength (drop i s) ≡ suc (firstLength (drop (i + 1) s))
+unfolding firstLength
+length-more s i h e = rw (drop-cons s i 0 h, ne-eqb (getD s i 0) feed e, add-one)
+
+pub length-none : (s : List ℕ) (i : ℕ) → length s ≤ i → firstLength (drop i s) ≡ 0
+unfolding firstLength
+length-none s i h = rw (drop-of-length-le s h)
+
+-- ---- the first line, and the others
+first-line : (s : List ℕ) → 0 < length s → lines s ≡ take (firstLength s) s ∷ lines (drop (firstLength s) s)
+unfolding lines firstLength
+first-line [] h = absurd (omega arith)
+first-line (b ∷ []) h = go (eqb b feed)
+  where
+    go : (t : Bool) → pick t ((b ∷ []) ∷ []) ((b ∷ []) ∷ []) ≡ take (pick t 1 1) (b ∷ []) ∷ lines (drop (pick t 1 1) (b ∷ []))
+    go true = refl
+    go false = refl
+first-line (b ∷ c ∷ s) h = go (eqb b feed) (first-line (c ∷ s) (omega arith))
+  where
+    go : (t : Bool) → lines (c ∷ s) ≡ take (firstLength (c ∷ s)) (c ∷ s) ∷ lines (drop (firstLength (c ∷ s)) (c ∷ s)) → pick t ((b ∷ []) ∷ lines (c ∷ s)) (push b (lines (c ∷ s))) ≡ take (pick t 1 (suc (firstLength (c ∷ s)))) (b ∷ c ∷ s) ∷ lines (drop (pick t 1 (suc (firstLength (c ∷ s)))) (b ∷ c ∷ s))
+    go true ih = refl
+    go false ih = ap (push b) ih
+
+first-some : (s : List ℕ) → 0 < length s → 0 < firstLength s
+unfolding firstLength
+first-some [] h = absurd (omega arith)
+first-some (b ∷ s) h = go (eqb b feed)
+  where
+    go : (t : Bool) → 0 < pick t 1 (suc (firstLength s))
+    go true = omega arith
+    go false = omega arith
+
+first-fits : (s : List ℕ) → firstLength s ≤ length s
+unfolding firstLength
+first-fits [] = omega arith
+first-fits (b ∷ s) = go (eqb b feed) (first-fits s)
+  where
+    go : (t : Bool) → firstLength s ≤ length s → pick t 1 (suc (firstLength s)) ≤ suc (length s)
+    go true h = omega arith
+    go false h = omega arith
+
+-- ---- the line that begins at p and ends before e
+module _ (s : List ℕ) (p e : ℕ) (q : e ≡ lineEnd s p) (h : p < length s) where
+  at-p : e ≡ p + firstLength (drop p s)
+  unfolding lineEnd
+  at-p = q
+
+  left : 0 < length (drop p s)
+  left = simp length-drop (omega arith)
+
+  -- it is not empty, and ends within the input
+  pub line-goes-on : p < e
+  line-goes-on = omega (arith, at-p, first-some (drop p s) left)
+
+  pub line-fits : e ≤ length s
+  line-fits = omega (arith, at-p, first-fits (drop p s), length-drop p s)
+
+  pub line-length : length (take (e - p) (drop p s)) ≡ e - p
+  line-length = rw (length-take, length-drop) (omega (arith, line-fits))
+
+  -- and the others begin at e
+  pub line-step : lines (drop p s) ≡ take (e - p) (drop p s) ∷ lines (drop e s)
+  line-step =
+      let w : e - p ≡ firstLength (drop p s) = omega (arith, at-p) in
+      first-line (drop p s) left ∙ rw (w, at-p, ← drop-drop (firstLength (drop p s)) p s)
+
+-- how many bytes the lines have together: as many as the input
+abbrev pub total : List (List ℕ) → ℕ
+total [] = 0
+total (l ∷ ls) = length l + total ls
+
+total-push : (b : ℕ) (ls : List (List ℕ)) → total (push b ls) ≡ suc (total ls)
+total-push b [] = refl
+total-push b (l ∷ ls) = omega arith
+
+pub total-lines : (s : List ℕ) → total (lines s) ≡ length s
+unfolding lines
+total-lines [] = refl
+total-lines (b ∷ s) = go (eqb b feed) (total-lines s)
+  where
+    go : (t : Bool) → total (lines s) ≡ length s → total (pick t ((b ∷ []) ∷ lines s) (push b (lines s))) ≡ suc (length s)
+    go true h = omega arith
+    go false h = omega (arith, total-push b (lines s))
+
+-- ---- a turn of a program's loop: what is left to do, after the line's answer is written, is the whole
+pub sets-append : (a b out : List ℕ) (o : ℕ) → sets out o (a ++ b) ≡ sets (sets out o a) (o + length a) b
+sets-append [] b out o = rw add-zero
+sets-append (x ∷ a) b out o = sets-append a b (set out o x) (suc o) ∙ let e : suc o + length a ≡ o + suc (length a) = omega arith in rw e
+
+module _ {S : Type 0} (r : Rules S) (s : List ℕ) (p e : ℕ) (q : e ≡ lineEnd s p) (h : p < length s) (st st' : S) (o o' : ℕ) (out out' : List ℕ) (n : st' ≡ r .next st (take (e - p) (drop p s))) (m : o' ≡ o + length (r .answer st (take (e - p) (drop p s)))) where
+  pub turn-length : o' + length (run r st' (lines (drop e s))) ≡ o + length (run r st (lines (drop p s)))
+  unfolding run
+  turn-length = rw (line-step s p e q h, length-append, n, m) (omega arith)
+
+  pub turn-out : out' ≡ sets out o (r .answer st (take (e - p) (drop p s))) → sets out' o' (run r st' (lines (drop e s))) ≡ sets out o (run r st (lines (drop p s)))
+  unfolding run
+  turn-out w = rw (line-step s p e q h, n, m, w) (sym (sets-append (r .answer st (take (e - p) (drop p s))) (run r (r .next st (take (e - p) (drop p s))) (lines (drop e s))) out o))
+
+pub run-end : {S : Type 0} (r : Rules S) (s : List ℕ) (p : ℕ) (st : S) → length s ≤ p → run r st (lines (drop p s)) ≡ []
+unfolding run lines
+run-end r s p st h = rw (drop-of-length-le s h)
+
+-- ---- what is printed is at most k times as long as what is read, where each line's answer is, under what holds of the state
+pub run-short : {S : Type 0} (r : Rules S) (k : ℕ) (Holds : S → List (List ℕ) → Type 0) → ((st : S) (l : List ℕ) (ls : List (List ℕ)) → Holds st (l ∷ ls) → (length (r .answer st l) ≤ k * length l) × Holds (r .next st l) ls) → (st : S) (ls : List (List ℕ)) → Holds st ls → length (run r st ls) ≤ k * total ls
+unfolding run
+run-short r k Holds each st [] h = omega arith
+run-short r k Holds each st (l ∷ ls) h =
+    let a = each st l ls h in
+    let b = run-short r k Holds each (r .next st l) ls (a .1) in
+    omega (arith, length-append (r .answer st l) (run r (r .next st l) ls))

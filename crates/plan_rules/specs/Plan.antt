@@ -21,8 +21,7 @@ use Rattle.line.specs.declared.GeodeticLine.the-variants as geodetic-line
 use Rattle.line.specs.Bytes.{letterO, letterG}
 use Rattle.line.specs.Lines.{readOrigin, readGeodetic}
 use Rattle.line.specs.Text.{gridText, refusalText}
-use Rattle.listing.specs.Lines.{lines}
-use Rattle.listing.specs.Fold.{Rules, run}
+use Rattle.listing.specs.Fold.{Rules, printed, byLetter, refusalLine}
 
 -- what has been read so far: the number of the line to come, and the accepted origin
 pub record Plan : Type 0 where
@@ -61,10 +60,6 @@ projected p (geodetic-line.Refused f) =
 projected p (geodetic-line.Geodetic g) = laid (p .origin) g
 
 -- ---- what is printed
--- R, the line's number, the refusal number; nothing where there is none
-abbrev pub refusalLine : ℕ → ℕ → List ℕ
-refusalLine line number = pick (eqb number 0) [] (refusalText line number)
-
 -- C, id, easting, northing
 abbrev pub gridLine : ℕ → Id → GridMillimetres → List ℕ
 gridLine line id (grid.Millimetres e n) = gridText id e n
@@ -75,28 +70,19 @@ idOf (geodetic-line.Refused f) = record { high = 0; low = 0 }
 idOf (geodetic-line.Geodetic g) = g .id
 
 -- ---- one line, by its first byte
-abbrev pub firstByte : List ℕ → ℕ
-firstByte line = getD line 0 0
-
-abbrev pub byLetter : {A : Type 0} → List ℕ → A → A → A → A
-byLetter line origin position other = pick (eqb (firstByte line) letterO) origin (pick (eqb (firstByte line) letterG) position other)
-
 unfoldable pub answerOf : Plan → List ℕ → List ℕ
 answerOf p line =
-    byLetter line
+    byLetter letterO letterG line
     (refusalLine (p .line) (originNumber p (readOrigin line)))
     (gridLine (p .line) (idOf (readGeodetic line)) (projected p (readGeodetic line)))
     (refusalText (p .line) refusal.form)
 
 unfoldable pub nextOf : Plan → List ℕ → Plan
-nextOf p line = record { line = p .line + 1; origin = byLetter line (originAfter p (readOrigin line)) (p .origin) (p .origin) }
+nextOf p line = record { line = p .line + 1; origin = byLetter letterO letterG line (originAfter p (readOrigin line)) (p .origin) (p .origin) }
 
 abbrev pub rules : Rules Plan
 rules = record { answer = answerOf; next = nextOf }
 
--- ---- the whole plan: at most 65,536 bytes; more prints only R, 0, 15
-abbrev pub most : ℕ
-most = 65536
-
+-- the whole plan
 unfoldable pub planOf : List ℕ → List ℕ
-planOf input = pick (ltb most (length input)) (refusalText 0 refusal.long) (run rules fresh (lines input))
+planOf input = printed rules fresh input

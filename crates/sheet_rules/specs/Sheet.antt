@@ -21,8 +21,7 @@ use Rattle.line.specs.declared.StepLine.the-variants as step-line
 use Rattle.line.specs.Bytes.{letterP, letterS}
 use Rattle.line.specs.Lines.{readPoint, readStep}
 use Rattle.line.specs.Text.{pointText, refusalText}
-use Rattle.listing.specs.Lines.{lines}
-use Rattle.listing.specs.Fold.{Rules, run}
+use Rattle.listing.specs.Fold.{Rules, printed, byLetter, refusalLine}
 
 -- what has been read so far: the number of the line to come; the steps accepted; whether a line beginning with S was refused; whether a
 -- point line of good form was read, which closes the chain
@@ -74,24 +73,14 @@ badForm (point-line.Refused f) = eqb (f .number) refusal.form
 badForm (point-line.Point p) = false
 
 -- ---- what is printed
--- R, the line's number, the refusal number; nothing where there is none
-abbrev pub refusalLine : ℕ → ℕ → List ℕ
-refusalLine line number = pick (eqb number 0) [] (refusalText line number)
-
 abbrev pub answerLine : ℕ → Answer → List ℕ
 answerLine line (answer.Converted p) = pointText p
 answerLine line (answer.Refused n) = refusalText line n
 
 -- ---- one line, by its first byte
-abbrev pub firstByte : List ℕ → ℕ
-firstByte line = getD line 0 0
-
-abbrev pub byLetter : {A : Type 0} → List ℕ → A → A → A → A
-byLetter line step point other = pick (eqb (firstByte line) letterS) step (pick (eqb (firstByte line) letterP) point other)
-
 unfoldable pub answerOf : Sheet → List ℕ → List ℕ
 answerOf s line =
-    byLetter line
+    byLetter letterS letterP line
     (refusalLine (s .line) (stepNumber s (readStep line)))
     (answerLine (s .line) (converted s (readPoint line)))
     (refusalText (s .line) refusal.form)
@@ -99,17 +88,14 @@ answerOf s line =
 unfoldable pub nextOf : Sheet → List ℕ → Sheet
 nextOf s line = record {
   line = s .line + 1;
-  steps = byLetter line (added s (readStep line)) (s .steps) (s .steps);
-  refused = byLetter line (s .refused || not (eqb (stepNumber s (readStep line)) 0)) (s .refused) (s .refused);
-  closed = byLetter line (s .closed) (s .closed || not (badForm (readPoint line))) (s .closed);
+  steps = byLetter letterS letterP line (added s (readStep line)) (s .steps) (s .steps);
+  refused = byLetter letterS letterP line (s .refused || not (eqb (stepNumber s (readStep line)) 0)) (s .refused) (s .refused);
+  closed = byLetter letterS letterP line (s .closed) (s .closed || not (badForm (readPoint line))) (s .closed);
 }
 
 abbrev pub rules : Rules Sheet
 rules = record { answer = answerOf; next = nextOf }
 
--- ---- the whole sheet: at most 65,536 bytes; more prints only R, 0, 15
-abbrev pub most : ℕ
-most = 65536
-
+-- the whole sheet
 unfoldable pub sheetOf : List ℕ → List ℕ
-sheetOf input = pick (ltb most (length input)) (refusalText 0 refusal.long) (run rules fresh (lines input))
+sheetOf input = printed rules fresh input

@@ -3,13 +3,18 @@ use Prim.Native.Nat.{ℕ, zero, suc, _+_, _-_, _*_, _≤_, _<_}
 use mathlib.Core.Path.{_≡_, refl, sym, ap, _∙_}
 use mathlib.Core.List.{List, [], _∷_, _++_}
 use mathlib.Core.Bool.{Bool, true, false}
+use mathlib.Core.Option.{Option, none, some}
 use lib.Dec.{eqb}
 use native.Mathlib.Nat.{add-zero}
 use lib.ListN.{length, getD, take, drop, set, length-append, length-drop, length-take, drop-of-length-le}
-use lib.Seq.{sets, drop-cons, drop-drop}
+use lib.Seq.{sets, length-sets, set-out, drop-cons, drop-drop}
+use native.Mathlib.Decide.{decLe}
+use Rattle.line.specs.declared.Fault.{Fault}
+use Rattle.line.specs.Lines.{fault, answered}
+use Rattle.line.specs.Text.{Wrote}
 use native.Mathlib.Numerals.{add-one}
 use native.Mathlib.Omega.{arith}
-use borrow.Author.Tests.{eq-eqb, ne-eqb}
+use borrow.Author.Tests.{eq-eqb, ne-eqb, eqb-true}
 use Rattle.refusal.specs.Order.{pick}
 use Rattle.listing.specs.Lines.{feed, push, lines, firstLength, lineEnd}
 use Rattle.listing.specs.Fold.{Rules, run}
@@ -103,23 +108,50 @@ total-lines (b ∷ s) = go (eqb b feed) (total-lines s)
     go true h = omega arith
     go false h = omega (arith, total-push b (lines s))
 
--- ---- a turn of a program's loop: what is left to do, after the line's answer is written, is the whole
-pub sets-append : (a b out : List ℕ) (o : ℕ) → sets out o (a ++ b) ≡ sets (sets out o a) (o + length a) b
+-- ---- texts written one after the other
+sets-append : (a b out : List ℕ) (o : ℕ) → sets out o (a ++ b) ≡ sets (sets out o a) (o + length a) b
 sets-append [] b out o = rw add-zero
 sets-append (x ∷ a) b out o = sets-append a b (set out o x) (suc o) ∙ let e : suc o + length a ≡ o + suc (length a) = omega arith in rw e
 
-module _ {S : Type 0} (r : Rules S) (s : List ℕ) (p e : ℕ) (q : e ≡ lineEnd s p) (h : p < length s) (st st' : S) (o o' : ℕ) (out out' : List ℕ) (n : st' ≡ r .next st (take (e - p) (drop p s))) (m : o' ≡ o + length (r .answer st (take (e - p) (drop p s)))) where
-  pub turn-length : o' + length (run r st' (lines (drop e s))) ≡ o + length (run r st (lines (drop p s)))
-  unfolding run
-  turn-length = rw (line-step s p e q h, length-append, n, m) (omega arith)
+sets-out : (vs l : List ℕ) (i : ℕ) → length l ≤ i → sets l i vs ≡ l
+sets-out [] l i h = refl
+sets-out (x ∷ vs) l i h = rw (set-out l i x h) (sets-out vs l (suc i) (omega arith))
 
-  pub turn-out : out' ≡ sets out o (r .answer st (take (e - p) (drop p s))) → sets out' o' (run r st' (lines (drop e s))) ≡ sets out o (run r st (lines (drop p s)))
-  unfolding run
-  turn-out w = rw (line-step s p e q h, n, m, w) (sym (sets-append (r .answer st (take (e - p) (drop p s))) (run r (r .next st (take (e - p) (drop p s))) (lines (drop e s))) out o))
+pub wrote-none : (l : List ℕ) (at : ℕ) → Wrote l at [] l at
+wrote-none l at = record { place = omega arith; list = refl }
 
-pub run-end : {S : Type 0} (r : Rules S) (s : List ℕ) (p : ℕ) (st : S) → length s ≤ p → run r st (lines (drop p s)) ≡ []
-unfolding run lines
-run-end r s p st h = rw (drop-of-length-le s h)
+pub wrote-then : {l m k : List ℕ} {at r t : ℕ} {vs ws : List ℕ} → Wrote l at vs m r → Wrote m r ws k t → Wrote l at (vs ++ ws) k t
+wrote-then {l} {m} {k} {at} {r} {t} {vs} {ws} a b = record {
+  place = omega (arith, a .place, b .place, same, length-append vs ws);
+  list = b .list ∙ next (decLe (at + length vs) (length l)) ∙ sym (sets-append vs ws l at);
+}
+  where
+    same : length m ≡ length l
+    same = ap length (a .list) ∙ length-sets l at vs
+
+    next : Dec (at + length vs ≤ length l) → sets m r ws ≡ sets (sets l at vs) (at + length vs) ws
+    next (yes h) = let e : r ≡ at + length vs = omega (arith, a .place) in rw (a .list, e)
+    next (no h) =
+        let g : length m ≤ r = omega (arith, a .place, same) in
+        let f : length (sets l at vs) ≤ at + length vs = omega (arith, length-sets l at vs) in
+        sets-out ws m r g ∙ a .list ∙ sym (sets-out ws (sets l at vs) (at + length vs) f)
+
+-- ---- a program's loop: once what is left is written, the whole is
+pub Left : {S : Type 0} → Rules S → S → List ℕ → List ℕ → S → ℕ → List ℕ → ℕ → Type 0
+Left r st₀ s out₀ st p out o = (m : List ℕ) (t : ℕ) → Wrote out o (run r st (lines (drop p s))) m t → Wrote out₀ 0 (run r st₀ (lines s)) m t
+
+module _ {S : Type 0} (r : Rules S) (st₀ : S) (s out₀ : List ℕ) where
+  pub left-all : Left r st₀ s out₀ st₀ 0 out₀ 0
+  unfolding Left
+  left-all m t w = w
+
+  pub left-turn : (p e : ℕ) (st : S) (out out' : List ℕ) (o o' : ℕ) → e ≡ lineEnd s p → p < length s → Wrote out o (r .answer st (take (e - p) (drop p s))) out' o' → Left r st₀ s out₀ st p out o → Left r st₀ s out₀ (r .next st (take (e - p) (drop p s))) e out' o'
+  unfolding run Left
+  left-turn p e st out out' o o' q h w l m t v = l m t (rw (line-step s p e q h) (wrote-then w v))
+
+  pub left-none : (p : ℕ) (st : S) (out : List ℕ) (o : ℕ) → length s ≤ p → Left r st₀ s out₀ st p out o → Wrote out₀ 0 (run r st₀ (lines s)) out o
+  unfolding run lines Left
+  left-none p st out o h l = l out o (rw (drop-of-length-le s h) (wrote-none out o))
 
 -- ---- what is printed is at most k times as long as what is read, where each line's answer is, under what holds of the state
 pub run-short : {S : Type 0} (r : Rules S) (k : ℕ) (Holds : S → List (List ℕ) → Type 0) → ((st : S) (l : List ℕ) (ls : List (List ℕ)) → Holds st (l ∷ ls) → (length (r .answer st l) ≤ k * length l) × Holds (r .next st l) ls) → (st : S) (ls : List (List ℕ)) → Holds st ls → length (run r st ls) ≤ k * total ls
@@ -129,3 +161,12 @@ run-short r k Holds each st (l ∷ ls) h =
     let a = each st l ls h in
     let b = run-short r k Holds each (r .next st l) ls (a .1) in
     omega (arith, length-append (r .answer st l) (run r (r .next st l) ls))
+
+-- ---- a reader that gives a record has found no fault
+pub no-fault : {A R : Type 0} (faultOf : A → ℕ) (good : A → R) (refused : Fault → R) (o : Option A) (a : A) → ((x y : A) → good x ≡ good y → x ≡ y) → ((f : Fault) (x : A) → refused f ≡ good x → ⊥) → answered faultOf good refused o ≡ good a → faultOf a ≡ 0
+no-fault faultOf good refused none a inj never e = absurd (never _ a e)
+no-fault faultOf good refused (some b) a inj never e = go (eqb (faultOf b) 0) refl e
+  where
+    go : (t : Bool) → t ≡ eqb (faultOf b) 0 → pick t (good b) (refused (fault (faultOf b))) ≡ good a → faultOf a ≡ 0
+    go true t e = ap faultOf (sym (inj b a e)) ∙ eqb-true (faultOf b) 0 (sym t)
+    go false t e = absurd (never _ a e)

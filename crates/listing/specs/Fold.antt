@@ -27,7 +27,3 @@ printed r s input = pick (ltb most (length input)) (refusalText 0 refusal.long) 
 -- a program reads lines of two letters, told by their first byte
 abbrev pub byLetter : {A : Type 0} → ℕ → ℕ → List ℕ → A → A → A → A
 byLetter one other line a b neither = pick (eqb (getD line 0 0) one) a (pick (eqb (getD line 0 0) other) b neither)
-
--- R, the line's number, the refusal number; nothing where there is none
-abbrev pub refusalLine : ℕ → ℕ → List ℕ
-refusalLine line number = pick (eqb number 0) [] (refusalText line number)

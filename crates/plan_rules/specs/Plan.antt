@@ -21,7 +21,7 @@ use Rattle.line.specs.declared.GeodeticLine.the-variants as geodetic-line
 use Rattle.line.specs.Bytes.{letterO, letterG}
 use Rattle.line.specs.Lines.{readOrigin, readGeodetic}
 use Rattle.line.specs.Text.{gridText, refusalText}
-use Rattle.listing.specs.Fold.{Rules, printed, byLetter, refusalLine}
+use Rattle.listing.specs.Fold.{Rules, printed, byLetter}
 
 -- what has been read so far: the number of the line to come, and the accepted origin
 pub record Plan : Type 0 where
@@ -35,11 +35,11 @@ fresh = record { line = 1; origin = none }
 abbrev pub notFirst : Plan → Bool
 notFirst p = not (eqb (p .line) 1)
 
--- ---- an origin line: 1, 7, 2, 12; 0 where it is accepted
-abbrev pub originNumber : Plan → OriginLine → ℕ
-originNumber p (origin-line.Refused f) =
-    first ((eqb (f .number) refusal.form gives refusal.form) ∷ (notFirst p gives refusal.place) ∷ (true gives f .number) ∷ [])
-originNumber p (origin-line.Origin o) = first ((notFirst p gives refusal.place) ∷ [])
+-- ---- an origin line: 1, 7, 2, 12; an accepted one prints nothing
+abbrev pub originAnswer : Plan → OriginLine → List ℕ
+originAnswer p (origin-line.Refused f) =
+    refusalText (p .line) (first ((eqb (f .number) refusal.form gives refusal.form) ∷ (notFirst p gives refusal.place) ∷ (true gives f .number) ∷ []))
+originAnswer p (origin-line.Origin o) = pick (notFirst p) (refusalText (p .line) refusal.place) []
 
 abbrev pub originAfter : Plan → OriginLine → Option OriginNumbers
 originAfter p (origin-line.Refused f) = p .origin
@@ -50,32 +50,23 @@ abbrev pub noOrigin : Option OriginNumbers → Bool
 noOrigin none = true
 noOrigin (some o) = false
 
-abbrev pub laid : Option OriginNumbers → Geodetic → GridMillimetres
-laid none g = grid.Refused refusal.earlier
-laid (some o) g = cassiniMillimetresOf o (g .latitude) (g .longitude)
-
-abbrev pub projected : Plan → GeodeticLine → GridMillimetres
-projected p (geodetic-line.Refused f) =
-    grid.Refused (first ((eqb (f .number) refusal.form gives refusal.form) ∷ (noOrigin (p .origin) gives refusal.earlier) ∷ (true gives f .number) ∷ []))
-projected p (geodetic-line.Geodetic g) = laid (p .origin) g
-
--- ---- what is printed
 -- C, id, easting, northing
-abbrev pub gridLine : ℕ → Id → GridMillimetres → List ℕ
-gridLine line id (grid.Millimetres e n) = gridText id e n
-gridLine line id (grid.Refused number) = refusalText line number
+abbrev pub gridAnswer : ℕ → Id → GridMillimetres → List ℕ
+gridAnswer line id (grid.Millimetres e n) = gridText id e n
+gridAnswer line id (grid.Refused number) = refusalText line number
 
-abbrev pub idOf : GeodeticLine → Id
-idOf (geodetic-line.Refused f) = record { high = 0; low = 0 }
-idOf (geodetic-line.Geodetic g) = g .id
+abbrev pub laid : ℕ → Option OriginNumbers → Geodetic → List ℕ
+laid line none g = refusalText line refusal.earlier
+laid line (some o) g = gridAnswer line (g .id) (cassiniMillimetresOf o (g .latitude) (g .longitude))
+
+abbrev pub geodeticAnswer : Plan → GeodeticLine → List ℕ
+geodeticAnswer p (geodetic-line.Refused f) =
+    refusalText (p .line) (first ((eqb (f .number) refusal.form gives refusal.form) ∷ (noOrigin (p .origin) gives refusal.earlier) ∷ (true gives f .number) ∷ []))
+geodeticAnswer p (geodetic-line.Geodetic g) = laid (p .line) (p .origin) g
 
 -- ---- one line, by its first byte
 unfoldable pub answerOf : Plan → List ℕ → List ℕ
-answerOf p line =
-    byLetter letterO letterG line
-    (refusalLine (p .line) (originNumber p (readOrigin line)))
-    (gridLine (p .line) (idOf (readGeodetic line)) (projected p (readGeodetic line)))
-    (refusalText (p .line) refusal.form)
+answerOf p line = byLetter letterO letterG line (originAnswer p (readOrigin line)) (geodeticAnswer p (readGeodetic line)) (refusalText (p .line) refusal.form)
 
 unfoldable pub nextOf : Plan → List ℕ → Plan
 nextOf p line = record { line = p .line + 1; origin = byLetter letterO letterG line (originAfter p (readOrigin line)) (p .origin) (p .origin) }

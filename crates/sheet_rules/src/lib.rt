@@ -1,14 +1,14 @@
-// A sheet's rules: one line at a time over a state, and a whole sheet from bytes to bytes.
+// A sheet's rules: the answer to one line over a state, and a whole sheet from bytes to bytes.
 mod answer;
-mod sheet;
+mod whole;
 
-pub use sheet::sheet;
+pub use whole::sheet;
 
-// What has been read so far, but for the steps' numbers, which are lent beside it so that no line copies them.
+// What has been read so far, but for the steps made ready, which are lent beside it so that no line copies them.
 struct State {
     // The number of the line to come, from 1.
     line: u64,
-    // How many steps were accepted, and where their chain starts and ends.
+    // How many steps were accepted; where their chain starts and ends, all 0 while there is none.
     length: usize,
     start: chain::Realization,
     end: chain::Realization,
@@ -18,7 +18,7 @@ struct State {
     closed: bool,
 }
 
-// The state after a line, and the place past its answer.
+// The state after a line, and the place past what it printed.
 struct Answered {
     state: State,
     at: usize,

@@ -1,0 +1,6 @@
+pub mod Ranges
+pub mod Faults
+pub mod Rows
+pub mod Parts
+pub mod Convert
+pub mod RoundTrip

@@ -1,5 +1,12 @@
 // Datum steps on Cartesian positions, forward and inverse, and chains of up to eight of them.
 
+mod faults;
+mod kinds;
+mod ranges;
+
+pub use crate::faults::point_fault;
+pub use crate::faults::step_fault;
+
 // Geocentric coordinates in whole units of 0.00001 m.
 pub struct Position {
     pub x: i64,

@@ -121,3 +121,7 @@ fit0- {x} {x'} p f = subst⁻¹ (λ (z : ℤ). SFits w64 z) (eq (k 0 ⊖ v x) (n
 -- a test of what the machine reads, of two numbers
 pub test : (f : ℤ → ℤ → Bool) {x x' y y' : ℤ} {b : Bool} → f x y ≡ b → x ≡ x' → y ≡ y' → f x' y' ≡ b
 test f e p q = sym (ap₂ f p q) ∙ e
+
+-- the same of a struct's field, from what owning the struct tells of it: its size is below 2^63
+pub told : {z : ℤ} → mag z < 9223372036854775808 → toZ w64 (ofZ w64 z) ≡ z
+told h = rd (record { sfits = h })

@@ -5,3 +5,4 @@ pub mod Sizes
 pub mod Walk
 pub mod Accepted
 pub mod RoundTrip
+pub mod Cases

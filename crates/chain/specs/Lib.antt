@@ -5,3 +5,4 @@ pub mod Parts
 pub mod Axes
 pub mod Convert
 pub mod RoundTrip
+pub mod Cases

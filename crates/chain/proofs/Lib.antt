@@ -4,5 +4,6 @@ pub mod Tests
 pub mod Sizes
 pub mod Walk
 pub mod Accepted
+pub mod Prepared
 pub mod RoundTrip
 pub mod Cases

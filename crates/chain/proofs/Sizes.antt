@@ -136,7 +136,7 @@ row-ok datum = either (equal (pos 9) datum)
     either true = record { shift = three (λ i. _) (lit≤ tt, lit≤ tt) (lit≤ tt, lit≤ tt) (lit≤ tt, lit≤ tt); scale = (lit≤ tt, lit≤ tt) }
     either false = record { shift = three (λ i. _) (lit≤ tt, lit≤ tt) (lit≤ tt, lit≤ tt) (lit≤ tt, lit≤ tt); scale = (lit≤ tt, lit≤ tt) }
 
-at-epoch-size : (t tv dt : ℤ) (A B C : ℕ) → natAbs t ≤ A → natAbs tv ≤ B → natAbs dt ≤ C → natAbs (atEpoch t tv dt) ≤ 1000 * A + B * C
+pub at-epoch-size : (t tv dt : ℤ) (A B C : ℕ) → natAbs t ≤ A → natAbs tv ≤ B → natAbs dt ≤ C → natAbs (atEpoch t tv dt) ≤ 1000 * A + B * C
 unfolding atEpoch
 at-epoch-size t tv dt A B C ht hv hd = add-le (pos 1000 *ℤ t) (tv *ℤ dt) (1000 * A) (B * C) (mul-le (pos 1000) t 1000 A (omega arith) ht) (mul-le tv dt B C hv hd)
 
@@ -148,7 +148,7 @@ module _ (row : List ℤ) (ok : RowOk row) (dt : ℤ) (years : natAbs dt ≤ 900
   scale-at-size = at-epoch-size (figure row 6) (figure row 7) dt 212 11 90000 (ok .scale .0) (ok .scale .1) years
 
 -- ---- each kind is mild
-fixed-mild : (n : ℤ) (d : ℕ) → 0 < d → natAbs n ≤ 100000000 * d → Mild (fixed n d)
+pub fixed-mild : (n : ℤ) (d : ℕ) → 0 < d → natAbs n ≤ 100000000 * d → Mild (fixed n d)
 fixed-mild n d h l = record { slope = omega arith; start = l }
 
 fixed-flat : (n : ℤ) (d : ℕ) → Flat (fixed n d)
@@ -161,7 +161,7 @@ over14-mild : (n a b c : ℤ) → natAbs n ≤ 19710000 → natAbs a + natAbs b 
 over14-mild n a b c h l = record { slope = omega arith; start = omega (arith, abs-neg (n *ℤ pos 100000000000), mul-le n (pos 100000000000) 19710000 100000000000 h (omega arith)) }
 
 -- what holds on each axis holds of the step
-milds : (t : Parts) → Mild (t .px) → Mild (t .py) → Mild (t .pz) → Milds t
+pub milds : (t : Parts) → Mild (t .px) → Mild (t .py) → Mild (t .pz) → Milds t
 milds t x y z = record { on = on }
   where
     on : (i : Axis) → Mild (partOn i t)
@@ -200,7 +200,7 @@ velocity-ok t e =
     let f = all (velocityRange (t .vx)) (velocityRange (t .vy)) (velocityRange (t .vz)) e in
     record { vx = up-to 10000 (t .vx) (f .0); vy = up-to 10000 (t .vy) (f .1); vz = up-to 10000 (t .vz) (f .2) }
 
-moved-size : (u dt : ℤ) → natAbs u ≤ 10000 → natAbs dt ≤ 120000 → natAbs (u *ℤ dt) ≤ 100000000 * 1000
+pub moved-size : (u dt : ℤ) → natAbs u ≤ 10000 → natAbs dt ≤ 120000 → natAbs (u *ℤ dt) ≤ 100000000 * 1000
 moved-size u dt h l = NatL.le-trans (mul-le u dt 10000 120000 h l) (lit≤ tt)
 
 -- ---- Bursa-Wolf

@@ -3,6 +3,7 @@ pub mod Faults
 pub mod Rows
 pub mod Parts
 pub mod Axes
+pub mod Ready
 pub mod Convert
 pub mod RoundTrip
 pub mod Cases

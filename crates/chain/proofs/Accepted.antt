@@ -51,7 +51,7 @@ pub record Accepted (c : Chain) (p : Point) (wanted : Realization) : Type 0 wher
   pub here : sameRealization (p .realization) wanted ≡ true
   pub area : inArea (p .position) ≡ true
 
-no-ninth : (b : Bool) (n x : ℕ) → pick b (suc n) x ≡ 0 → (b ≡ false) × (x ≡ 0)
+pub no-ninth : (b : Bool) (n x : ℕ) → pick b (suc n) x ≡ 0 → (b ≡ false) × (x ≡ 0)
 no-ninth true n x e = absurd (never e)
   where
     never : suc n ≡ 0 → ⊥

@@ -7,3 +7,4 @@ pub mod Accepted
 pub mod Prepared
 pub mod RoundTrip
 pub mod Cases
+pub mod Keeping

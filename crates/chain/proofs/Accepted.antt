@@ -44,13 +44,6 @@ unfolding stepFault
 sound-steps [] e = tt
 sound-steps (s ∷ ss) e = let f = both-pass (stepTests s) (laterTests s ss) (refl, (refl, (refl, tt))) e in (f .0, sound-later s ss (f .1))
 
--- ---- all of a conversion's
-pub record Accepted (c : Chain) (p : Point) (wanted : Realization) : Type 0 where
-  pub short : c .length ≤ 8
-  pub sound : Sound (stepsOf c)
-  pub here : sameRealization (p .realization) wanted ≡ true
-  pub area : inArea (p .position) ≡ true
-
 no-ninth : (b : Bool) (n x : ℕ) → pick b (suc n) x ≡ 0 → (b ≡ false) × (x ≡ 0)
 no-ninth true n x e = absurd (never e)
   where
@@ -58,13 +51,25 @@ no-ninth true n x e = absurd (never e)
     never e = omega arith
 no-ninth false n x e = (refl, e)
 
+pub chain-holds : (c : Chain) → first (chainTests c) ≡ 0 → (c .length ≤ 8) × Sound (stepsOf c)
+chain-holds c e =
+    let n = no-ninth (ltb 8 (c .length)) 5 (first (stepsTests (stepsOf c))) e in
+    (ltb-false 8 (c .length) (n .0), sound-steps (stepsOf c) (n .1))
+
+-- ---- all of a conversion's
+pub record Accepted (c : Chain) (p : Point) (wanted : Realization) : Type 0 where
+  pub short : c .length ≤ 8
+  pub sound : Sound (stepsOf c)
+  pub here : sameRealization (p .realization) wanted ≡ true
+  pub area : inArea (p .position) ≡ true
+
 pub accepted : (c : Chain) (p : Point) (wanted : Realization) → first (conversionTests c p wanted) ≡ 0 → Accepted c p wanted
 accepted c p wanted e =
     let f = both-pass (chainTests c) (pointTests p ++ placeTests p wanted) (refl, named-steps (stepsOf c)) e in
-    let n = no-ninth (ltb 8 (c .length)) 5 (first (stepsTests (stepsOf c))) (f .0) in
+    let n = chain-holds c (f .0) in
     let g = both-pass (pointTests p) (placeTests p wanted) (refl, (refl, tt)) (f .1) in
     let h = head-holds (sameRealization (p .realization) wanted) 8 _ (g .1) in
-    record { short = ltb-false 8 (c .length) (n .0); sound = sound-steps (stepsOf c) (n .1); here = h .0; area = head-holds (inArea (p .position)) 9 0 (h .1) .0 }
+    record { short = n .0; sound = n .1; here = h .0; area = head-holds (inArea (p .position)) 9 0 (h .1) .0 }
 
 -- ---- a converted point
 pub record Conversion (c : Chain) (p : Point) (wanted reached : Realization) (w : Walk) (q : Point) : Type 0 where

@@ -44,6 +44,18 @@ unfolding stepFault
 sound-steps [] e = tt
 sound-steps (s ∷ ss) e = let f = both-pass (stepTests s) (laterTests s ss) (refl, (refl, (refl, tt))) e in (f .0, sound-later s ss (f .1))
 
+no-ninth : (b : Bool) (n x : ℕ) → pick b (suc n) x ≡ 0 → (b ≡ false) × (x ≡ 0)
+no-ninth true n x e = absurd (never e)
+  where
+    never : suc n ≡ 0 → ⊥
+    never e = omega arith
+no-ninth false n x e = (refl, e)
+
+pub chain-holds : (c : Chain) → first (chainTests c) ≡ 0 → (c .length ≤ 8) × Sound (stepsOf c)
+chain-holds c e =
+    let n = no-ninth (ltb 8 (c .length)) 5 (first (stepsTests (stepsOf c))) e in
+    (ltb-false 8 (c .length) (n .0), sound-steps (stepsOf c) (n .1))
+
 -- ---- all of a conversion's
 pub record Accepted (c : Chain) (p : Point) (wanted : Realization) : Type 0 where
   pub short : c .length ≤ 8
@@ -51,20 +63,13 @@ pub record Accepted (c : Chain) (p : Point) (wanted : Realization) : Type 0 wher
   pub here : sameRealization (p .realization) wanted ≡ true
   pub area : inArea (p .position) ≡ true
 
-pub no-ninth : (b : Bool) (n x : ℕ) → pick b (suc n) x ≡ 0 → (b ≡ false) × (x ≡ 0)
-no-ninth true n x e = absurd (never e)
-  where
-    never : suc n ≡ 0 → ⊥
-    never e = omega arith
-no-ninth false n x e = (refl, e)
-
 pub accepted : (c : Chain) (p : Point) (wanted : Realization) → first (conversionTests c p wanted) ≡ 0 → Accepted c p wanted
 accepted c p wanted e =
     let f = both-pass (chainTests c) (pointTests p ++ placeTests p wanted) (refl, named-steps (stepsOf c)) e in
-    let n = no-ninth (ltb 8 (c .length)) 5 (first (stepsTests (stepsOf c))) (f .0) in
+    let n = chain-holds c (f .0) in
     let g = both-pass (pointTests p) (placeTests p wanted) (refl, (refl, tt)) (f .1) in
     let h = head-holds (sameRealization (p .realization) wanted) 8 _ (g .1) in
-    record { short = ltb-false 8 (c .length) (n .0); sound = sound-steps (stepsOf c) (n .1); here = h .0; area = head-holds (inArea (p .position)) 9 0 (h .1) .0 }
+    record { short = n .0; sound = n .1; here = h .0; area = head-holds (inArea (p .position)) 9 0 (h .1) .0 }
 
 -- ---- a converted point
 pub record Conversion (c : Chain) (p : Point) (wanted reached : Realization) (w : Walk) (q : Point) : Type 0 where

@@ -1,13 +1,21 @@
 // Datum steps on Cartesian positions, forward and inverse, and chains of up to eight of them.
 
 mod apply;
+mod checks;
+mod convert;
 mod faults;
 mod kinds;
+mod prepared;
 mod ranges;
 mod ready;
 
+pub use crate::convert::forward;
+pub use crate::convert::inverse;
 pub use crate::faults::point_fault;
 pub use crate::faults::step_fault;
+pub use crate::prepared::forward_ready;
+pub use crate::prepared::make_ready;
+pub use crate::ranges::same_realization;
 
 // Geocentric coordinates in whole units of 0.00001 m.
 pub struct Position {

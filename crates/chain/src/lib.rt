@@ -4,8 +4,8 @@ mod apply;
 mod checks;
 mod convert;
 mod faults;
+mod kept;
 mod kinds;
-mod prepared;
 mod ranges;
 mod ready;
 
@@ -13,8 +13,8 @@ pub use crate::convert::forward;
 pub use crate::convert::inverse;
 pub use crate::faults::point_fault;
 pub use crate::faults::step_fault;
-pub use crate::prepared::forward_ready;
-pub use crate::prepared::make_ready;
+pub use crate::kept::forward_ready;
+pub use crate::kept::make_ready;
 pub use crate::ranges::same_realization;
 
 // Geocentric coordinates in whole units of 0.00001 m.

@@ -1,0 +1,14 @@
+use borrow.Author.Needs.{needs}
+use Rattle.chain.proofs.kept.end_with.Statement.{statement}
+use Rattle.chain.proofs.kept.end_with.Tie as tie
+use Rattle.chain.proofs.kept.end_with.Reads as reads
+use Rattle.chain.proofs.kept.end_with.Lts as lts
+
+returns : tie.Need-returns
+returns c = ?
+
+returns-2 : tie.Need-returns-2
+returns-2 c = ?
+
+pub end-with-spec : {M : Type 1} → statement M
+end-with-spec = tie.close (tie.spec returns returns-2)

@@ -2,7 +2,7 @@
 use mathlib.Core.Path.{_≡_, refl, sym, _∙_, ap, ap₂, subst}
 use mathlib.Core.Bool.{Bool, true, false, not, _&&_, _||_}
 use mathlib.Core.List.{List, [], _∷_, _++_}
-use Prim.Native.Nat.{ℕ, zero, suc, _+_, _*_, _<_, _≤_}
+use Prim.Native.Nat.{ℕ, zero, suc, _+_, _*_, _-_, _<_, _≤_}
 use native.Mathlib.Nat.{add-zero}
 use native.Mathlib.Omega.{arith}
 use borrow.Author.Tests.{lt-ltb, le-ltb, eq-eqb, ne-eqb, ltb-false}
@@ -20,14 +20,15 @@ use Rattle.chain.specs.declared.Point.{Point}
 use Rattle.chain.specs.declared.Step.{Step}
 use Rattle.chain.specs.declared.ready.Ready.{Ready}
 use Rattle.chain.specs.declared.ready.Ready.the-variants.{Fixed, Turned, Scaled}
-use Rattle.chain.specs.declared.Answer.the-variants.{Refused}
-use Rattle.chain.specs.Ranges.{within, upTo, equal}
+use Rattle.chain.specs.declared.Answer.the-variants.{Converted, Refused}
+use Rattle.chain.specs.Ranges.{within, upTo, equal, shiftRange, scaleRange}
 use Rattle.chain.specs.Faults.{stepFault, pointFault, inArea, sameRealization, pointTests, stepTests, joinTest, laterTests, stepsTests, chainTests}
-use Rattle.chain.specs.Axes.{onX, onY, onZ}
+use Rattle.chain.specs.Axes.{Axis, onX, onY, onZ, coordinate}
 use Rattle.chain.specs.Parts.{plus, forwardBy}
-use Rattle.chain.specs.Convert.{Walk, at, outside, onward, walk, forwardStep, answerOf, startOf, endOf, placeTests, unlessRefused, convert, forwardOf}
+use Rattle.chain.specs.Convert.{Walk, at, outside, onward, walk, forwardStep, answerOf, startOf, endOf, placeTests, unlessRefused, movedTo, convert, forwardOf}
 use Rattle.chain.specs.Ready.{readyParts, ReadyOk, Prepares}
 use Rattle.chain.specs.Prepared.{numbersOf, readyOf, number, readyAt, readySteps, readyRange, Kept, Keeps, MadeReady, carried, readyTests, forwardReadyOf, chainOf, Readied, Held, Ends}
+use Rattle.chain.proofs.Within.{both, all, up-to}
 use Rattle.chain.proofs.Tests.{orElse, first-append, both-pass, head-holds}
 use Rattle.chain.proofs.Accepted.{named-steps, no-ninth}
 
@@ -45,7 +46,7 @@ inside (v ∷ vs) l i (suc j) d h g =
     rw e (inside vs (set l i v) (suc i) j d (omega arith) (omega arith))
 
 -- what eight numbers say, number by number
-eight : {a b c d e f g h a' b' c' d' e' f' g' h' : ℤ} → a ≡ a' → b ≡ b' → c ≡ c' → d ≡ d' → e ≡ e' → f ≡ f' → g ≡ g' → h ≡ h' → readyOf a b c d e f g h ≡ readyOf a' b' c' d' e' f' g' h'
+pub eight : {a b c d e f g h a' b' c' d' e' f' g' h' : ℤ} → a ≡ a' → b ≡ b' → c ≡ c' → d ≡ d' → e ≡ e' → f ≡ f' → g ≡ g' → h ≡ h' → readyOf a b c d e f g h ≡ readyOf a' b' c' d' e' f' g' h'
 eight p q r s t u v w = rw (p, q, r, s, t, u, v, w)
 
 same-ready : (l : List ℤ) (i : ℕ) (m : List ℤ) (j : ℕ) → ((k : ℕ) → k < 8 → number l i k ≡ number m j k) → readyAt l i ≡ readyAt m j
@@ -226,3 +227,62 @@ sound-more ss t e h f j =
     let n = no-ninth (ltb 8 (length ss)) 5 (first (stepsTests ss)) g in
     let a : ltb 8 (length (ss ++ (t ∷ []))) ≡ false = le-ltb 8 (length (ss ++ (t ∷ []))) (simp length-append (omega arith)) in
     rw (take-length (ss ++ (t ∷ [])), a) (steps-more ss t (n .1) f j)
+
+-- ---- a turn of the code's loop over the places
+steps-on : (l : List ℤ) (i n : ℕ) → i < n → readySteps l i (n - i) ≡ readyAt l i ∷ readySteps l (i + 1) (n - (i + 1))
+unfolding readySteps
+steps-on l i n h =
+    let e : n - i ≡ suc (n - (i + 1)) = omega arith in
+    let f : i + 1 ≡ suc i = omega arith in
+    rw (e, f)
+
+module _ (p : Point) (end : Realization) (l : List ℤ) (i n : ℕ) (h : i < n) (q : Position) where
+  pub turn-range : readyRange (readyAt l i) ≡ false → carried p end (readySteps l i (n - i)) q ≡ Refused refusal.range
+  unfolding carried
+  turn-range e = rw (steps-on l i n h, e)
+
+  pub turn-left : readyRange (readyAt l i) ≡ true → inArea (forwardBy (readyParts (readyAt l i)) q) ≡ false → carried p end (readySteps l i (n - i)) q ≡ Refused refusal.left
+  unfolding carried
+  turn-left e f = rw (steps-on l i n h, e, f)
+
+  pub turn-on : readyRange (readyAt l i) ≡ true → inArea (forwardBy (readyParts (readyAt l i)) q) ≡ true → carried p end (readySteps l i (n - i)) q ≡ carried p end (readySteps l (i + 1) (n - (i + 1))) (forwardBy (readyParts (readyAt l i)) q)
+  unfolding carried
+  turn-on e f = rw (steps-on l i n h, e, f)
+
+pub turn-end : (p : Point) (end : Realization) (l : List ℤ) (i n : ℕ) (q : Position) → n ≤ i → carried p end (readySteps l i (n - i)) q ≡ Converted (movedTo p end q)
+unfolding carried readySteps
+turn-end p end l i n q h = let e : n - i ≡ 0 = omega arith in rw e
+
+pub range-ok : (r : Ready) → readyRange r ≡ true → ReadyOk r
+unfolding readyRange
+range-ok (Fixed g) e =
+    let f = all (shiftRange (g .x)) (shiftRange (g .y)) (shiftRange (g .z)) e in
+    record { on = on (up-to 100000000 (g .x) (f .0)) (up-to 100000000 (g .y) (f .1)) (up-to 100000000 (g .z) (f .2)) }
+  where
+    on : natAbs (g .x) ≤ 100000000 → natAbs (g .y) ≤ 100000000 → natAbs (g .z) ≤ 100000000 → (i : Axis) → natAbs (coordinate i g) ≤ 100000000
+    on x y z onX = x
+    on x y z onY = y
+    on x y z onZ = z
+range-ok (Turned t) e =
+    let f = both (shiftRange (t .dx) && shiftRange (t .dy) && shiftRange (t .dz)) _ e in
+    let d = all (shiftRange (t .dx)) (shiftRange (t .dy)) (shiftRange (t .dz)) (f .0) in
+    let g = both (upTo 4848137 (t .rx) && upTo 4848137 (t .ry) && upTo 4848137 (t .rz)) (scaleRange (t .s)) (f .1) in
+    let r = all (upTo 4848137 (t .rx)) (upTo 4848137 (t .ry)) (upTo 4848137 (t .rz)) (g .0) in
+    record {
+      dx = up-to 100000000 (t .dx) (d .0);
+      dy = up-to 100000000 (t .dy) (d .1);
+      dz = up-to 100000000 (t .dz) (d .2);
+      rx = up-to 4848137 (t .rx) (r .0);
+      ry = up-to 4848137 (t .ry) (r .1);
+      rz = up-to 4848137 (t .rz) (r .2);
+      s = up-to 2000000 (t .s) (g .1);
+    }
+range-ok (Scaled t) e =
+    let f = both (upTo 1971000000000000000 (t .kx) && upTo 1971000000000000000 (t .ky) && upTo 1971000000000000000 (t .kz)) (upTo 1202000 (t .slope)) e in
+    let d = all (upTo 1971000000000000000 (t .kx)) (upTo 1971000000000000000 (t .ky)) (upTo 1971000000000000000 (t .kz)) (f .0) in
+    record {
+      kx = up-to 1971000000000000000 (t .kx) (d .0);
+      ky = up-to 1971000000000000000 (t .ky) (d .1);
+      kz = up-to 1971000000000000000 (t .kz) (d .2);
+      slope = up-to 1202000 (t .slope) (f .1);
+    }

@@ -76,7 +76,8 @@ fn turn_in_range(t: Turn) -> bool
     ensures { λ r. ⌜ r ≡ readyRange (Ready.Turned t) ⌝ }
 {
     ranges::three_within(-100000000, 100000000, t.dx, t.dy, t.dz)
-        & (ranges::three_within(-4848137, 4848137, t.rx, t.ry, t.rz) & ranges::within(-2000000, t.s, 2000000))
+        & (ranges::three_within(-4848137, 4848137, t.rx, t.ry, t.rz)
+            & ranges::within(-2000000, t.s, 2000000))
 }
 
 fn scale_in_range(t: Scale) -> bool
@@ -131,7 +132,13 @@ fn end_with(length: usize, here: Realization, end: Realization) -> Realization
 // What is left of a forward conversion once a chain is kept ready in `numbers` and the point has no fault of its own (`point_fault`): 9, 10, 11, or the
 // converted point. `start` and `end` are the chain's, and are not looked at for the empty chain. Numbers that no step gives are refused with 2, a length over
 // 8 with 6.
-pub fn forward_ready(numbers: &[i64; 64], length: usize, start: Realization, end: Realization, point: Point) -> Answer
+pub fn forward_ready(
+    numbers: &[i64; 64],
+    length: usize,
+    start: Realization,
+    end: Realization,
+    point: Point,
+) -> Answer
     ensures { λ r. ⌜ r ≡ forwardReadyOf (now (numbers .entry)) length start end point ⌝ }
 {
     if 8 < length {
@@ -149,7 +156,18 @@ pub fn forward_ready(numbers: &[i64; 64], length: usize, start: Realization, end
 }
 
 // Eight numbers into a place.
-fn put(numbers: &mut [i64; 64], index: usize, form: i64, a: i64, b: i64, c: i64, d: i64, e: i64, f: i64, g: i64)
+fn put(
+    numbers: &mut [i64; 64],
+    index: usize,
+    form: i64,
+    a: i64,
+    b: i64,
+    c: i64,
+    d: i64,
+    e: i64,
+    f: i64,
+    g: i64,
+)
     requires { ⌜ index < 8 ⌝ }
     ensures { λ _. ⌜ now (numbers .exit) ≡ sets (now (numbers .entry)) (8 * index) (form ∷ a ∷ b ∷ c ∷ d ∷ e ∷ f ∷ g ∷ []) ⌝ }
 {

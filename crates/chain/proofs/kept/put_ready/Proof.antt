@@ -1,3 +1,5 @@
+use mathlib.Core.Path.{_≡_, _∙_}
+use Rattle.rounding.specs.Machine.{told}
 use borrow.Author.Needs.{needs}
 use Rattle.chain.proofs.kept.put_ready.Statement.{statement}
 use Rattle.chain.proofs.kept.put_ready.Tie as tie
@@ -24,13 +26,13 @@ put-requires-3 : tie.Need-put-requires-3
 put-requires-3 c κs = search needs
 
 returns : tie.Need-returns
-returns c = ?
+returns c = let t = c .before .before .before .struct-told .given in rw (c .before .before .before .before .before .before .r .given .1, c .put .ensures, told (t .0 .1), told (t .1 .0 .1), told (t .1 .1 .0 .1))
 
 returns-2 : tie.Need-returns-2
-returns-2 c = ?
+returns-2 c = let t = c .before .before .before .before .before .before .before .struct-told4 .given in rw (c .before .before .before .before .before .before .before .before .before .before .r2 .given .1, c .put2 .ensures, told (t .0 .1), told (t .1 .0 .1), told (t .1 .1 .0 .1), told (t .1 .1 .1 .0 .1), told (t .1 .1 .1 .1 .0 .1), told (t .1 .1 .1 .1 .1 .0 .1), told (t .1 .1 .1 .1 .1 .1 .0 .1))
 
 returns-3 : tie.Need-returns-3
-returns-3 c = ?
+returns-3 c = let t = c .before .before .before .before .struct-told11 .given in rw (c .before .before .before .before .before .before .before .r3 .given .1, c .put3 .ensures, told (t .0 .1), told (t .1 .0 .1), told (t .1 .1 .0 .1), told (t .1 .1 .1 .0 .1))
 
 pub put-ready-spec : {M : Type 1} → statement M
 put-ready-spec =

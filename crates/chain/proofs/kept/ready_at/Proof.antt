@@ -1,3 +1,12 @@
+use Prim.Native.Nat.{ℕ, _+_, _*_}
+use mathlib.Core.Path.{_≡_, ap}
+use native.Mathlib.Omega.{arith}
+use lib.IntN.{pos}
+use lib.ListN.{getD}
+use mathlib.Core.Path.{_∙_}
+use Rattle.rounding.specs.Machine.{told}
+use Rattle.chain.proofs.Keeping.{eight}
+use Rattle.chain.specs.Prepared.{readyAt}
 use borrow.Author.Needs.{needs}
 use Rattle.chain.proofs.kept.ready_at.Statement.{statement}
 use Rattle.chain.proofs.kept.ready_at.Tie as tie
@@ -81,7 +90,8 @@ ready-of-requires : tie.Need-ready-of-requires
 ready-of-requires c κs = search needs
 
 returns : tie.Need-returns
-returns c = ?
+unfolding readyAt
+returns c = let e : 8 * c .before .before .before .before .before .before .before .before .before .args .index ≡ 8 * c .before .before .before .before .before .before .before .before .before .args .index + 0 = omega arith in c .ready-of .ensures ∙ eight (told (c .before .before .before .before .before .before .before .before .ready-of-arg .given) ∙ ap (λ (n : ℕ). getD (c .before .before .before .before .before .before .before .before .before .args .numbers .now) n (pos 0)) e) (told (c .before .before .before .before .before .before .before .ready-of-arg2 .given)) (told (c .before .before .before .before .before .before .ready-of-arg3 .given)) (told (c .before .before .before .before .before .ready-of-arg4 .given)) (told (c .before .before .before .before .ready-of-arg5 .given)) (told (c .before .before .before .ready-of-arg6 .given)) (told (c .before .before .ready-of-arg7 .given)) (told (c .before .ready-of-arg8 .given))
 
 pub ready-at-spec : {M : Type 1} → statement M
 ready-at-spec =

@@ -1,3 +1,5 @@
+use mathlib.Core.Path.{_≡_, sym, _∙_, ap}
+use Rattle.chain.specs.Prepared.{readyRange}
 use borrow.Author.Needs.{needs}
 use Rattle.chain.proofs.kept.ready_in_range.Statement.{statement}
 use Rattle.chain.proofs.kept.ready_in_range.Tie as tie
@@ -26,13 +28,13 @@ scale-in-range-requires : tie.Need-scale-in-range-requires
 scale-in-range-requires c κs = search needs
 
 returns : tie.Need-returns
-returns c = ?
+returns c = c .fixed-in-range .ensures ∙ ap readyRange (sym (c .before .before .r .given .1))
 
 returns-2 : tie.Need-returns-2
-returns-2 c = ?
+returns-2 c = c .turn-in-range .ensures ∙ ap readyRange (sym (c .before .before .r2 .given .1))
 
 returns-3 : tie.Need-returns-3
-returns-3 c = ?
+returns-3 c = c .scale-in-range .ensures ∙ ap readyRange (sym (c .before .before .r3 .given .1))
 
 pub ready-in-range-spec : {M : Type 1} → statement M
 ready-in-range-spec =

@@ -18,8 +18,8 @@ use Rattle.chain.specs.declared.Position.{Position}
 use Rattle.chain.specs.declared.Realization.{Realization}
 use Rattle.chain.specs.declared.Point.{Point}
 use Rattle.chain.specs.declared.Step.{Step}
-use Rattle.chain.specs.declared.ready.Ready.{Ready}
-use Rattle.chain.specs.declared.ready.Ready.the-variants.{Fixed, Turned, Scaled}
+use Rattle.chain.specs.declared.steps.Ready.{Ready}
+use Rattle.chain.specs.declared.steps.Ready.the-variants.{Fixed, Turned, Scaled}
 use Rattle.chain.specs.declared.Answer.the-variants.{Converted, Refused}
 use Rattle.chain.specs.Ranges.{within, upTo, equal, shiftRange, scaleRange}
 use Rattle.chain.specs.Faults.{stepFault, pointFault, inArea, sameRealization, pointTests, stepTests, joinTest, laterTests, stepsTests, chainTests}

@@ -1,5 +1,19 @@
 // Datum steps on Cartesian positions, forward and inverse, and chains of up to eight of them.
 
+mod checks;
+mod faults;
+mod kinds;
+mod ranges;
+mod steps;
+
+pub use crate::faults::point_fault;
+pub use crate::faults::step_fault;
+pub use crate::ranges::same_realization;
+pub use crate::steps::convert::forward;
+pub use crate::steps::convert::inverse;
+pub use crate::steps::kept::forward_ready;
+pub use crate::steps::kept::make_ready;
+
 // Geocentric coordinates in whole units of 0.00001 m.
 pub struct Position {
     pub x: i64,

@@ -1,0 +1,78 @@
+-- Converting a point by a chain, forward (document 01: along) and inverse (back): every refusal in the order of the table, and the exact result.
+use mathlib.Core.Bool.{not}
+use mathlib.Core.List.{List, [], _∷_, _++_, reverse}
+use Prim.Native.Nat.{ℕ, zero, suc}
+use Rattle.refusal.specs.Numbers as refusal
+use Rattle.refusal.specs.Order.{Test, _gives_, first, pick}
+use Rattle.chain.specs.declared.Position.{Position}
+use Rattle.chain.specs.declared.Realization.{Realization}
+use Rattle.chain.specs.declared.Point.{Point}
+use Rattle.chain.specs.declared.Step.{Step}
+use Rattle.chain.specs.declared.Chain.{Chain}
+use Rattle.chain.specs.declared.Answer.{Answer}
+use Rattle.chain.specs.declared.Answer.the-variants.{Converted, Refused}
+use Rattle.chain.specs.Faults.{inArea, sameRealization, pointTests, chainTests, stepsOf}
+use Rattle.chain.specs.Parts.{partsOf, forwardBy, inverseBy}
+
+-- ---- a step of a chain
+abbrev pub forwardStep : Step → Position → Position
+forwardStep s = forwardBy (partsOf s)
+
+abbrev pub inverseStep : Step → Position → Position
+inverseStep s = inverseBy (partsOf s)
+
+-- ---- a walk over steps: each step's result is tested for the area, and its candidates on the way are not
+pub data Walk : Type 0 where
+  at : Position → Walk
+  outside : Walk
+
+abbrev pub onward : Walk → (Position → Walk) → Walk
+onward (at p) f = f p
+onward outside f = outside
+
+abbrev pub kept : Position → Walk
+kept p = pick (inArea p) (at p) outside
+
+unfoldable pub walk : (Step → Position → Position) → List Step → Position → Walk
+walk f [] p = at p
+walk f (s ∷ ss) p = onward (kept (f s p)) (walk f ss)
+
+-- ---- where a chain starts and where it ends. The empty chain does both wherever the point is
+unfoldable pub startOf : Realization → List Step → Realization
+startOf r [] = r
+startOf r (s ∷ ss) = s .before
+
+unfoldable pub endOf : Realization → List Step → Realization
+endOf r [] = r
+endOf r (s ∷ ss) = endOf (s .after) ss
+
+-- ---- the answer
+-- the chain first, then the point: its numbers, whether it is where the chain wants it, and the area
+abbrev pub placeTests : Point → Realization → List Test
+placeTests p wanted = (not (sameRealization (p .realization) wanted) gives refusal.start) ∷ (not (inArea (p .position)) gives refusal.area) ∷ []
+
+abbrev pub conversionTests : Chain → Point → Realization → List Test
+conversionTests c p wanted = chainTests c ++ (pointTests p ++ placeTests p wanted)
+
+-- the point at another position: id and issue pass through
+abbrev pub movedTo : Point → Realization → Position → Point
+movedTo p r q = record { id = p .id; issue = p .issue; realization = r; position = q }
+
+unfoldable pub answerOf : Point → Realization → Walk → Answer
+answerOf p r (at q) = Converted (movedTo p r q)
+answerOf p r outside = Refused refusal.left
+
+unfoldable pub unlessRefused : ℕ → Answer → Answer
+unlessRefused zero a = a
+unlessRefused (suc n) a = Refused (suc n)
+
+unfoldable pub convert : Chain → Point → Realization → Realization → Walk → Answer
+convert c p wanted reached w = unlessRefused (first (conversionTests c p wanted)) (answerOf p reached w)
+
+-- forward: from the chain's start to its end, the first step first
+unfoldable pub forwardOf : Chain → Point → Answer
+forwardOf c p = convert c p (startOf (p .realization) (stepsOf c)) (endOf (p .realization) (stepsOf c)) (walk forwardStep (stepsOf c) (p .position))
+
+-- inverse: from the chain's end to its start, the last step first
+unfoldable pub inverseOf : Chain → Point → Answer
+inverseOf c p = convert c p (endOf (p .realization) (stepsOf c)) (startOf (p .realization) (stepsOf c)) (walk inverseStep (reverse (stepsOf c)) (p .position))

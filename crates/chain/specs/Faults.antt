@@ -1,0 +1,92 @@
+-- What a point, a step and a chain are refused for, each by itself and in the order of the refusal table.
+use mathlib.Core.Bool.{Bool, true, not, Bool·beq, _&&_, _||_}
+use mathlib.Core.List.{List, [], _∷_, _++_}
+use Prim.Native.Nat.{ℕ}
+use lib.IntN.{ℤ, pos}
+use lib.Dec.{ltb}
+use lib.ListN.{take}
+use Rattle.refusal.specs.Numbers as refusal
+use Rattle.refusal.specs.Order.{Test, _gives_, first}
+use Rattle.chain.specs.declared.Position.{Position}
+use Rattle.chain.specs.declared.Realization.{Realization}
+use Rattle.chain.specs.declared.Point.{Point}
+use Rattle.chain.specs.declared.Kind.{Kind}
+use Rattle.chain.specs.declared.Kind.the-variants.{Shift, Velocity, BursaWolf, Frame}
+use Rattle.chain.specs.declared.Step.{Step}
+use Rattle.chain.specs.declared.Chain.{Chain}
+use Rattle.chain.specs.Ranges.{within, equal, givenRange, areaX, areaY, areaZ, shiftRange, rotationRange, scaleRange, velocityRange, datumRange, issueRange, epochRange}
+
+-- ---- a datum at an epoch
+unfoldable pub realizationRange : Realization → Bool
+realizationRange r = datumRange (r .datum) && epochRange (r .epoch)
+
+-- the epoch is 0 for datums 1 and 2 (MRT68, BT68), and only for them
+unfoldable pub agrees : Realization → Bool
+agrees r = Bool·beq (equal (pos 0) (r .epoch)) (within (pos 1) (r .datum) (pos 2))
+
+unfoldable pub sameRealization : Realization → Realization → Bool
+sameRealization r t = equal (r .datum) (t .datum) && equal (r .epoch) (t .epoch)
+
+-- ---- a position
+unfoldable pub givenPosition : Position → Bool
+givenPosition p = givenRange (p .x) && givenRange (p .y) && givenRange (p .z)
+
+unfoldable pub inArea : Position → Bool
+inArea p = areaX (p .x) && areaY (p .y) && areaZ (p .z)
+
+-- ---- a point, by its numbers alone. The id is not examined
+unfoldable pub pointRange : Point → Bool
+pointRange p = issueRange (p .issue) && realizationRange (p .realization) && givenPosition (p .position)
+
+abbrev pub pointTests : Point → List Test
+pointTests p = (not (pointRange p) gives refusal.range) ∷ (not (agrees (p .realization)) gives refusal.epoch) ∷ []
+
+unfoldable pub pointFault : Point → ℕ
+pointFault p = first (pointTests p)
+
+-- ---- a step by itself
+unfoldable pub kindRange : Kind → Bool
+kindRange (Shift t) = shiftRange (t .dx) && shiftRange (t .dy) && shiftRange (t .dz)
+kindRange (Velocity t) = velocityRange (t .vx) && velocityRange (t .vy) && velocityRange (t .vz)
+kindRange (BursaWolf t) =
+    shiftRange (t .dx) && shiftRange (t .dy) && shiftRange (t .dz)
+    && (rotationRange (t .rx) && rotationRange (t .ry) && rotationRange (t .rz) && scaleRange (t .s))
+kindRange Frame = true
+
+unfoldable pub stepRange : Step → Bool
+stepRange s = kindRange (s .kind) && realizationRange (s .before) && realizationRange (s .after)
+
+-- V: the same datum on both sides, neither epoch 0. F: from datums 5 to 9 to datum 10, the same epoch
+unfoldable pub kindRule : Kind → Realization → Realization → Bool
+kindRule (Shift t) r a = true
+kindRule (Velocity t) r a = equal (r .datum) (a .datum) && not (equal (pos 0) (r .epoch)) && not (equal (pos 0) (a .epoch))
+kindRule (BursaWolf t) r a = true
+kindRule Frame r a = within (pos 5) (r .datum) (pos 9) && equal (pos 10) (a .datum) && equal (r .epoch) (a .epoch)
+
+abbrev pub stepTests : Step → List Test
+stepTests s =
+    (not (stepRange s) gives refusal.range)
+    ∷ (not (agrees (s .before) && agrees (s .after)) gives refusal.epoch)
+    ∷ (not (kindRule (s .kind) (s .before) (s .after)) gives refusal.kind)
+    ∷ []
+
+unfoldable pub stepFault : Step → ℕ
+stepFault s = first (stepTests s)
+
+-- ---- a chain: its length, then each step in turn, by itself and whether it begins where the one before it ended
+abbrev pub stepsOf : Chain → List Step
+stepsOf c = take (c .length) (c .steps)
+
+abbrev pub joinTest : Step → Step → Test
+joinTest s t = not (sameRealization (s .after) (t .before)) gives refusal.join
+
+abbrev pub laterTests : Step → List Step → List Test
+laterTests s [] = []
+laterTests s (t ∷ ts) = stepTests t ++ (joinTest s t ∷ laterTests t ts)
+
+abbrev pub stepsTests : List Step → List Test
+stepsTests [] = []
+stepsTests (s ∷ ss) = stepTests s ++ laterTests s ss
+
+abbrev pub chainTests : Chain → List Test
+chainTests c = (ltb 8 (c .length) gives refusal.ninth) ∷ stepsTests (stepsOf c)

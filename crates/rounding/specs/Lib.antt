@@ -1,0 +1,4 @@
+pub mod Zn
+pub mod Machine
+pub mod Quotient
+pub mod Floor

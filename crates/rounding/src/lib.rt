@@ -1,0 +1,2 @@
+// Whole numbers out of exact fractions.
+pub mod quotient;

@@ -1,2 +1,6 @@
 pub mod Walk
 pub mod Numbers
+pub mod Names
+pub mod Answers
+pub mod Capped
+pub mod Faults

@@ -59,16 +59,16 @@ from-byte s at h e =
 
 -- ---- a field's reading, by what stands at its place
 -- there is a field at a place up to the end
-record Field (s : List ℕ) (at : ℕ) : Type 0 where
-  first : List ℕ
-  rest : List (List ℕ)
-  is : from s at ≡ first ∷ rest
+pub record Field (s : List ℕ) (at : ℕ) : Type 0 where
+  pub first : List ℕ
+  pub rest : List (List ℕ)
+  pub is : from s at ≡ first ∷ rest
 
 front-field : (b : ℕ) (fs : List (List ℕ)) → (f : List ℕ) × ((r : List (List ℕ)) × (front b fs ≡ f ∷ r))
 front-field b [] = (b ∷ [], ([], refl))
 front-field b (f ∷ fs) = (b ∷ f, (fs, refl))
 
-field-at : (s : List ℕ) (at : ℕ) → at ≤ length s → Field s at
+pub field-at : (s : List ℕ) (at : ℕ) → at ≤ length s → Field s at
 field-at s at h = go (decLt at (length s)) (ℕ-discrete (getD s at 0) 9)
   where
     go : Dec (at < length s) → Dec (getD s at 0 ≡ 9) → Field s at
@@ -147,6 +147,11 @@ module _ {B C : Type 0} {s : List ℕ} {image : B → C} {read : List ℕ → Op
   -- what a bad field tells, of a field that is there no more
   pub lost : Got s image read at v next → length s + 1 < at → length s + 1 < next
   lost g h = rw (from-past s at (omega arith)) at (g .tells)
+
+-- a bad field makes the fields after it bad
+pub lost-on : {B C : Type 0} {s : List ℕ} {image : B → C} {read : List ℕ → Option B} {at : ℕ} {v : C} {next last : ℕ}
+    → Got s image read at v next → (length s + 1 < next → length s + 1 < last) → length s + 1 < at → length s + 1 < last
+lost-on g k h = k (lost g h)
 
 -- the field ends here
 pub ends-here : {s : List ℕ} {at : ℕ} → from s at ≡ [] ∷ from s (at + 1) → at ≤ length s → Got s itself empty at tt (at + 1)

@@ -1,5 +1,5 @@
 -- How the code walks along a line: a reader is handed the place where a field begins, and tells the place where the next one begins.
-use Prim.Native.Nat.{ℕ, zero, suc, _+_, _-_, _≤_, _<_, min}
+use Prim.Native.Nat.{ℕ, zero, suc, _+_, _-_, _^_, _≤_, _<_, min}
 use mathlib.Core.Path.{_≡_}
 use mathlib.Core.List.{List, [], _∷_}
 use mathlib.Core.Bool.{Bool, true, false}
@@ -9,6 +9,7 @@ use lib.IntN.{ℤ, pos, negsuc, negℤ}
 use lib.ListN.{length, getD, take, drop}
 use Rattle.refusal.specs.Order.{pick}
 use Rattle.chain.specs.declared.Realization.{Realization}
+use Rattle.chain.specs.declared.Position.{Position}
 use Rattle.chain.specs.declared.Point.{Point}
 use Rattle.chain.specs.declared.Kind.{Kind}
 use Rattle.chain.specs.declared.Kind.the-variants.{Shift, Velocity, BursaWolf, Frame}
@@ -86,19 +87,35 @@ pub record Tail {A C : Type 0} (s : List ℕ) (image : A → C) (form : Form A) 
   pub told : at ≤ length s + 1 → Told s image form at v next
   pub lost : length s + 1 < at → length s + 1 < next
 
--- bytes of a name from place `at` on: these, which have the word v, and none after them that could be one more of the eight
-pub record Packed (s : List ℕ) (at v next : ℕ) : Type 0 where
+-- the value of a byte with k - 1 bytes after it
+abbrev pub scaleOf : ℕ → ℕ
+scaleOf zero = 0
+scaleOf (suc k) = 256 ^ k
+
+-- bytes of a name from place `at` on: these, which have the word v, with room in it for `left` bytes more
+pub record Run (s : List ℕ) (at v left next : ℕ) : Type 0 where
   pub bytes : List ℕ
   pub there : from s at ≡ fronts bytes (from s next)
   pub place : next ≡ at + length bytes
-  pub eight : length bytes ≤ 8
+  pub inside : at < next → next ≤ length s
+  pub count : length bytes + left ≡ 8
   pub good : allNameBytes bytes ≡ true
+  pub begun : at < next → isNameByte (getD s at 0) ≡ true
   pub value : v ≡ word 8 bytes
-  pub last : length bytes < 8 → isNameByte (getD s next 0) ≡ false
+  pub room : v + 256 ^ left ≤ 256 ^ 8
+
+-- all of them: none after them could be one more of the eight
+pub record Packed (s : List ℕ) (at v next : ℕ) : Type 0 where
+  pub left : ℕ
+  pub run : Run s at v left next
+  pub last : 0 < left → isNameByte (getD s next 0) ≡ false
 
 -- ---- records with their numbers as they are carried
 abbrev pub cappedRealization : Realization → Realization
 cappedRealization r = record { datum = cappedZ (r .datum); epoch = cappedZ (r .epoch) }
+
+abbrev pub cappedPosition : Position → Position
+cappedPosition p = record { x = cappedZ (p .x); y = cappedZ (p .y); z = cappedZ (p .z) }
 
 abbrev pub cappedPoint : Point → Point
 cappedPoint p =
@@ -106,7 +123,7 @@ cappedPoint p =
       id = p .id;
       issue = cappedZ (p .issue);
       realization = cappedRealization (p .realization);
-      position = record { x = cappedZ (p .position .x); y = cappedZ (p .position .y); z = cappedZ (p .position .z) };
+      position = cappedPosition (p .position);
     }
 
 abbrev pub cappedKind : Kind → Kind

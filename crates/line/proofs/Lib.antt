@@ -4,3 +4,4 @@ pub mod Names
 pub mod Answers
 pub mod Capped
 pub mod Faults
+pub mod Texts

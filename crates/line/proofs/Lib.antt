@@ -5,3 +5,4 @@ pub mod Answers
 pub mod Capped
 pub mod Faults
 pub mod Texts
+pub mod Compared

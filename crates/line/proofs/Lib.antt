@@ -6,3 +6,5 @@ pub mod Capped
 pub mod Faults
 pub mod Texts
 pub mod Compared
+pub mod Lengths
+pub mod Back

@@ -1,0 +1,61 @@
+// Angles to metres in f64: geodetic to Cartesian, and the Cassini-Soldner grid. Latitudes and longitudes are whole units of 0.00001",
+// heights whole units of 0.00001 m, false eastings and northings whole millimetres. Every call answers for every input.
+mod faults;
+
+pub use faults::angles_fault;
+pub use faults::origin_fault;
+
+// An ellipsoid: the semi-major axis in metres, and the first eccentricity squared.
+pub struct Ellipsoid {
+    pub a: f64,
+    pub e2: f64,
+}
+
+// A state origin as it is written: the ellipsoid's code (1 to 4), its latitude and longitude, its false easting and northing.
+pub struct OriginNumbers {
+    pub ellipsoid: i64,
+    pub latitude: i64,
+    pub longitude: i64,
+    pub false_easting: i64,
+    pub false_northing: i64,
+}
+
+// A state origin made ready for many points: the longitude stays whole; m0 is the meridian's length to its latitude, and the false
+// easting and northing are in metres.
+pub struct Origin {
+    pub ellipsoid: Ellipsoid,
+    pub longitude: i64,
+    pub m0: f64,
+    pub false_easting: f64,
+    pub false_northing: f64,
+}
+
+// An origin, or the refusal number.
+pub enum OriginAnswer {
+    Made(Origin),
+    Refused(u8),
+}
+
+// X, Y and Z in metres, or the refusal number.
+pub enum Cartesian {
+    Metres(f64, f64, f64),
+    Refused(u8),
+}
+
+// X, Y and Z in whole units of 0.00001 m, or the refusal number.
+pub enum CartesianUnits {
+    Units(i64, i64, i64),
+    Refused(u8),
+}
+
+// Easting and northing in metres, or the refusal number.
+pub enum Grid {
+    Metres(f64, f64),
+    Refused(u8),
+}
+
+// Easting and northing in whole millimetres, or the refusal number.
+pub enum GridMillimetres {
+    Millimetres(i64, i64),
+    Refused(u8),
+}

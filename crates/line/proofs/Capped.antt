@@ -1,0 +1,165 @@
+-- Numbers are carried up to a cap that no range reaches: no range tells a number from the number as it is carried, and a number in its range is carried as
+-- it is. So a fault of a carried record is the fault of the record, and where there is none the two are one.
+use Prim.Native.Nat.{ℕ, zero, suc, _+_, _≤_, _<_, min}
+use mathlib.Core.Path.{_≡_, refl, sym, ap, _∙_}
+use mathlib.Core.Bool.{Bool, true, false, not, _&&_, _||_}
+use mathlib.Core.List.{List, [], _∷_}
+use lib.Dec.{ltb, leb}
+use lib.IntN.{ℤ, pos, negsuc, negℤ, natAbs}
+use lib.Signed.{leZ, ltZ}
+use native.Mathlib.Decide.{decLt}
+use native.Mathlib.Omega.{arith}
+use borrow.Author.Tests.{lt-ltb, le-ltb, le-leb, lt-leb, leb-true}
+use Rattle.refusal.specs.Order.{pick, Test, first}
+use Rattle.chain.specs.Ranges.{within, upTo, equal, datumRange, epochRange}
+use Rattle.angle.specs.Ranges.{outside}
+use Rattle.line.specs.Reading.{cap, capped, cappedZ}
+use Rattle.line.proofs.Answers.{Careful}
+
+-- ---- bools
+pub never : _≡_ {A = Bool} false true → ⊥
+never q = let w : _≡_ {A = ℕ} 0 1 = cc in omega arith
+
+pub both : {a b c d : Bool} → a ≡ c → b ≡ d → (a && b) ≡ (c && d)
+both e f = rw (e, f)
+
+pub halves : (a b : Bool) → (a && b) ≡ true → (a ≡ true) × (b ≡ true)
+halves true b e = (refl, e)
+halves false b e = absurd (never e)
+
+-- ---- a test that cannot tell a value from the value as it is carried, and passes only where the two are one
+pub record Sure {A : Type 0} (carried : A → A) (test : A → Bool) : Type 0 where
+  pub same : (a : A) → test (carried a) ≡ test a
+  pub kept : (a : A) → test a ≡ true → carried a ≡ a
+
+-- ---- a number
+kept-pos : (n : ℕ) → n < cap → cappedZ (pos n) ≡ pos n
+kept-pos n h = ap pos (omega arith)
+
+kept-neg : (n : ℕ) → suc n < cap → cappedZ (negsuc n) ≡ negsuc n
+kept-neg n h = let e : min (suc n) cap ≡ suc n = omega arith in rw e
+
+far-pos : (n : ℕ) → cap ≤ n → cappedZ (pos n) ≡ pos cap
+far-pos n h = ap pos (omega arith)
+
+far-neg : (n : ℕ) → cap ≤ suc n → cappedZ (negsuc n) ≡ negℤ (pos cap)
+far-neg n h = let e : min (suc n) cap ≡ cap = omega arith in rw e
+
+-- a bound that stands inside the cap
+Inside : ℤ → Type 0
+Inside k = natAbs k < cap
+
+above-same : (k z : ℤ) → natAbs k < cap → leZ k (cappedZ z) ≡ leZ k z
+above-same k (pos n) h = go (decLt n cap)
+  where
+    far : (j : ℤ) → natAbs j < cap → cap ≤ n → leZ j (pos cap) ≡ leZ j (pos n)
+    far (pos m) i l = le-leb m cap (omega arith) ∙ sym (le-leb m n (omega arith))
+    far (negsuc m) i l = refl
+
+    go : Dec (n < cap) → leZ k (cappedZ (pos n)) ≡ leZ k (pos n)
+    go (yes l) = ap (leZ k) (kept-pos n l)
+    go (no l) = ap (leZ k) (far-pos n (omega arith)) ∙ far k h (omega arith)
+above-same k (negsuc n) h = go (decLt (suc n) cap)
+  where
+    far : (j : ℤ) → natAbs j < cap → cap ≤ suc n → leZ j (negℤ (pos cap)) ≡ leZ j (negsuc n)
+    far (pos m) i l = refl
+    far (negsuc m) i l = lt-leb 9999999999999 m (omega arith) ∙ sym (lt-leb n m (omega arith))
+
+    go : Dec (suc n < cap) → leZ k (cappedZ (negsuc n)) ≡ leZ k (negsuc n)
+    go (yes l) = ap (leZ k) (kept-neg n l)
+    go (no l) = ap (leZ k) (far-neg n (omega arith)) ∙ far k h (omega arith)
+
+below-same : (z k : ℤ) → natAbs k < cap → leZ (cappedZ z) k ≡ leZ z k
+below-same (pos n) k h = go (decLt n cap)
+  where
+    far : (j : ℤ) → natAbs j < cap → cap ≤ n → leZ (pos cap) j ≡ leZ (pos n) j
+    far (pos m) i l = lt-leb cap m (omega arith) ∙ sym (lt-leb n m (omega arith))
+    far (negsuc m) i l = refl
+
+    go : Dec (n < cap) → leZ (cappedZ (pos n)) k ≡ leZ (pos n) k
+    go (yes l) = ap (λ (x : ℤ). leZ x k) (kept-pos n l)
+    go (no l) = ap (λ (x : ℤ). leZ x k) (far-pos n (omega arith)) ∙ far k h (omega arith)
+below-same (negsuc n) k h = go (decLt (suc n) cap)
+  where
+    far : (j : ℤ) → natAbs j < cap → cap ≤ suc n → leZ (negℤ (pos cap)) j ≡ leZ (negsuc n) j
+    far (pos m) i l = refl
+    far (negsuc m) i l = le-leb m 9999999999999 (omega arith) ∙ sym (le-leb m n (omega arith))
+
+    go : Dec (suc n < cap) → leZ (cappedZ (negsuc n)) k ≡ leZ (negsuc n) k
+    go (yes l) = ap (λ (x : ℤ). leZ x k) (kept-neg n l)
+    go (no l) = ap (λ (x : ℤ). leZ x k) (far-neg n (omega arith)) ∙ far k h (omega arith)
+
+kept-within : (lo z hi : ℤ) → natAbs lo < cap → natAbs hi < cap → leZ lo z ≡ true → leZ z hi ≡ true → cappedZ z ≡ z
+kept-within lo (pos n) (pos m) l h e f = kept-pos n (omega (arith, leb-true n m f))
+kept-within lo (pos n) (negsuc m) l h e f = absurd (never f)
+kept-within (pos m) (negsuc n) hi l h e f = absurd (never e)
+kept-within (negsuc m) (negsuc n) hi l h e f = kept-neg n (omega (arith, leb-true n m e))
+
+pub sure-within : (lo hi : ℤ) → natAbs lo < cap → natAbs hi < cap → Sure cappedZ (λ z. within lo z hi)
+unfolding within
+sure-within lo hi l h =
+    record {
+      same = λ z. both (above-same lo z l) (below-same z hi h);
+      kept = λ z e. let s = halves (leZ lo z) (leZ z hi) e in kept-within lo z hi l h (s .0) (s .1);
+    }
+
+pub sure-either : {A : Type 0} {carried : A → A} {s t : A → Bool} → Sure carried s → Sure carried t → Sure carried (λ a. s a || t a)
+sure-either {A} {carried} {s} {t} p q =
+    record { same = λ a. rw (p .same a, q .same a); kept = λ a e. go a (s a) refl e }
+  where
+    go : (a : A) (b : Bool) → s a ≡ b → (b || t a) ≡ true → carried a ≡ a
+    go a true e f = p .kept a e
+    go a false e f = q .kept a f
+
+-- ---- angle's ranges say when a number is outside
+lt-le : (a b : ℤ) → ltZ a b ≡ not (leZ b a)
+lt-le (pos a) (pos b) = go (decLt a b)
+  where
+    go : Dec (a < b) → ltb a b ≡ not (leb b a)
+    go (yes l) = rw (lt-ltb a b l, lt-leb b a l)
+    go (no l) = rw (le-ltb a b (omega arith), le-leb b a (omega arith))
+lt-le (pos a) (negsuc b) = refl
+lt-le (negsuc a) (pos b) = refl
+lt-le (negsuc a) (negsuc b) = go (decLt b a)
+  where
+    go : Dec (b < a) → ltb b a ≡ not (leb a b)
+    go (yes l) = rw (lt-ltb b a l, lt-leb a b l)
+    go (no l) = rw (le-ltb b a (omega arith), le-leb a b (omega arith))
+
+outside-is : (lo hi z : ℤ) → outside lo hi z ≡ not (within lo z hi)
+unfolding outside within
+outside-is lo hi z = rw (lt-le z lo, lt-le hi z) (go (leZ lo z) (leZ z hi))
+  where
+    go : (a b : Bool) → (not a || not b) ≡ not (a && b)
+    go true b = refl
+    go false b = refl
+
+module _ (lo hi : ℤ) (l : natAbs lo < cap) (h : natAbs hi < cap) where
+  pub outside-same : (z : ℤ) → outside lo hi (cappedZ z) ≡ outside lo hi z
+  outside-same z = outside-is lo hi (cappedZ z) ∙ ap not (sure-within lo hi l h .same z) ∙ sym (outside-is lo hi z)
+
+  pub outside-kept : (z : ℤ) → outside lo hi z ≡ false → cappedZ z ≡ z
+  outside-kept z e = sure-within lo hi l h .kept z (go (within lo z hi) (sym (outside-is lo hi z) ∙ e))
+    where
+      go : (b : Bool) → not b ≡ false → b ≡ true
+      go true q = refl
+      go false q = absurd (never (sym q))
+
+-- ---- faults
+-- no fault: the first test passes, and so do the rest
+pub passed : (t : Bool) (n m : ℕ) → (n ≡ 0 → ⊥) → pick t n m ≡ 0 → (t ≡ false) × (m ≡ 0)
+passed true n m z e = absurd (z e)
+passed false n m z e = (refl, e)
+
+-- the first test of a fault is sure: so is the fault
+pub careful-first : {A : Type 0} {carried : A → A} {test : A → Bool} (rest : A → ℕ) (n : ℕ) → (n ≡ 0 → ⊥) → Sure carried test
+    → Careful (λ a. pick (not (test a)) n (rest a)) carried
+careful-first {A} {carried} {test} rest n z p = record { same = λ a. same a (test a) refl; kept = λ a e. kept a (test a) refl e }
+  where
+    same : (a : A) (b : Bool) → test a ≡ b → pick (not (test (carried a))) n (rest (carried a)) ≡ pick (not (test a)) n (rest a)
+    same a true e = ap (λ (x : A). pick (not (test x)) n (rest x)) (p .kept a e)
+    same a false e = rw (p .same a, e)
+
+    kept : (a : A) (b : Bool) → test a ≡ b → pick (not b) n (rest a) ≡ 0 → carried a ≡ a
+    kept a true e q = p .kept a e
+    kept a false e q = absurd (z q)

@@ -1,0 +1,193 @@
+-- The faults of points, steps, origins and positions cannot tell a record from the record as it is carried.
+use Prim.Native.Nat.{ℕ, zero, suc, _<_}
+use mathlib.Core.Path.{_≡_, refl, sym, ap, _∙_}
+use mathlib.Core.Bool.{Bool, true, false, not, _&&_}
+use mathlib.Core.List.{List, [], _∷_}
+use lib.IntN.{ℤ, pos, negsuc, negℤ, natAbs}
+use native.Mathlib.Omega.{arith}
+use Rattle.refusal.specs.Order.{pick, first, _gives_}
+use Rattle.refusal.specs.Numbers as refusal
+use Rattle.chain.specs.declared.Position.{Position}
+use Rattle.chain.specs.declared.Kind.{Kind}
+use Rattle.chain.specs.declared.Kind.the-variants.{Shift, Velocity, BursaWolf, Frame}
+use Rattle.chain.specs.Ranges.{within, upTo, datumRange, epochRange, issueRange, givenRange, shiftRange, velocityRange, rotationRange, scaleRange}
+use Rattle.chain.specs.Faults.{realizationRange, agrees, givenPosition, pointRange, pointTests, pointFault, kindRange, kindRule, stepRange, stepTests, stepFault}
+use Rattle.angle.specs.Ranges.{outside, badCode, badOffset, badLatitude, badLongitude, angleTests, originTests, anglesFault, originFault}
+use Rattle.line.specs.Lines.{geodeticFault}
+use Rattle.line.specs.Reading.{cap, cappedZ, cappedRealization, cappedPosition, cappedPoint, cappedKind, cappedStep, cappedOrigin, cappedGeodetic}
+use Rattle.line.proofs.Answers.{Careful}
+use Rattle.line.proofs.Capped.{Sure, sure-within, sure-either, both, halves, passed, outside-same, outside-kept, careful-first}
+
+-- ---- numbers
+natAbs-neg : (n : ℕ) → natAbs (negℤ (pos n)) ≡ n
+natAbs-neg zero = refl
+natAbs-neg (suc n) = refl
+
+sure-up : (m : ℕ) → m < cap → Sure cappedZ (upTo m)
+sure-up m h = sure-within (negℤ (pos m)) (pos m) (omega (arith, natAbs-neg m)) h
+
+sure-datum : Sure cappedZ datumRange
+sure-datum = sure-within (pos 1) (pos 10) (omega arith) (omega arith)
+
+sure-epoch : Sure cappedZ epochRange
+sure-epoch = sure-either (sure-within (pos 0) (pos 0) (omega arith) (omega arith)) (sure-within (pos 1980000) (pos 2100000) (omega arith) (omega arith))
+
+sure-issue : Sure cappedZ issueRange
+sure-issue = sure-within (pos 1) (pos 65535) (omega arith) (omega arith)
+
+sure-given : Sure cappedZ givenRange
+sure-given = sure-up 640000000000 (omega arith)
+
+sure-shift : Sure cappedZ shiftRange
+sure-shift = sure-up 100000000 (omega arith)
+
+sure-velocity : Sure cappedZ velocityRange
+sure-velocity = sure-up 10000 (omega arith)
+
+sure-rotation : Sure cappedZ rotationRange
+sure-rotation = sure-up 1000000 (omega arith)
+
+sure-scale : Sure cappedZ scaleRange
+sure-scale = sure-up 2000000 (omega arith)
+
+-- three numbers of one range
+module _ {test : ℤ → Bool} (p : Sure cappedZ test) where
+  three-same : (x y z : ℤ) → (test (cappedZ x) && test (cappedZ y) && test (cappedZ z)) ≡ (test x && test y && test z)
+  three-same x y z = both (both (p .same x) (p .same y)) (p .same z)
+
+  three-kept : (x y z : ℤ) → (test x && test y && test z) ≡ true → (cappedZ x ≡ x) × (cappedZ y ≡ y) × (cappedZ z ≡ z)
+  three-kept x y z e =
+      let s = halves (test x && test y) (test z) e in
+      let t = halves (test x) (test y) (s .0) in
+      (p .kept x (t .0), p .kept y (t .1), p .kept z (s .1))
+
+-- ---- points
+sure-realization : Sure cappedRealization realizationRange
+unfolding realizationRange
+sure-realization =
+    record {
+      same = λ r. both (sure-datum .same (r .datum)) (sure-epoch .same (r .epoch));
+      kept = λ r e. let s = halves (datumRange (r .datum)) (epochRange (r .epoch)) e in rw (sure-datum .kept (r .datum) (s .0), sure-epoch .kept (r .epoch) (s .1));
+    }
+
+sure-position : Sure cappedPosition givenPosition
+unfolding givenPosition
+sure-position =
+    record {
+      same = λ p. three-same sure-given (p .x) (p .y) (p .z);
+      kept = λ p e. let s = three-kept sure-given (p .x) (p .y) (p .z) e in rw (s .0, s .1, s .2);
+    }
+
+sure-point : Sure cappedPoint pointRange
+unfolding pointRange
+sure-point =
+    record {
+      same = λ p. both (both (sure-issue .same (p .issue)) (sure-realization .same (p .realization))) (sure-position .same (p .position));
+      kept =
+          λ p e.
+          let s = halves (issueRange (p .issue) && realizationRange (p .realization)) (givenPosition (p .position)) e in
+          let t = halves (issueRange (p .issue)) (realizationRange (p .realization)) (s .0) in
+          rw (sure-issue .kept (p .issue) (t .0), sure-realization .kept (p .realization) (t .1), sure-position .kept (p .position) (s .1));
+    }
+
+pub careful-point : Careful pointFault cappedPoint
+unfolding pointFault
+careful-point = careful-first (λ p. first ((not (agrees (p .realization)) gives refusal.epoch) ∷ [])) 2 (λ e. omega arith) sure-point
+
+-- ---- steps
+sure-kind : Sure cappedKind kindRange
+unfolding kindRange
+sure-kind = record { same = same; kept = kept }
+  where
+    same : (k : Kind) → kindRange (cappedKind k) ≡ kindRange k
+    same (Shift t) = three-same sure-shift (t .dx) (t .dy) (t .dz)
+    same (Velocity t) = three-same sure-velocity (t .vx) (t .vy) (t .vz)
+    same (BursaWolf t) =
+        both (three-same sure-shift (t .dx) (t .dy) (t .dz)) (both (three-same sure-rotation (t .rx) (t .ry) (t .rz)) (sure-scale .same (t .s)))
+    same Frame = refl
+
+    kept : (k : Kind) → kindRange k ≡ true → cappedKind k ≡ k
+    kept (Shift t) e = let s = three-kept sure-shift (t .dx) (t .dy) (t .dz) e in rw (s .0, s .1, s .2)
+    kept (Velocity t) e = let s = three-kept sure-velocity (t .vx) (t .vy) (t .vz) e in rw (s .0, s .1, s .2)
+    kept (BursaWolf t) e =
+        let h = halves (shiftRange (t .dx) && shiftRange (t .dy) && shiftRange (t .dz)) (rotationRange (t .rx) && rotationRange (t .ry) && rotationRange (t .rz) && scaleRange (t .s)) e in
+        let d = three-kept sure-shift (t .dx) (t .dy) (t .dz) (h .0) in
+        let k = halves (rotationRange (t .rx) && rotationRange (t .ry) && rotationRange (t .rz)) (scaleRange (t .s)) (h .1) in
+        let r = three-kept sure-rotation (t .rx) (t .ry) (t .rz) (k .0) in
+        rw (d .0, d .1, d .2, r .0, r .1, r .2, sure-scale .kept (t .s) (k .1))
+    kept Frame e = refl
+
+sure-step : Sure cappedStep stepRange
+unfolding stepRange
+sure-step =
+    record {
+      same = λ s. both (both (sure-kind .same (s .kind)) (sure-realization .same (s .before))) (sure-realization .same (s .after));
+      kept =
+          λ s e.
+          let h = halves (kindRange (s .kind) && realizationRange (s .before)) (realizationRange (s .after)) e in
+          let k = halves (kindRange (s .kind)) (realizationRange (s .before)) (h .0) in
+          rw (sure-kind .kept (s .kind) (k .0), sure-realization .kept (s .before) (k .1), sure-realization .kept (s .after) (h .1));
+    }
+
+pub careful-step : Careful stepFault cappedStep
+unfolding stepFault
+careful-step =
+    careful-first
+    (λ s. first ((not (agrees (s .before) && agrees (s .after)) gives refusal.epoch) ∷ (not (kindRule (s .kind) (s .before) (s .after)) gives refusal.kind) ∷ []))
+    2 (λ e. omega arith) sure-step
+
+-- ---- origins and positions
+same-latitude : (z : ℤ) → badLatitude (cappedZ z) ≡ badLatitude z
+same-latitude = outside-same (pos 0) (pos 2880000000) (omega arith) (omega arith)
+
+kept-latitude : (z : ℤ) → badLatitude z ≡ false → cappedZ z ≡ z
+kept-latitude = outside-kept (pos 0) (pos 2880000000) (omega arith) (omega arith)
+
+same-longitude : (z : ℤ) → badLongitude (cappedZ z) ≡ badLongitude z
+same-longitude = outside-same (pos 35640000000) (pos 43200000000) (omega arith) (omega arith)
+
+kept-longitude : (z : ℤ) → badLongitude z ≡ false → cappedZ z ≡ z
+kept-longitude = outside-kept (pos 35640000000) (pos 43200000000) (omega arith) (omega arith)
+
+same-angles : (lat lon : ℤ) → first (angleTests (cappedZ lat) (cappedZ lon)) ≡ first (angleTests lat lon)
+same-angles lat lon = rw (same-latitude lat, same-longitude lon)
+
+kept-angles : (lat lon : ℤ) → first (angleTests lat lon) ≡ 0 → (cappedZ lat ≡ lat) × (cappedZ lon ≡ lon)
+kept-angles lat lon e =
+    let s = passed (badLatitude lat) refusal.geodetic (pick (badLongitude lon) refusal.geodetic 0) (λ q. omega arith) e in
+    let t = passed (badLongitude lon) refusal.geodetic 0 (λ q. omega arith) (s .1) in
+    (kept-latitude lat (s .0), kept-longitude lon (t .0))
+
+pub careful-geodetic : Careful geodeticFault cappedGeodetic
+unfolding anglesFault
+careful-geodetic =
+    record {
+      same = λ g. same-angles (g .latitude) (g .longitude);
+      kept = λ g e. let k = kept-angles (g .latitude) (g .longitude) e in rw (k .0, k .1);
+    }
+
+same-code : (z : ℤ) → badCode (cappedZ z) ≡ badCode z
+same-code = outside-same (pos 1) (pos 4) (omega arith) (omega arith)
+
+same-offset : (z : ℤ) → badOffset (cappedZ z) ≡ badOffset z
+same-offset = outside-same (negsuc 1999999999) (pos 2000000000) (omega arith) (omega arith)
+
+kept-offset : (z : ℤ) → badOffset z ≡ false → cappedZ z ≡ z
+kept-offset = outside-kept (negsuc 1999999999) (pos 2000000000) (omega arith) (omega arith)
+
+pub careful-origin : Careful originFault cappedOrigin
+unfolding originFault
+careful-origin =
+    record {
+      same =
+          λ o.
+          rw (same-code (o .ellipsoid), same-offset (o .«false_easting»), same-offset (o .«false_northing»), same-latitude (o .latitude), same-longitude (o .longitude));
+      kept =
+          λ o e.
+          let angles = first (angleTests (o .latitude) (o .longitude)) in
+          let a = passed (badCode (o .ellipsoid)) refusal.range (pick (badOffset (o .«false_easting»)) refusal.range (pick (badOffset (o .«false_northing»)) refusal.range angles)) (λ q. omega arith) e in
+          let b = passed (badOffset (o .«false_easting»)) refusal.range (pick (badOffset (o .«false_northing»)) refusal.range angles) (λ q. omega arith) (a .1) in
+          let c = passed (badOffset (o .«false_northing»)) refusal.range angles (λ q. omega arith) (b .1) in
+          let k = kept-angles (o .latitude) (o .longitude) (c .1) in
+          rw (outside-kept (pos 1) (pos 4) (omega arith) (omega arith) (o .ellipsoid) (a .0), k .0, k .1, kept-offset (o .«false_easting») (b .0), kept-offset (o .«false_northing») (c .0));
+    }

@@ -1,0 +1,52 @@
+use mathlib.Core.Path.{_≡_, refl, sym, ap, _∙_}
+use native.Mathlib.Omega.{arith}
+use mir.Syntax.{w64}
+use mir.Val.{toZ, ofZ}
+use Rattle.line.proofs.Walk as W
+use Rattle.line.specs.Forms.{geodeticForm}
+use borrow.Author.Needs.{needs}
+use Rattle.line.proofs.geodetic_line.geodetic_fields.Statement.{statement}
+use Rattle.line.proofs.geodetic_line.geodetic_fields.Tie as tie
+use Rattle.line.proofs.geodetic_line.geodetic_fields.Reads as reads
+use Rattle.line.proofs.geodetic_line.geodetic_fields.Lts as lts
+use Rattle.line.proofs.field.letter.Reads as letter-reads
+use Rattle.line.proofs.name.name.Reads as name-reads
+use Rattle.line.proofs.number.number.Reads as number-reads
+
+-- src/geodetic_line.rt:23:9
+letter-requires : tie.Need-letter-requires
+letter-requires c κs = search needs
+
+-- src/geodetic_line.rt:24:9
+name-requires : tie.Need-name-requires
+name-requires c κs = search needs
+
+-- src/geodetic_line.rt:26:9
+number-requires : tie.Need-number-requires
+number-requires c κs = search needs
+
+-- src/geodetic_line.rt:27:9
+number-requires-2 : tie.Need-number-requires-2
+number-requires-2 c κs = search needs
+
+-- src/geodetic_line.rt:20:1
+returns : tie.Need-returns
+unfolding geodeticForm
+returns c =
+    let n1 = c .before .before .before .before .before .name in
+    let n2 = c .before .before .before .number in
+    let n3 = c .before .before .number2 in
+    let e2 : toZ w64 (ofZ w64 (n2 .result .value)) ≡ n2 .result .value = search needs in
+    let e3 : toZ w64 (ofZ w64 (n3 .result .value)) ≡ n3 .result .value = search needs in
+    let l2 = W.lost (n3 .ensures) in
+    let l1 = W.lost-on (n2 .ensures) l2 in
+    let l0 = W.lost-on (n1 .ensures) l1 in
+    W.more (c .before .before .before .before .before .before .letter .ensures) l0 λ _ _ _.
+    W.more (n1 .ensures) l1 λ z1 q1 _.
+    W.more (n2 .ensures) l2 λ z2 q2 _.
+    W.more (n3 .ensures) (λ h. h) λ z3 q3 b.
+    W.done (rw (q1, e2 ∙ q2, e3 ∙ q3)) b
+
+pub geodetic-fields-spec : {M : Type 1} → statement M
+geodetic-fields-spec =
+    tie.close (tie.spec letter-requires name-requires number-requires number-requires-2 returns)

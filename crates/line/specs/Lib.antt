@@ -1,0 +1,9 @@
+pub mod Bytes
+pub mod Number
+pub mod Fields
+pub mod Name
+pub mod Forms
+pub mod Lines
+pub mod Text
+pub mod Later
+pub mod Reading

@@ -1,0 +1,160 @@
+-- How the code walks along a line: a reader is handed the place where a field begins, and tells the place where the next one begins.
+use Prim.Native.Nat.{ℕ, zero, suc, _+_, _-_, _^_, _≤_, _<_, min}
+use mathlib.Core.Path.{_≡_}
+use mathlib.Core.List.{List, [], _∷_}
+use mathlib.Core.Bool.{Bool, true, false}
+use mathlib.Core.Option.{Option, none, some}
+use lib.Dec.{leb}
+use lib.IntN.{ℤ, pos, negsuc, negℤ}
+use lib.ListN.{length, getD, take, drop}
+use Rattle.refusal.specs.Order.{pick}
+use Rattle.chain.specs.declared.Realization.{Realization}
+use Rattle.chain.specs.declared.Position.{Position}
+use Rattle.chain.specs.declared.Point.{Point}
+use Rattle.chain.specs.declared.Kind.{Kind}
+use Rattle.chain.specs.declared.Kind.the-variants.{Shift, Velocity, BursaWolf, Frame}
+use Rattle.chain.specs.declared.Step.{Step}
+use Rattle.angle.specs.declared.OriginNumbers.{OriginNumbers}
+use Rattle.line.specs.declared.Geodetic.{Geodetic}
+use Rattle.line.specs.Fields.{fields, front, head, Form, filled}
+use Rattle.line.specs.Name.{word, allNameBytes, isNameByte}
+use Rattle.line.specs.Number.{digits}
+
+-- the fields of s from place `at` on; none past the end
+unfoldable pub from : List ℕ → ℕ → List (List ℕ)
+from s at = pick (leb at (length s)) (fields (drop at s)) []
+
+-- bytes in front of the first of the fields
+unfoldable pub fronts : List ℕ → List (List ℕ) → List (List ℕ)
+fronts [] fs = fs
+fronts (b ∷ s) fs = front b (fronts s fs)
+
+-- (v, next) tells o, a field as it is to be read, with the fields after it: two or more past the end where there is nothing to tell
+abbrev pub Tells : {B C : Type 0} → List ℕ → (B → C) → Option (B × List (List ℕ)) → C → ℕ → Type 0
+Tells s image none v next = length s + 1 < next
+Tells s image (some p) v next = (v ≡ image (p .0)) × (next ≤ length s + 1) × (from s next ≡ p .1)
+
+-- a record, so that its arguments are inferred from a proof of it
+pub record Got {B C : Type 0} (s : List ℕ) (image : B → C) (read : List ℕ → Option B) (at : ℕ) (v : C) (next : ℕ) : Type 0 where
+  pub tells : Tells s image (head read (from s at)) v next
+
+-- (v, next) tells o, a whole line's record: one past the end where there is something to tell
+abbrev pub TellsLine : {A C : Type 0} → List ℕ → (A → C) → Option A → C → ℕ → Type 0
+TellsLine s image none v next = next ≡ length s + 1 → ⊥
+TellsLine s image (some a) v next = (v ≡ image a) × (next ≡ length s + 1)
+
+pub record Told {A C : Type 0} (s : List ℕ) (image : A → C) (form : Form A) (at : ℕ) (v : C) (next : ℕ) : Type 0 where
+  pub tells : TellsLine s image (filled form (from s at)) v next
+
+-- where a line's bytes before its line feed end: at the line's length where it has none
+abbrev pub Framed : List ℕ → ℕ → Option (List ℕ) → Type 0
+Framed line r none = length line ≤ r
+Framed line r (some s) = (r < length line) × (take r line ≡ s)
+
+-- nothing more in the field
+abbrev pub empty : List ℕ → Option (Unit {0})
+empty [] = some tt
+empty (b ∷ f) = none
+
+abbrev pub itself : {A : Type 0} → A → A
+itself a = a
+
+abbrev pub unit : {A : Type 0} → A → Unit {0}
+unit a = tt
+
+-- numbers are carried up to this size: no range reaches it, and what is larger is carried as it
+abbrev pub cap : ℕ
+cap = 10000000000000
+
+abbrev pub capped : ℕ → ℕ
+capped n = min n cap
+
+abbrev pub cappedZ : ℤ → ℤ
+cappedZ (pos n) = pos (capped n)
+cappedZ (negsuc n) = negℤ (pos (capped (suc n)))
+
+-- a number without a sign, and its size as it is carried
+pub record Sized (s : List ℕ) (read : List ℕ → Option ℕ) (at v next : ℕ) : Type 0 where
+  pub got : Got s capped read at v next
+  pub small : v ≤ cap
+
+-- digits after a number that is past the cap leave it there: `next` is all there is to tell
+abbrev pub Long : List ℕ → ℕ → ℕ → Type 0
+Long s at next = (a : ℕ) → cap ≤ a → Got s capped (digits a) at cap next
+
+-- the same of the fields from place `at` on, which may itself be the place after a bad field
+pub record Tail {A C : Type 0} (s : List ℕ) (image : A → C) (form : Form A) (at : ℕ) (v : C) (next : ℕ) : Type 0 where
+  pub told : at ≤ length s + 1 → Told s image form at v next
+  pub lost : length s + 1 < at → length s + 1 < next
+
+-- the value of a byte with k - 1 bytes after it
+abbrev pub scaleOf : ℕ → ℕ
+scaleOf zero = 0
+scaleOf (suc k) = 256 ^ k
+
+-- bytes of a name from place `at` on: these, which have the word v, with room in it for `left` bytes more
+pub record Run (s : List ℕ) (at v left next : ℕ) : Type 0 where
+  pub bytes : List ℕ
+  pub there : from s at ≡ fronts bytes (from s next)
+  pub place : next ≡ at + length bytes
+  pub inside : at < next → next ≤ length s
+  pub count : length bytes + left ≡ 8
+  pub good : allNameBytes bytes ≡ true
+  pub begun : at < next → isNameByte (getD s at 0) ≡ true
+  pub value : v ≡ word 8 bytes
+  pub room : v + 256 ^ left ≤ 256 ^ 8
+
+-- all of them: none after them could be one more of the eight
+pub record Packed (s : List ℕ) (at v next : ℕ) : Type 0 where
+  pub left : ℕ
+  pub run : Run s at v left next
+  pub last : 0 < left → isNameByte (getD s next 0) ≡ false
+
+-- ---- records with their numbers as they are carried
+abbrev pub cappedRealization : Realization → Realization
+cappedRealization r = record { datum = cappedZ (r .datum); epoch = cappedZ (r .epoch) }
+
+abbrev pub cappedPosition : Position → Position
+cappedPosition p = record { x = cappedZ (p .x); y = cappedZ (p .y); z = cappedZ (p .z) }
+
+abbrev pub cappedPoint : Point → Point
+cappedPoint p =
+    record {
+      id = p .id;
+      issue = cappedZ (p .issue);
+      realization = cappedRealization (p .realization);
+      position = cappedPosition (p .position);
+    }
+
+abbrev pub cappedKind : Kind → Kind
+cappedKind (Shift t) = Shift (record { dx = cappedZ (t .dx); dy = cappedZ (t .dy); dz = cappedZ (t .dz) })
+cappedKind (Velocity t) = Velocity (record { vx = cappedZ (t .vx); vy = cappedZ (t .vy); vz = cappedZ (t .vz) })
+cappedKind (BursaWolf t) =
+    BursaWolf
+    (record {
+      convention = t .convention;
+      dx = cappedZ (t .dx);
+      dy = cappedZ (t .dy);
+      dz = cappedZ (t .dz);
+      rx = cappedZ (t .rx);
+      ry = cappedZ (t .ry);
+      rz = cappedZ (t .rz);
+      s = cappedZ (t .s);
+    })
+cappedKind Frame = Frame
+
+abbrev pub cappedStep : Step → Step
+cappedStep s = record { kind = cappedKind (s .kind); before = cappedRealization (s .before); after = cappedRealization (s .after) }
+
+abbrev pub cappedOrigin : OriginNumbers → OriginNumbers
+cappedOrigin o =
+    record {
+      ellipsoid = cappedZ (o .ellipsoid);
+      latitude = cappedZ (o .latitude);
+      longitude = cappedZ (o .longitude);
+      «false_easting» = cappedZ (o .«false_easting»);
+      «false_northing» = cappedZ (o .«false_northing»);
+    }
+
+abbrev pub cappedGeodetic : Geodetic → Geodetic
+cappedGeodetic g = record { id = g .id; latitude = cappedZ (g .latitude); longitude = cappedZ (g .longitude) }

@@ -1,0 +1,96 @@
+// The later of two point lines: the one with the greater issue, by number and not by text; the first where they are byte-equal.
+use crate::Later;
+use crate::PointLine;
+use crate::Verdict;
+use crate::point_line::read_point;
+ghost use mathlib.Core.Path.{_≡_};
+ghost use Rattle.line.specs.Later.{sameBytes, weighed, compared, laterOf, refusalOf, Handed};
+
+fn same_bytes(a: &[u8], b: &[u8]) -> bool
+    ensures { λ r. ⌜ r ≡ sameBytes (now (a .entry)) (now (b .entry)) ⌝ }
+{
+    if a.len() != b.len() {
+        return false;
+    }
+    let mut i: usize = 0;
+    while i < a.len() {
+        if a[i] != b[i] {
+            return false;
+        }
+        i = i + 1;
+    }
+    true
+}
+
+fn weigh(p: chain::Point, q: chain::Point, equal: bool) -> Verdict
+    ensures { λ r. ⌜ r ≡ weighed p q equal ⌝ }
+{
+    if p.id.high != q.id.high {
+        return Verdict::Refused(refusal::IDS);
+    }
+    if p.id.low != q.id.low {
+        return Verdict::Refused(refusal::IDS);
+    }
+    if p.issue < q.issue {
+        return Verdict::Second;
+    }
+    if q.issue < p.issue {
+        return Verdict::First;
+    }
+    if equal {
+        Verdict::First
+    } else {
+        Verdict::Refused(refusal::SAME)
+    }
+}
+
+fn by_issue(a: PointLine, b: PointLine, equal: bool) -> Verdict
+    ensures { λ r. ⌜ r ≡ compared a b equal ⌝ }
+{
+    match a {
+        PointLine::Refused(f) => Verdict::Refused(f.number),
+        PointLine::Point(p) => match b {
+            PointLine::Refused(f) => Verdict::Refused(f.number),
+            PointLine::Point(q) => weigh(p, q, equal),
+        },
+    }
+}
+
+fn verdict_on(first: &[u8], second: &[u8]) -> Verdict
+    ensures { λ r. ⌜ r ≡ laterOf (now (first .entry)) (now (second .entry)) ⌝ }
+{
+    let a = read_point(first);
+    let b = read_point(second);
+    let equal = same_bytes(first, second);
+    by_issue(a, b, equal)
+}
+
+fn part_of<'a>(first: &'a [u8], second: &'a [u8]) -> &'a [u8]
+    ensures { λ r. ⌜ Handed (laterOf (now (first .entry)) (now (second .entry))) (first .entry) (second .entry) r ⌝ }
+{
+    match verdict_on(first, second) {
+        Verdict::First => first,
+        Verdict::Second => second,
+        Verdict::Refused(_) => &first[..0],
+    }
+}
+
+fn refusal_of<'a>(first: &'a [u8], second: &'a [u8]) -> u8
+    ensures { λ r. ⌜ r ≡ refusalOf (laterOf (now (first .entry)) (now (second .entry))) ⌝ }
+{
+    match verdict_on(first, second) {
+        Verdict::First => 0,
+        Verdict::Second => 0,
+        Verdict::Refused(n) => n,
+    }
+}
+
+// The later of two lent point lines, each with its line feed: that part of the caller's bytes. Refused: the first line's FORM, RANGE or
+// EPOCH, then the second's, then IDS, then SAME, with an empty part of the first.
+pub fn later_of_two<'a>(first: &'a [u8], second: &'a [u8]) -> Later<'a>
+    ensures { λ r. ⌜ (Handed (laterOf (now (first .entry)) (now (second .entry))) (first .entry) (second .entry) (r .part)) × (r .refusal ≡ refusalOf (laterOf (now (first .entry)) (now (second .entry)))) ⌝ }
+{
+    let part = part_of(first, second);
+    let refusal = refusal_of(first, second);
+    Later { part, refusal }
+}

@@ -1,0 +1,65 @@
+// G, id, latitude, longitude.
+use crate::Fault;
+use crate::Geodetic;
+use crate::GeodeticLine;
+use crate::field::body_end;
+use crate::field::letter;
+use crate::name::name;
+use crate::number::number;
+ghost use mathlib.Core.Path.{_≡_};
+ghost use Rattle.line.specs.Forms.{geodeticForm};
+ghost use Rattle.line.specs.Lines.{readGeodetic, judged, geodeticFault};
+ghost use Rattle.line.specs.Reading.{Told, cappedGeodetic};
+
+// A position as its fields say it, with numbers up to the cap, and where the field after them would begin.
+struct GeodeticFields {
+    geodetic: Geodetic,
+    next: usize,
+}
+
+fn geodetic_fields(s: &[u8]) -> GeodeticFields
+    ensures { λ r. ⌜ Told (now (s .entry)) cappedGeodetic geodeticForm 0 (r .geodetic) (r .next) ⌝ }
+{
+    let at = letter(s, 0, b'G');
+    let named = name(s, at);
+    let id = named.id;
+    let latitude = number(s, named.next);
+    let longitude = number(s, latitude.next);
+    GeodeticFields {
+        geodetic: Geodetic {
+            id,
+            latitude: latitude.value,
+            longitude: longitude.value,
+        },
+        next: longitude.next,
+    }
+}
+
+fn judge_geodetic(g: Geodetic) -> GeodeticLine
+    ensures { λ r. ⌜ r ≡ judged geodeticFault GeodeticLine.Geodetic GeodeticLine.Refused g ⌝ }
+{
+    let number = angle::angles_fault(g.latitude, g.longitude);
+    if number == 0 {
+        GeodeticLine::Geodetic(g)
+    } else {
+        GeodeticLine::Refused(Fault { number })
+    }
+}
+
+// A position line: its position, or FORM, GEODETIC.
+pub fn read_geodetic(line: &[u8]) -> GeodeticLine
+    ensures { λ r. ⌜ r ≡ readGeodetic (now (line .entry)) ⌝ }
+{
+    let end = body_end(line);
+    if end < line.len() {
+        let s = &line[..end];
+        let r = geodetic_fields(s);
+        if r.next == end + 1 {
+            let g = r.geodetic;
+            return judge_geodetic(g);
+        }
+    }
+    GeodeticLine::Refused(Fault {
+        number: refusal::FORM,
+    })
+}

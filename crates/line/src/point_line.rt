@@ -1,0 +1,78 @@
+// P, id, issue, datum, epoch, X, Y, Z.
+use crate::Fault;
+use crate::PointLine;
+use crate::field::body_end;
+use crate::field::letter;
+use crate::name::name;
+use crate::number::number;
+ghost use mathlib.Core.Path.{_≡_};
+ghost use Rattle.line.specs.Forms.{pointForm};
+ghost use Rattle.line.specs.Lines.{readPoint, judged};
+ghost use Rattle.line.specs.Reading.{Told, cappedPoint};
+ghost use Rattle.chain.specs.Faults.{pointFault};
+
+// A point as its fields say it, with numbers up to the cap, and where the field after them would begin.
+struct PointFields {
+    point: chain::Point,
+    next: usize,
+}
+
+// The fields of a point line.
+fn point_fields(s: &[u8]) -> PointFields
+    ensures { λ r. ⌜ Told (now (s .entry)) cappedPoint pointForm 0 (r .point) (r .next) ⌝ }
+{
+    let at = letter(s, 0, b'P');
+    let named = name(s, at);
+    let id = named.id;
+    let issue = number(s, named.next);
+    let datum = number(s, issue.next);
+    let epoch = number(s, datum.next);
+    let x = number(s, epoch.next);
+    let y = number(s, x.next);
+    let z = number(s, y.next);
+    PointFields {
+        point: chain::Point {
+            id,
+            issue: issue.value,
+            realization: chain::Realization {
+                datum: datum.value,
+                epoch: epoch.value,
+            },
+            position: chain::Position {
+                x: x.value,
+                y: y.value,
+                z: z.value,
+            },
+        },
+        next: z.next,
+    }
+}
+
+fn judge_point(p: chain::Point) -> PointLine
+    ensures { λ r. ⌜ r ≡ judged pointFault PointLine.Point PointLine.Refused p ⌝ }
+{
+    let number = chain::point_fault(p);
+    if number == 0 {
+        PointLine::Point(p)
+    } else {
+        PointLine::Refused(Fault { number })
+    }
+}
+
+// A point line: its point, or FORM, RANGE, EPOCH.
+pub fn read_point(line: &[u8]) -> PointLine
+    ensures { λ r. ⌜ r ≡ readPoint (now (line .entry)) ⌝ }
+{
+    let end = body_end(line);
+    if end < line.len() {
+        let s = &line[..end];
+        let r = point_fields(s);
+        if r.next == end + 1 {
+            let p = r.point;
+            return judge_point(p);
+        }
+    }
+    PointLine::Refused(Fault {
+        number: refusal::FORM,
+    })
+}

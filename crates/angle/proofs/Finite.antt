@@ -16,7 +16,7 @@ use lib.Ieee.Positive.{num, den}
 use Rattle.refusal.specs.Order.{first}
 use Rattle.rounding.specs.Decimals.{tooLarge, wholeOf, roundedOf}
 use Rattle.rounding.specs.declared.decimals.Rounded.the-variants.{Whole}
-use Rattle.rounding.proofs.decimals.Nearest.{few}
+use Rattle.rounding.proofs.Places.{few}
 use Rattle.bounds.specs.Among.{Ends, Among, is-finite, neg-among}
 use Rattle.bounds.specs.Formula.{var, lit, plus, minus, times, over, All, none, also, value, bounds, test, proved}
 use Rattle.bounds.specs.Zero.{wholes, Upto}
@@ -222,7 +222,7 @@ not-large b (fin s m e) y N D l h =
     lt-leb (10000000 * down e) (m * up e) (below (m * up e) b (down e) (down-pos e) l c)
   where
     below : (v b d : ℕ) → 0 < d → b < 10000000 → v * 1 ≤ b * d → v < 10000000 * d
-    below v b d D l c = let k : (b + 1) * d ≤ 10000000 * d = mul-le-mul-right d l in omega arith
+    below v b d D l c = let k : (b + 1) * d ≤ 10000000 * d = mul-le-mul-right d (omega arith) in omega arith
 
 -- each bound's computed facts
 record Bound (b : ℕ) : Type 0 where

@@ -1,1 +1,9 @@
+pub mod AtOrigin
+pub mod Finite
+pub mod Formulas
+pub mod Made
+pub mod Orders
+pub mod Sizes
 pub mod Tests
+pub mod Vectors
+pub mod Wholes

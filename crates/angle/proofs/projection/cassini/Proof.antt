@@ -1,0 +1,44 @@
+-- `angle::projection::cassini` meets its contract: the origin decides first, and then the point on it. Assumes nothing.
+use borrow.Author.Needs.{needs}
+use mathlib.Core.Path.{_≡_, sym, _∙_}
+use mir.Syntax.{w64}
+use mir.Val.{toZ, ofZ}
+use mir.ValLaws.{toZ-ofZ}
+use Rattle.angle.proofs.Made.{by-refusal, by-origin}
+use Rattle.angle.proofs.projection.cassini.Statement.{statement}
+use Rattle.angle.proofs.projection.cassini.Tie as tie
+
+make-origin-requires : tie.Need-make-origin-requires
+make-origin-requires c κs = search needs
+
+enum-known-n : tie.Need-enum-known-n
+enum-known-n c = search needs
+
+enum-known-made : tie.Need-enum-known-made
+enum-known-made c = search needs
+
+cassini-from-requires : tie.Need-cassini-from-requires
+cassini-from-requires c κs = search needs
+
+returns : tie.Need-returns
+returns c =
+    let a = c .before .before .before .before .args in
+    by-refusal (a .o) (a .latitude) (a .longitude) _ (sym (c .before .before .before .make-origin .ensures) ∙ c .before .n .given .1)
+
+returns-2 : tie.Need-returns-2
+returns-2 c =
+    let a = c .before .before .before .before .before in
+    let lat : toZ w64 (ofZ w64 (a .args .latitude)) ≡ a .args .latitude = toZ-ofZ w64 (a .args .latitude) (a .fits .latitude) in
+    let lon : toZ w64 (ofZ w64 (a .args .longitude)) ≡ a .args .longitude = toZ-ofZ w64 (a .args .longitude) (a .fits .longitude) in
+    cc (by-origin (a .args .o) (a .args .latitude) (a .args .longitude) _ (sym (c .before .before .before .before .make-origin .ensures) ∙ c .before .before .made .given .1))
+
+pub cassini-spec : {M : Type 1} → statement M
+cassini-spec =
+    tie.close
+    (tie.spec
+    make-origin-requires
+    enum-known-n
+    enum-known-made
+    cassini-from-requires
+    returns
+    returns-2)

@@ -6,7 +6,8 @@ use std::path::{Path, PathBuf};
 
 fn main() {
     println!("cargo:rerun-if-env-changed=SWIVELCRANE_LIB");
-    if env::var_os("CARGO_FEATURE_PRODUCT").is_none() {
+    let on = |feature: &str| env::var_os(format!("CARGO_FEATURE_{feature}")).is_some();
+    if !on("PRODUCT") || on("STANDIN") {
         return;
     }
     let here = env::var("CARGO_MANIFEST_DIR").expect("set by cargo");

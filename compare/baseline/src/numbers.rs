@@ -37,7 +37,7 @@ fn chain(rows: &[i64]) -> Result<Chain, u8> {
     if rows.len() > 8 * 13 {
         return Err(NINTH);
     }
-    let mut chain = Chain::default();
+    let mut chain = Chain::with_room();
     for row in rows.chunks_exact(13) {
         let step = step(row);
         let fault = check::step(&step);

@@ -11,12 +11,7 @@ pub fn plan(input: &[u8], out: &mut Vec<u8>) {
     program::run(input, out, |reader, place, out| line(&mut origin, reader, place, out));
 }
 
-fn line(
-    origin: &mut Option<Origin>,
-    reader: &mut Reader,
-    place: i64,
-    out: &mut Vec<u8>,
-) -> Result<(), u8> {
+fn line(origin: &mut Option<Origin>, reader: &mut Reader, place: i64, out: &mut Vec<u8>) -> Result<(), u8> {
     match reader.first() {
         Some(b'O') => {
             let numbers = reader.line(Reader::origin).ok_or(FORM)?;

@@ -59,24 +59,27 @@ impl<'a> Reader<'a> {
 
     #[inline]
     fn number(&mut self, end: u8) -> Option<i64> {
-        let rest = &self.bytes[self.at..];
-        let sign = usize::from(rest.first() == Some(&b'-'));
-        let mut at = sign;
+        let negative = *self.bytes.get(self.at)? == b'-';
+        let start = self.at + usize::from(negative);
+        let mut at = start;
         let mut value: u64 = 0;
-        while let Some(digit) = rest.get(at).map(|b| b.wrapping_sub(b'0')).filter(|&d| d < 10) {
+        let after = loop {
+            let byte = *self.bytes.get(at)?;
+            let digit = byte.wrapping_sub(b'0');
+            if digit > 9 {
+                break byte;
+            }
             value = value.wrapping_mul(10).wrapping_add(u64::from(digit));
             at += 1;
-        }
-        let digits = at - sign;
-        if digits == 0 || rest.get(at) != Some(&end) {
+        };
+        let digits = at - start;
+        let spare_zero = self.bytes[start] == b'0' && (digits > 1 || negative);
+        if digits == 0 || after != end || spare_zero {
             return None;
         }
-        if rest[sign] == b'0' && digits + sign > 1 {
-            return None;
-        }
-        self.at += at + 1;
+        self.at = at + 1;
         let size = if digits > 18 { i64::MAX } else { value as i64 };
-        Some(if sign == 1 { -size } else { size })
+        Some(if negative { -size } else { size })
     }
 
     /// N numbers of which the last ends in the given byte.
@@ -127,7 +130,11 @@ impl<'a> Reader<'a> {
         let kind = match letter {
             b'T' | b'V' => {
                 numbers[..3].copy_from_slice(&self.numbers::<3>(FEED)?);
-                if letter == b'T' { Kind::Shift } else { Kind::Velocity }
+                if letter == b'T' {
+                    Kind::Shift
+                } else {
+                    Kind::Velocity
+                }
             }
             b'B' => {
                 let sign = match self.letter(TAB)? {

@@ -67,16 +67,19 @@ impl Gain {
                 whole_and_quotient(dy, rz * x + s * y - rx * z, E11),
                 whole_and_quotient(dz, rx * y - ry * x + s * z, E11),
             ],
-            Gain::Frame { translation: [tx, ty, tz], scale } => [
-                quotient(tx + scale * x, E14),
-                quotient(ty + scale * y, E14),
-                quotient(tz + scale * z, E14),
-            ],
+            Gain::Frame { translation: [tx, ty, tz], scale } => {
+                [quotient(tx + scale * x, E14), quotient(ty + scale * y, E14), quotient(tz + scale * z, E14)]
+            }
         }
     }
 }
 
 impl Chain {
+    /// Empty, with room for the eight steps that a chain can have.
+    pub fn with_room() -> Chain {
+        Chain { steps: Vec::with_capacity(8) }
+    }
+
     pub fn len(&self) -> usize {
         self.steps.len()
     }

@@ -5,6 +5,7 @@ pub mod arguments;
 pub mod checks;
 pub mod compare;
 pub mod gen;
+pub mod measure;
 #[cfg(feature = "product")]
 pub mod product;
 pub mod programs;

@@ -2,21 +2,60 @@
 //! refusal nothing may be written, and never anything past the lent slice.
 
 use crate::subject::{Answer, Subject, STRANGE, WROTE};
+#[cfg(feature = "standin")]
+use standin as _;
 
 mod c {
     extern "C" {
-        pub fn swivelcrane_forward(c: *const i64, cl: usize, p: *const i64, pl: usize, o: *mut i64, ol: usize) -> i64;
-        pub fn swivelcrane_inverse(c: *const i64, cl: usize, p: *const i64, pl: usize, o: *mut i64, ol: usize) -> i64;
+        pub fn swivelcrane_forward(
+            c: *const i64,
+            cl: usize,
+            p: *const i64,
+            pl: usize,
+            o: *mut i64,
+            ol: usize,
+        ) -> i64;
+        pub fn swivelcrane_inverse(
+            c: *const i64,
+            cl: usize,
+            p: *const i64,
+            pl: usize,
+            o: *mut i64,
+            ol: usize,
+        ) -> i64;
         pub fn swivelcrane_cartesian(e: i64, a: i64, b: i64, h: i64, o: *mut f64, ol: usize) -> i64;
         pub fn swivelcrane_cartesian_units(e: i64, a: i64, b: i64, h: i64, o: *mut i64, ol: usize) -> i64;
         pub fn swivelcrane_cassini(
-            e: i64, oa: i64, ob: i64, fe: i64, fn_: i64, a: i64, b: i64, o: *mut f64, ol: usize,
+            e: i64,
+            oa: i64,
+            ob: i64,
+            fe: i64,
+            fn_: i64,
+            a: i64,
+            b: i64,
+            o: *mut f64,
+            ol: usize,
         ) -> i64;
         pub fn swivelcrane_cassini_millimetres(
-            e: i64, oa: i64, ob: i64, fe: i64, fn_: i64, a: i64, b: i64, o: *mut i64, ol: usize,
+            e: i64,
+            oa: i64,
+            ob: i64,
+            fe: i64,
+            fn_: i64,
+            a: i64,
+            b: i64,
+            o: *mut i64,
+            ol: usize,
         ) -> i64;
         pub fn swivelcrane_round(x: f64, places: u32, o: *mut i64, ol: usize) -> i64;
-        pub fn swivelcrane_later(a: *const u8, al: usize, b: *const u8, bl: usize, o: *mut i64, ol: usize) -> i64;
+        pub fn swivelcrane_later(
+            a: *const u8,
+            al: usize,
+            b: *const u8,
+            bl: usize,
+            o: *mut i64,
+            ol: usize,
+        ) -> i64;
         pub fn swivelcrane_sheet(i: *const u8, il: usize, o: *mut u8, ol: usize) -> i64;
         pub fn swivelcrane_plan(i: *const u8, il: usize, o: *mut u8, ol: usize) -> i64;
     }
@@ -26,7 +65,12 @@ pub fn forward(chain: &[i64], point: &[i64], out: &mut [i64]) -> i64 {
     // Safety, here and below: pointers and lengths of live slices.
     unsafe {
         c::swivelcrane_forward(
-            chain.as_ptr(), chain.len(), point.as_ptr(), point.len(), out.as_mut_ptr(), out.len(),
+            chain.as_ptr(),
+            chain.len(),
+            point.as_ptr(),
+            point.len(),
+            out.as_mut_ptr(),
+            out.len(),
         )
     }
 }
@@ -34,7 +78,12 @@ pub fn forward(chain: &[i64], point: &[i64], out: &mut [i64]) -> i64 {
 pub fn inverse(chain: &[i64], point: &[i64], out: &mut [i64]) -> i64 {
     unsafe {
         c::swivelcrane_inverse(
-            chain.as_ptr(), chain.len(), point.as_ptr(), point.len(), out.as_mut_ptr(), out.len(),
+            chain.as_ptr(),
+            chain.len(),
+            point.as_ptr(),
+            point.len(),
+            out.as_mut_ptr(),
+            out.len(),
         )
     }
 }
@@ -64,7 +113,12 @@ pub fn round(x: f64, places: u32, out: &mut [i64]) -> i64 {
 pub fn later(first: &[u8], second: &[u8], which: &mut [i64]) -> i64 {
     unsafe {
         c::swivelcrane_later(
-            first.as_ptr(), first.len(), second.as_ptr(), second.len(), which.as_mut_ptr(), which.len(),
+            first.as_ptr(),
+            first.len(),
+            second.as_ptr(),
+            second.len(),
+            which.as_mut_ptr(),
+            which.len(),
         )
     }
 }

@@ -27,8 +27,7 @@ impl Programs {
     /// Hands the input over in pieces of that many bytes. A program may stop reading at the limit, so a
     /// closed pipe is no error; a status other than 0 is.
     pub fn run(&self, program: &Path, input: &[u8], piece: usize) -> io::Result<Vec<u8>> {
-        let mut child =
-            Command::new(program).stdin(Stdio::piped()).stdout(Stdio::piped()).spawn()?;
+        let mut child = Command::new(program).stdin(Stdio::piped()).stdout(Stdio::piped()).spawn()?;
         let mut stdin = child.stdin.take().expect("piped");
         let mut stdout = child.stdout.take().expect("piped");
         let mut output = Vec::new();

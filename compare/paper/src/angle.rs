@@ -23,11 +23,7 @@ pub fn cartesian(code: i64, latitude: i64, longitude: i64, height: i64) -> Resul
     let sin_l = cos(w);
     let h = height as f64 / 100000.0;
     let nu = prime_vertical(e, sin(phi));
-    Ok([
-        ((nu + h) * cos(phi)) * cos_l,
-        ((nu + h) * cos(phi)) * sin_l,
-        ((1.0 - e.e2) * nu + h) * sin(phi),
-    ])
+    Ok([((nu + h) * cos(phi)) * cos_l, ((nu + h) * cos(phi)) * sin_l, ((1.0 - e.e2) * nu + h) * sin(phi)])
 }
 
 /// X, Y, Z in whole units of 0.00001 m. Order: 2, 12, then 14.
@@ -79,10 +75,8 @@ fn grid(o: &Origin, e: Ellipsoid, latitude: i64, longitude: i64) -> [f64; 2] {
     let a3 = a2 * a;
     let a4 = a2 * a2;
     let a5 = a4 * a;
-    let easting =
-        fe + nu * ((a - (tt * a3) / 6.0) - ((((8.0 - tt) + 8.0 * c) * tt) * a5) / 120.0);
-    let northing =
-        fn_ + ((m - m0) + (nu * t) * (a2 / 2.0 + (((5.0 - tt) + 6.0 * c) * a4) / 24.0));
+    let easting = fe + nu * ((a - (tt * a3) / 6.0) - ((((8.0 - tt) + 8.0 * c) * tt) * a5) / 120.0);
+    let northing = fn_ + ((m - m0) + (nu * t) * (a2 / 2.0 + (((5.0 - tt) + 6.0 * c) * a4) / 24.0));
     [easting, northing]
 }
 

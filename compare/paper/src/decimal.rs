@@ -17,8 +17,7 @@ fn nearest_size(x: f64, factor: u128) -> u128 {
     let bits = x.to_bits();
     let field = (bits >> 52) & 0x7ff;
     let below = u128::from(bits & ((1 << 52) - 1));
-    let (mantissa, halvings) =
-        if field == 0 { (below, 1074) } else { (below + (1 << 52), 1075 - field) };
+    let (mantissa, halvings) = if field == 0 { (below, 1074) } else { (below + (1 << 52), 1075 - field) };
     if halvings > 72 {
         return 0;
     }

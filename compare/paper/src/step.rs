@@ -21,7 +21,12 @@ pub enum Convention {
 pub enum Kind {
     Shift([i64; 3]),
     Velocity([i64; 3]),
-    BursaWolf { convention: Convention, shift: [i64; 3], rotation: [i64; 3], scale: i64 },
+    BursaWolf {
+        convention: Convention,
+        shift: [i64; 3],
+        rotation: [i64; 3],
+        scale: i64,
+    },
     Frame,
     /// A kind or convention number that means none: only the number calls can hand one in.
     Unknown,

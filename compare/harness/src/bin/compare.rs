@@ -22,13 +22,13 @@ struct Sizes {
 }
 
 const SHORT: Sizes = Sizes {
-    conversions: 500_000,
-    trips: 300_000,
+    conversions: 300_000,
+    trips: 200_000,
     roundings: 1_000_000,
     angles: 200_000,
     pairs: 100_000,
-    texts: 20_000,
-    processes: 300,
+    texts: 12_000,
+    processes: 200,
 };
 
 const LONG: Sizes = Sizes {

@@ -8,6 +8,15 @@ use std::io;
 use std::path::{Path, PathBuf};
 use std::process::{Command, ExitCode};
 
+/// The copy is compared with what this program was built with.
+const FEATURES: &[&str] = if cfg!(feature = "standin") {
+    &["--features", "harness/standin"]
+} else if cfg!(feature = "product") {
+    &["--features", "harness/product"]
+} else {
+    &[]
+};
+
 struct Edit {
     name: String,
     why: String,
@@ -54,7 +63,13 @@ fn read(path: &Path) -> io::Result<Edit> {
         line.map(str::to_string).ok_or_else(|| io::Error::other(format!("{}: no {name}", path.display())))
     };
     let name = path.file_stem().unwrap_or_default().to_string_lossy().into_owned();
-    Ok(Edit { name, why: field("why: ")?, file: field("file: ")?, old: field("old: ")?, new: field("new: ")? })
+    Ok(Edit {
+        name,
+        why: field("why: ")?,
+        file: field("file: ")?,
+        old: field("old: ")?,
+        new: field("new: ")?,
+    })
 }
 
 /// The old text must stand there exactly once, so that an edit that no longer fits shows.
@@ -93,7 +108,11 @@ fn found(copy: &Path) -> io::Result<Option<String>> {
     let mut build = Command::new("cargo");
     build.args(["build", "--quiet", "--offline", "--release"]);
     build.args(["--bin", "compare", "--bin", "baseline-sheet", "--bin", "baseline-plan"]);
+    build.args(FEATURES);
     build.current_dir(copy).env("CARGO_TARGET_DIR", &target);
+    if std::env::var_os("SWIVELCRANE_LIB").is_none() {
+        build.env("SWIVELCRANE_LIB", concat!(env!("CARGO_MANIFEST_DIR"), "/../../target/staticlib"));
+    }
     build.env("CARGO_PROFILE_RELEASE_OPT_LEVEL", "1").env("RUSTFLAGS", "-Awarnings");
     if !build.status()?.success() {
         return Err(io::Error::other("the edited program does not build"));

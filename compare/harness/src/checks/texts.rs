@@ -18,8 +18,7 @@ pub fn run(c: &mut Comparison, count: u64, processes: u64) -> Outcome {
 
 fn one(c: &mut Comparison, function: Function, through: bool) -> Outcome {
     let is_sheet = function == Function::Sheet;
-    let input =
-        if is_sheet { sheets::sheet(&mut c.rng, &c.chains) } else { plans::plan(&mut c.rng) };
+    let input = if is_sheet { sheets::sheet(&mut c.rng, &c.chains) } else { plans::plan(&mut c.rng) };
     let ask = |s: &dyn Subject| if is_sheet { s.sheet(&input) } else { s.plan(&input) };
     let expected = ask(&c.reference);
     c.tally.count_lines(function, &expected);

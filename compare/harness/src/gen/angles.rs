@@ -13,8 +13,7 @@ pub fn geodetic(rng: &mut Rng) -> [i64; 4] {
 
 /// Code, origin's latitude and longitude, FE, FN; then latitude and longitude; one in eight damaged.
 pub fn cassini(rng: &mut Rng) -> [i64; 7] {
-    let ranges =
-        [ELLIPSOID, LATITUDE, LONGITUDE, FALSE_ORIGIN, FALSE_ORIGIN, LATITUDE, LONGITUDE];
+    let ranges = [ELLIPSOID, LATITUDE, LONGITUDE, FALSE_ORIGIN, FALSE_ORIGIN, LATITUDE, LONGITUDE];
     let mut values = ranges.map(|(low, high)| within(rng, low, high));
     near(rng, &mut values);
     damage_some(rng, &mut values, &ranges);
@@ -28,8 +27,12 @@ pub fn origin(rng: &mut Rng) -> [i64; 5] {
 /// Draws the longitude to the origin's, mostly within the limit and often just at it.
 fn near(rng: &mut Rng, values: &mut [i64; 7]) {
     const LIMIT: i64 = 1_440_000_000;
-    if rng.once_in(8) {
+    if rng.once_in(4) {
+        // With nothing else added, the last bits of the northing's small terms stay in sight.
         values[5] = values[1];
+        if rng.once_in(2) {
+            [values[3], values[4]] = [0, 0];
+        }
     }
     let apart = match rng.below(8) {
         0 => LIMIT,

@@ -3,6 +3,7 @@
 pub mod angles;
 pub mod chains;
 pub mod floats;
+pub mod full;
 pub mod halves;
 pub mod lines;
 pub mod numbers;

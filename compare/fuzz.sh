@@ -3,7 +3,8 @@
 # independent program as oracle, so many seconds for each (60 if not said). Prints executions, paths,
 # crashes and mismatches, and ends with 1 where there was any. --standin tries it without the product.
 #
-# The product's archive is not instrumented; the oracle is, so its branches guide the fuzzer.
+# The product's archive is not instrumented; the oracle is, so its branches guide the fuzzer. It starts from
+# SEEDS sheets and plans of the generator (200 if not said; 0 leaves it the dictionary alone).
 set -euo pipefail
 here=$(cd "$(dirname "$0")" && pwd)
 root=$(cd "$here/.." && pwd)
@@ -30,7 +31,7 @@ RUSTFLAGS=$coverage CARGO_TARGET_DIR=$work/build \
 oracle=$work/build/$target/release/liboracle.a
 
 rm -rf "$work/corpus" "$work/found"
-"$root/target/compare/release/seeds" "$work/corpus" 200
+"$root/target/compare/release/seeds" "$work/corpus" "${SEEDS:-200}"
 bad=0
 for name in sheet plan; do
     plan=$([ $name = plan ] && echo 1 || echo 0)
@@ -41,12 +42,13 @@ for name in sheet plan; do
         -dict=oracle/lines.dict -artifact_prefix="$work/found/$name/" -print_final_stats=1 \
         "$work/corpus/$name" >"$work/$name.log" 2>&1 || status=$?
     executions=$(sed -n 's/^stat::number_of_executed_units: *//p' "$work/$name.log")
-    last=$(grep -E ' cov: [0-9]+' "$work/$name.log" | tail -1)
-    edges=$(sed -E 's/.* cov: ([0-9]+).*/\1/' <<<"$last")
-    paths=$(sed -E 's/.* corp: ([0-9]+).*/\1/' <<<"$last")
+    # A run that ends on one of the seeds prints no such line.
+    last=$(grep -E ' cov: [0-9]+' "$work/$name.log" | tail -1 || true)
+    edges=$(sed -nE 's/.* cov: ([0-9]+).*/\1/p' <<<"$last")
+    paths=$(sed -nE 's/.* corp: ([0-9]+).*/\1/p' <<<"$last")
     crashes=$(find "$work/found/$name" -type f | wc -l)
     mismatches=$(grep -c '^MISMATCH' "$work/$name.log" || true)
-    echo "fuzz $name: $executions executions in $seconds s, $edges edges of the oracle, $paths paths kept, $crashes crashes, $mismatches mismatches"
+    echo "fuzz $name: $executions executions in $seconds s, ${edges:-0} edges of the oracle, ${paths:-0} paths kept, $crashes crashes, $mismatches mismatches"
     if [ $status -ne 0 ] || [ "$crashes" -ne 0 ]; then
         grep -A3 '^MISMATCH' "$work/$name.log" | cut -c1-2000 || tail -5 "$work/$name.log"
         bad=1

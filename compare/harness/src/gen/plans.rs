@@ -41,7 +41,7 @@ fn lined(rng: &mut Rng, noise: u64) -> Vec<u8> {
     }
     let first = lines::origin(&origin);
     text.extend(if rng.once_in(noise) { spoiled(rng, &first) } else { first });
-    for _ in 0..rng.small(12) {
+    for _ in 0..rng.below(20) {
         let line = if rng.once_in(20) { lines::origin(&origin) } else { geodetic(rng, good) };
         text.extend(if rng.once_in(noise) { spoiled(rng, &line) } else { line });
     }

@@ -1,7 +1,7 @@
 //! Sheets: steps, then points, and what goes wrong with them.
 
 use super::chains::{Chain, Chains};
-use super::{lines, points, texts};
+use super::{full, lines, points, texts};
 use crate::rng::Rng;
 use paper::numbers::steps;
 
@@ -13,7 +13,7 @@ pub fn sheet(rng: &mut Rng, chains: &Chains) -> Vec<u8> {
             let text = good(rng, chains);
             texts::at_the_limit(rng, &text)
         }
-        2 => vec![b'\n'; rng.small(65_540) as usize],
+        2 if rng.once_in(8) => vec![b'\n'; rng.small(65_540) as usize],
         3..=20 => good(rng, chains),
         21..=45 => {
             let mut text = good(rng, chains);
@@ -32,7 +32,7 @@ fn good(rng: &mut Rng, chains: &Chains) -> Vec<u8> {
     let length = rng.index(10);
     let chain = chains.good(rng, length);
     let mut text: Vec<u8> = chain.rows.iter().flat_map(lines::step).collect();
-    for _ in 0..rng.small(12) {
+    for _ in 0..rng.below(20) {
         text.extend(point(rng, &chain));
     }
     text
@@ -42,7 +42,8 @@ fn point(rng: &mut Rng, chain: &Chain) -> Vec<u8> {
     let steps = steps(&chain.numbers()).expect("whole rows");
     let position = match rng.below(4) {
         0 => points::led_along(rng, chain, &steps),
-        _ => points::position(rng),
+        1 => points::position(rng),
+        _ => full::inside(rng),
     };
     let mut numbers = points::point(rng, chain.begin, position);
     if rng.once_in(6) {

@@ -20,7 +20,7 @@ fn convert(
     way: impl Fn(&Chain, Point) -> Result<Point, u8>,
 ) -> Result<[i64; 6], u8> {
     let &[issue, datum, epoch, x, y, z] = point else { return Err(WRONG_LENGTH) };
-    if rows.len() % 13 != 0 {
+    if !rows.len().is_multiple_of(13) {
         return Err(WRONG_LENGTH);
     }
     let chain = chain(rows)?;

@@ -20,7 +20,7 @@ const POWERS: [u64; 6] = [1, 10, 100, 1_000, 10_000, 100_000];
 #[inline]
 pub fn decimals(x: f64, places: u32) -> Result<i64, u8> {
     let Some(&power) = POWERS.get(places as usize) else { return Err(2) };
-    if !(x.abs() < 10_000_000.0) {
+    if x.is_nan() || x.abs() >= 10_000_000.0 {
         return Err(14);
     }
     let bits = x.abs().to_bits();

@@ -89,7 +89,7 @@ impl Chain {
     }
 
     pub fn joins(&self, step: &Step) -> bool {
-        self.steps.last().map_or(true, |last| last.after == step.before)
+        self.steps.last().is_none_or(|last| last.after == step.before)
     }
 
     /// For a step without faults that joins.

@@ -8,56 +8,70 @@ use standin as _;
 mod c {
     extern "C" {
         pub fn swivelcrane_forward(
-            c: *const i64,
-            cl: usize,
-            p: *const i64,
-            pl: usize,
-            o: *mut i64,
-            ol: usize,
+            chain: *const i64,
+            chain_len: usize,
+            point: *const i64,
+            point_len: usize,
+            out: *mut i64,
+            out_len: usize,
         ) -> i64;
         pub fn swivelcrane_inverse(
-            c: *const i64,
-            cl: usize,
-            p: *const i64,
-            pl: usize,
-            o: *mut i64,
-            ol: usize,
+            chain: *const i64,
+            chain_len: usize,
+            point: *const i64,
+            point_len: usize,
+            out: *mut i64,
+            out_len: usize,
         ) -> i64;
-        pub fn swivelcrane_cartesian(e: i64, a: i64, b: i64, h: i64, o: *mut f64, ol: usize) -> i64;
-        pub fn swivelcrane_cartesian_units(e: i64, a: i64, b: i64, h: i64, o: *mut i64, ol: usize) -> i64;
+        pub fn swivelcrane_cartesian(
+            ellipsoid: i64,
+            latitude: i64,
+            longitude: i64,
+            height: i64,
+            out: *mut f64,
+            out_len: usize,
+        ) -> i64;
+        pub fn swivelcrane_cartesian_units(
+            ellipsoid: i64,
+            latitude: i64,
+            longitude: i64,
+            height: i64,
+            out: *mut i64,
+            out_len: usize,
+        ) -> i64;
         pub fn swivelcrane_cassini(
-            e: i64,
-            oa: i64,
-            ob: i64,
-            fe: i64,
-            fn_: i64,
-            a: i64,
-            b: i64,
-            o: *mut f64,
-            ol: usize,
+            ellipsoid: i64,
+            origin_latitude: i64,
+            origin_longitude: i64,
+            false_easting: i64,
+            false_northing: i64,
+            latitude: i64,
+            longitude: i64,
+            out: *mut f64,
+            out_len: usize,
         ) -> i64;
         pub fn swivelcrane_cassini_millimetres(
-            e: i64,
-            oa: i64,
-            ob: i64,
-            fe: i64,
-            fn_: i64,
-            a: i64,
-            b: i64,
-            o: *mut i64,
-            ol: usize,
+            ellipsoid: i64,
+            origin_latitude: i64,
+            origin_longitude: i64,
+            false_easting: i64,
+            false_northing: i64,
+            latitude: i64,
+            longitude: i64,
+            out: *mut i64,
+            out_len: usize,
         ) -> i64;
-        pub fn swivelcrane_round(x: f64, places: u32, o: *mut i64, ol: usize) -> i64;
+        pub fn swivelcrane_round(x: f64, places: u32, out: *mut i64, out_len: usize) -> i64;
         pub fn swivelcrane_later(
-            a: *const u8,
-            al: usize,
-            b: *const u8,
-            bl: usize,
-            o: *mut i64,
-            ol: usize,
+            first: *const u8,
+            first_len: usize,
+            second: *const u8,
+            second_len: usize,
+            which: *mut i64,
+            which_len: usize,
         ) -> i64;
-        pub fn swivelcrane_sheet(i: *const u8, il: usize, o: *mut u8, ol: usize) -> i64;
-        pub fn swivelcrane_plan(i: *const u8, il: usize, o: *mut u8, ol: usize) -> i64;
+        pub fn swivelcrane_sheet(input: *const u8, input_len: usize, out: *mut u8, out_len: usize) -> i64;
+        pub fn swivelcrane_plan(input: *const u8, input_len: usize, out: *mut u8, out_len: usize) -> i64;
     }
 }
 

@@ -38,7 +38,7 @@ pub fn chain_faults(chain: &[Step]) -> Result<(), Refusal> {
 
 /// Whether the step begins at the datum and epoch where the steps before it ended.
 pub fn joins(earlier: &[Step], next: &Step) -> bool {
-    earlier.last().map_or(true, |last| last.after == next.before)
+    earlier.last().is_none_or(|last| last.after == next.before)
 }
 
 /// What a point alone decides: 2, 3.
@@ -52,7 +52,7 @@ pub fn point_faults(point: &Point) -> Result<(), Refusal> {
 
 /// 9, 10, 11: for a chain and a point without faults of their own.
 pub fn forward_checked(chain: &[Step], point: Point) -> Result<Point, Refusal> {
-    unless(chain.first().map_or(true, |first| first.before == point.at), START)?;
+    unless(chain.first().is_none_or(|first| first.before == point.at), START)?;
     unless(ranges::in_area(&point.position), OUTSIDE)?;
     let mut now = point;
     for each in chain {
@@ -64,7 +64,7 @@ pub fn forward_checked(chain: &[Step], point: Point) -> Result<Point, Refusal> {
 }
 
 pub fn inverse_checked(chain: &[Step], point: Point) -> Result<Point, Refusal> {
-    unless(chain.last().map_or(true, |last| last.after == point.at), START)?;
+    unless(chain.last().is_none_or(|last| last.after == point.at), START)?;
     unless(ranges::in_area(&point.position), OUTSIDE)?;
     let mut now = point;
     for each in chain.iter().rev() {

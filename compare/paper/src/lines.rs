@@ -41,7 +41,7 @@ fn numbers<const N: usize>(fields: &[&[u8]]) -> Option<[i64; N]> {
 }
 
 /// 1 to 16 of A-Z, 0-9, hyphen.
-fn id<'a>(field: &'a [u8]) -> Option<&'a [u8]> {
+fn id(field: &[u8]) -> Option<&[u8]> {
     let allowed = |byte: &u8| matches!(byte, b'A'..=b'Z' | b'0'..=b'9' | b'-');
     let good = (1..=16).contains(&field.len()) && field.iter().all(allowed);
     good.then_some(field)

@@ -32,7 +32,7 @@ fn convert(conversion: Conversion, chain: &[i64], point: &[i64]) -> Result<[i64;
 }
 
 pub fn steps(chain: &[i64]) -> Option<Vec<Step>> {
-    let whole = chain.len() % STEP == 0;
+    let whole = chain.len().is_multiple_of(STEP);
     whole.then(|| chain.chunks(STEP).map(step).collect())
 }
 

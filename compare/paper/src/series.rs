@@ -11,7 +11,7 @@ fn alternating(x: f64, orders: &[u64]) -> f64 {
     let mut sum = 0.0;
     for (place, &order) in orders.iter().enumerate() {
         let from_the_end = orders.len() - 1 - place;
-        let sign = if from_the_end % 2 == 0 { 1.0 } else { -1.0 };
+        let sign = if from_the_end.is_multiple_of(2) { 1.0 } else { -1.0 };
         let coefficient = sign * reciprocal_factorial(order);
         sum = if place == 0 { coefficient } else { sum * square + coefficient };
     }

@@ -31,7 +31,7 @@ fn conversions(c: &mut Comparison) -> Outcome {
     let mut length = |right: usize| if c.rng.once_in(2) { right } else { c.rng.index(right + 3) };
     let point = vec![1; length(6)];
     let mut out = vec![MARK; length(6)];
-    let wrong = chain.len() % 13 != 0 || point.len() != 6 || out.len() != 6;
+    let wrong = !chain.len().is_multiple_of(13) || point.len() != 6 || out.len() != 6;
     let what = format!("lengths {} {} {}", chain.len(), point.len(), out.len());
     let number = product::forward(&chain, &point, &mut out);
     decide(&format!("forward {what}"), number, wrong, &out, MARK)?;
@@ -42,8 +42,10 @@ fn conversions(c: &mut Comparison) -> Outcome {
 
 fn others(c: &mut Comparison) -> Outcome {
     let length = c.rng.index(9);
-    let angles = [1, 1_440_000_000, 36_720_000_000, 0];
-    let grid = [1, 1_440_000_000, 36_720_000_000, 0, 0, 1_440_000_000, 36_720_000_000];
+    // The length comes before what the call itself would refuse.
+    let code = c.rng.pick(&[1, 9]);
+    let angles = [code, 1_440_000_000, 36_720_000_000, 0];
+    let grid = [code, 1_440_000_000, 36_720_000_000, 0, 0, 1_440_000_000, 36_720_000_000];
     let what = |name: &str| format!("{name} with room for {length}");
     let mut floats = vec![FLOAT_MARK; length];
     let number = product::cartesian(&angles, &mut floats);
@@ -58,10 +60,10 @@ fn others(c: &mut Comparison) -> Outcome {
     let number = product::cassini_millimetres(&grid, &mut whole);
     decide(&what("cassini millimetres"), number, length != 2, &whole, MARK)?;
     let mut whole = vec![MARK; length];
-    let number = product::round(1.5, 0, &mut whole);
+    let number = product::round(1.5, c.rng.pick(&[0, 6]), &mut whole);
     decide(&what("round"), number, length != 1, &whole, MARK)?;
     let mut whole = vec![MARK; length];
-    let line = b"P\tA\t1\t6\t2000000\t0\t0\t0\n";
+    let line: &[u8] = c.rng.pick(&[b"P\tA\t1\t6\t2000000\t0\t0\t0\n", b""]);
     let number = product::later(line, line, &mut whole);
     decide(&what("later"), number, length != 1, &whole, MARK)
 }

@@ -48,7 +48,7 @@ impl Chains {
 
     /// A step of the kind from that datum and epoch. Places that the kind doesn't use hold anything.
     pub fn row(&self, rng: &mut Rng, kind: u8, from: [i64; 2]) -> Row {
-        let mut row: Row = std::array::from_fn(|_| rng.next() as i64);
+        let mut row: Row = std::array::from_fn(|_| rng.word() as i64);
         row[0] = i64::from(kind);
         [row[2], row[3]] = from;
         [row[4], row[5]] = match kind {

@@ -5,14 +5,14 @@ use crate::rng::Rng;
 pub fn places(rng: &mut Rng) -> u32 {
     match rng.below(16) {
         0 => rng.pick(&[6, 7, 17, 18, 19, 22, 31, 32, 64, 255, 256, 65_536, u32::MAX - 1, u32::MAX]),
-        1 => rng.next() as u32,
+        1 => rng.word() as u32,
         _ => rng.below(6) as u32,
     }
 }
 
 pub fn float(rng: &mut Rng, places: u32) -> f64 {
     let size = match rng.below(12) {
-        0 => f64::from_bits(rng.next()),
+        0 => f64::from_bits(rng.word()),
         1 => special(rng),
         2 | 3 => neighbour(rng, exact_tie, places),
         4 | 5 => neighbour(rng, near_tie, places),

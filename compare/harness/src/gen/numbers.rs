@@ -31,7 +31,7 @@ pub fn damaged(rng: &mut Rng, low: i64, high: i64) -> i64 {
         4 => low.saturating_sub(rng.small(i64::MAX)),
         5 => high.saturating_add(rng.small(i64::MAX)),
         6 => rng.pick(&[i64::MIN, i64::MIN + 1, i64::MAX, -1, 0, 1, 1 << 32, -(1 << 32), 1 << 62]),
-        _ => rng.next() as i64,
+        _ => rng.word() as i64,
     }
 }
 

@@ -7,7 +7,7 @@ const ALPHABET: &[u8] = b"PSOGTVBFC\t\t\t\n\n0123456789-AZ a\r\0+";
 
 pub fn byte(rng: &mut Rng) -> u8 {
     if rng.once_in(4) {
-        rng.next() as u8
+        rng.word() as u8
     } else {
         rng.pick(ALPHABET)
     }
@@ -36,7 +36,7 @@ pub fn damage(rng: &mut Rng, text: &mut Vec<u8>) {
 pub fn random(rng: &mut Rng) -> Vec<u8> {
     let length = rng.small(2_000);
     let any = rng.once_in(2);
-    (0..length).map(|_| if any { rng.next() as u8 } else { byte(rng) }).collect()
+    (0..length).map(|_| if any { rng.word() as u8 } else { byte(rng) }).collect()
 }
 
 /// 65,535, 65,536 or 65,537 bytes, or far more, out of a text repeated.

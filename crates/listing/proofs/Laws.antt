@@ -6,11 +6,11 @@ use mathlib.Core.Bool.{Bool, true, false}
 use mathlib.Core.Option.{Option, none, some}
 use lib.Dec.{eqb}
 use lib.ListN.{length, getD, take, drop, length-append, length-drop, length-take, drop-of-length-le}
-use lib.Seq.{drop-cons, drop-drop}
+use lib.Seq.{drop-cons, drop-drop, length-take-le}
 use Rattle.line.specs.declared.Fault.{Fault}
 use Rattle.line.specs.Lines.{fault, answered}
 use Rattle.line.specs.Text.{Wrote}
-use Rattle.line.proofs.Texts.{«then», nothing}
+use Rattle.line.proofs.Texts.{«then», nothing, kept-length}
 use native.Mathlib.Numerals.{add-one}
 use native.Mathlib.Omega.{arith}
 use borrow.Author.Tests.{eq-eqb, ne-eqb, eqb-true}
@@ -141,3 +141,7 @@ no-fault faultOf good refused (some b) a inj never e = go (eqb (faultOf b) 0) re
     go : (t : Bool) → t ≡ eqb (faultOf b) 0 → pick t (good b) (refused (fault (faultOf b))) ≡ good a → faultOf a ≡ 0
     go true t e = ap faultOf (sym (inj b a e)) ∙ eqb-true (faultOf b) 0 (sym t)
     go false t e = absurd (never _ a e)
+
+-- ---- what is written from the start of a slice is a part of it
+pub wrote-part : {l vs m : List ℕ} {r : ℕ} → Wrote l 0 vs m r → r ≡ length (take r m)
+wrote-part {l} {vs} {m} {r} w = sym (length-take-le r m (omega (arith, w .place, kept-length w)))

@@ -1,5 +1,5 @@
 -- Demand 3: a point converted by a chain and handed to the other conversion by the same chain has come back. Assumes nothing.
-use mathlib.Core.Path.{_≡_, refl, sym, _∙_, ap, subst}
+use mathlib.Core.Path.{_≡_, sym, _∙_, ap, ap₂, subst}
 use mathlib.Core.Bool.{true}
 use mathlib.Core.List.{List, [], _∷_, _++_, reverse, reverseAux-eq}
 use Prim.Native.Nat.{ℕ, _+_, _≤_}
@@ -7,9 +7,12 @@ use native.Mathlib.Nat as NatL
 use native.Mathlib.Omega.{arith}
 use lib.Dec.{lit≤}
 use lib.ListN.{length, take, length-take}
-use lib.IntN.{ℤ}
+use lib.IntN.{ℤ, natAbs, _-ℤ_}
+use Rattle.rounding.specs.Zn.{v, eq, unabs, _⊖_}
+use Rattle.rounding.specs.Machine.{of₃}
 use Rattle.chain.specs.declared.Position.{Position}
 use Rattle.chain.specs.declared.Realization.{Realization}
+use Rattle.chain.specs.declared.Id.{Id}
 use Rattle.chain.specs.declared.Point.{Point}
 use Rattle.chain.specs.declared.Kind.{Kind}
 use Rattle.chain.specs.declared.Kind.the-variants.{Shift, Velocity, BursaWolf, Frame}
@@ -140,3 +143,13 @@ round-trip c p q r = (forth, back)
         returned (inexactSteps ss) p q r (startOf (p .realization) ss) (endOf (q .realization) ss) (a .is) (b .is)
         (end-home (p .realization) (q .realization) ss (a .accept .here) (ap (λ (t : Point). t .realization) (a .is)))
         (back-and-there ss (a .accept .sound) (p .position) (q .position) (q .position) (r .position) 0 (eight c (a .accept .short)) (a .accept .area) (a .ended) (off-self _) (b .ended))
+
+-- a chain of shifts and velocities alone, or an empty one, gives back exactly the point handed in: within 0 units is equal
+same-number : (x y : ℤ) → natAbs (x -ℤ y) ≤ 0 → x ≡ y
+same-number x y h = let f = unabs 0 h (v x ⊖ v y) in eq (v x) (v y) (omega arith)
+
+pub exactly : (p r : Point) → Returned 0 p r → r ≡ p
+exactly p r h =
+    ap₂ (λ (i : Id) (n : ℤ). record { id = i; issue = n; realization = r .realization; position = r .position }) (h .id) (h .issue)
+    ∙ ap₂ (movedTo p) (ap₂ (λ (d e : ℤ). record { datum = d; epoch = e }) (h .datum) (h .epoch))
+    (of₃ (λ (x y z : ℤ). record { x = x; y = y; z = z }) (same-number _ _ (h .x)) (same-number _ _ (h .y)) (same-number _ _ (h .z)))

@@ -64,7 +64,8 @@ fn by_issue(a: PointLine, b: PointLine, equal: bool) -> Verdict
     }
 }
 
-fn verdict_on(first: &[u8], second: &[u8]) -> Verdict
+// Which of two point lines is the later one, or why neither is: for callers that want no part.
+pub fn later_verdict(first: &[u8], second: &[u8]) -> Verdict
     ensures { λ r. ⌜ r ≡ laterOf (now (first .entry)) (now (second .entry)) ⌝ }
 {
     let a = read_point(first);
@@ -76,7 +77,7 @@ fn verdict_on(first: &[u8], second: &[u8]) -> Verdict
 fn part_of<'a>(first: &'a [u8], second: &'a [u8]) -> &'a [u8]
     ensures { λ r. ⌜ Handed (laterOf (now (first .entry)) (now (second .entry))) (first .entry) (second .entry) r ⌝ }
 {
-    match verdict_on(first, second) {
+    match later_verdict(first, second) {
         Verdict::First => first,
         Verdict::Second => second,
         Verdict::Refused(_) => &first[..0],
@@ -86,7 +87,7 @@ fn part_of<'a>(first: &'a [u8], second: &'a [u8]) -> &'a [u8]
 fn refusal_of<'a>(first: &'a [u8], second: &'a [u8]) -> u8
     ensures { λ r. ⌜ r ≡ refusalOf (laterOf (now (first .entry)) (now (second .entry))) ⌝ }
 {
-    match verdict_on(first, second) {
+    match later_verdict(first, second) {
         Verdict::First => 0,
         Verdict::Second => 0,
         Verdict::Refused(n) => n,

@@ -13,11 +13,10 @@ use native.Mathlib.Omega.{arith}
 use borrow.Author.Tests.{ne-eqb, eq-eqb}
 use Rattle.refusal.specs.Order.{pick}
 use Rattle.line.specs.Number.{isDigit, digits}
-use Rattle.line.specs.Text.{decimal, integer}
+use Rattle.line.specs.Text.{decimal, integer, nameText, lineText, pointText}
 use Rattle.chain.specs.declared.Id.{Id}
 use Rattle.line.specs.Name.{isNameByte, allNameBytes, packed, nameOf}
 use Rattle.line.specs.Fields.{body, fields, Form, filled, said}
-use Rattle.line.specs.Text.{nameText, lineText, pointText}
 use Rattle.chain.specs.declared.Point.{Point}
 use Rattle.chain.specs.Faults.{pointFault}
 use Rattle.line.specs.declared.PointLine.the-variants as P

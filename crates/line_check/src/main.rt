@@ -12,6 +12,13 @@ fn number(n: u8) {
     io::write_all(STDOUT_FILENO, b"\n");
 }
 
+// The first n bytes of a text.
+fn print(text: &[u8], n: usize) {
+    if n <= text.len() {
+        io::write_all(STDOUT_FILENO, &text[..n]);
+    }
+}
+
 // Two numbers, as a grid line of a point with no name.
 fn pair(a: i64, b: i64) {
     grid(chain::Id { high: 0, low: 0 }, a, b);
@@ -20,9 +27,7 @@ fn pair(a: i64, b: i64) {
 fn grid(id: chain::Id, a: i64, b: i64) {
     let mut out = [0u8; 64];
     let n = line::write_grid(&mut out, 0, id, a, b);
-    if n <= 64 {
-        io::write_all(STDOUT_FILENO, &out[..n]);
-    }
+    print(&out, n);
 }
 
 fn point(l: &[u8]) {
@@ -31,9 +36,7 @@ fn point(l: &[u8]) {
         PointLine::Point(p) => {
             let mut out = [0u8; 200];
             let n = line::write_point(&mut out, 0, p);
-            if n <= 200 {
-                io::write_all(STDOUT_FILENO, &out[..n]);
-            }
+            print(&out, n);
         }
     }
 }

@@ -1,19 +1,18 @@
 -- Numbers are carried up to a cap that no range reaches: no range tells a number from the number as it is carried, and a number in its range is carried as
 -- it is. So a fault of a carried record is the fault of the record, and where there is none the two are one.
-use Prim.Native.Nat.{ℕ, zero, suc, _+_, _≤_, _<_, min}
+use Prim.Native.Nat.{ℕ, suc, _≤_, _<_, min}
 use mathlib.Core.Path.{_≡_, refl, sym, ap, _∙_}
 use mathlib.Core.Bool.{Bool, true, false, not, _&&_, _||_}
-use mathlib.Core.List.{List, [], _∷_}
 use lib.Dec.{ltb, leb}
 use lib.IntN.{ℤ, pos, negsuc, negℤ, natAbs}
 use lib.Signed.{leZ, ltZ}
 use native.Mathlib.Decide.{decLt}
 use native.Mathlib.Omega.{arith}
 use borrow.Author.Tests.{lt-ltb, le-ltb, le-leb, lt-leb, leb-true}
-use Rattle.refusal.specs.Order.{pick, Test, first}
-use Rattle.chain.specs.Ranges.{within, upTo, equal, datumRange, epochRange}
+use Rattle.refusal.specs.Order.{pick, first}
+use Rattle.chain.specs.Ranges.{within}
 use Rattle.angle.specs.Ranges.{outside}
-use Rattle.line.specs.Reading.{cap, capped, cappedZ}
+use Rattle.line.specs.Reading.{cap, cappedZ}
 use Rattle.line.proofs.Answers.{Careful}
 
 -- ---- bools

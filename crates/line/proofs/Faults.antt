@@ -1,18 +1,17 @@
 -- The faults of points, steps, origins and positions cannot tell a record from the record as it is carried.
 use Prim.Native.Nat.{ℕ, zero, suc, _<_}
-use mathlib.Core.Path.{_≡_, refl, sym, ap, _∙_}
+use mathlib.Core.Path.{_≡_, refl}
 use mathlib.Core.Bool.{Bool, true, false, not, _&&_}
-use mathlib.Core.List.{List, [], _∷_}
+use mathlib.Core.List.{[], _∷_}
 use lib.IntN.{ℤ, pos, negsuc, negℤ, natAbs}
 use native.Mathlib.Omega.{arith}
 use Rattle.refusal.specs.Order.{pick, first, _gives_}
 use Rattle.refusal.specs.Numbers as refusal
-use Rattle.chain.specs.declared.Position.{Position}
 use Rattle.chain.specs.declared.Kind.{Kind}
 use Rattle.chain.specs.declared.Kind.the-variants.{Shift, Velocity, BursaWolf, Frame}
-use Rattle.chain.specs.Ranges.{within, upTo, datumRange, epochRange, issueRange, givenRange, shiftRange, velocityRange, rotationRange, scaleRange}
-use Rattle.chain.specs.Faults.{realizationRange, agrees, givenPosition, pointRange, pointTests, pointFault, kindRange, kindRule, stepRange, stepTests, stepFault}
-use Rattle.angle.specs.Ranges.{outside, badCode, badOffset, badLatitude, badLongitude, angleTests, originTests, anglesFault, originFault}
+use Rattle.chain.specs.Ranges.{upTo, datumRange, epochRange, issueRange, givenRange, shiftRange, velocityRange, rotationRange, scaleRange}
+use Rattle.chain.specs.Faults.{realizationRange, agrees, givenPosition, pointRange, pointFault, kindRange, kindRule, stepRange, stepFault}
+use Rattle.angle.specs.Ranges.{badCode, badOffset, badLatitude, badLongitude, angleTests, anglesFault, originFault}
 use Rattle.line.specs.Lines.{geodeticFault}
 use Rattle.line.specs.Reading.{cap, cappedZ, cappedRealization, cappedPosition, cappedPoint, cappedKind, cappedStep, cappedOrigin, cappedGeodetic}
 use Rattle.line.proofs.Answers.{Careful}

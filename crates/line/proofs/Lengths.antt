@@ -1,11 +1,10 @@
 -- How long a written line can be.
 use Prim.Native.Nat.{ℕ, zero, suc, _+_, _*_, _/_, _%_, _^_, _≤_, _<_, max}
-use mathlib.Core.Path.{_≡_, refl, sym, ap, _∙_}
-use mathlib.Core.List.{List, [], _∷_, _++_}
+use mathlib.Core.Path.{_≡_, refl, sym, ap}
+use mathlib.Core.List.{[], _∷_}
 use mathlib.Core.Bool.{Bool, true, false, not, _&&_, _||_}
 use lib.Dec.{eqb, leb}
-use lib.IntN.{ℤ, pos, negsuc, negℤ, natAbs}
-use lib.Signed.{leZ}
+use lib.IntN.{ℤ, pos, negsuc, natAbs}
 use lib.ListN.{length, length-append}
 use native.Mathlib.Decide.{decLt}
 use native.Mathlib.Nat.{pow-suc}
@@ -16,8 +15,8 @@ use Rattle.refusal.specs.Numbers as refusal
 use Rattle.chain.specs.declared.Id.{Id}
 use Rattle.chain.specs.declared.Point.{Point}
 use Rattle.chain.specs.Ranges.{within, issueRange, datumRange, epochRange, givenRange}
-use Rattle.chain.specs.Faults.{realizationRange, agrees, givenPosition, pointRange, pointTests, pointFault}
-use Rattle.line.specs.Text.{decimal, integer, highest, letters, nameText, lineText, pointText, gridText, refusalText}
+use Rattle.chain.specs.Faults.{realizationRange, agrees, givenPosition, pointRange, pointFault}
+use Rattle.line.specs.Text.{decimal, integer, highest, letters, nameText, pointText, gridText, refusalText}
 use Rattle.line.proofs.Capped.{never, halves, passed}
 use Rattle.line.proofs.Texts as T
 

@@ -7,4 +7,6 @@ pub mod Faults
 pub mod Texts
 pub mod Compared
 pub mod Lengths
+pub mod WrittenNumbers
+pub mod WrittenNames
 pub mod Back

@@ -1,13 +1,13 @@
 -- How a number's digits go on by one, and a number as it is carried, up to the cap.
-use Prim.Native.Nat.{ℕ, zero, suc, _+_, _*_, _-_, _≤_, _<_, min}
+use Prim.Native.Nat.{ℕ, zero, suc, _+_, _*_, _-_, _≤_, _<_}
 use mathlib.Core.Path.{_≡_, refl, sym, ap, _∙_}
 use mathlib.Core.List.{List, [], _∷_}
 use mathlib.Core.Bool.{Bool, true, false}
 use mathlib.Core.Option.{Option, none, some}
-use lib.Dec.{leb, eqb}
+use lib.Dec.{eqb}
 use Rattle.refusal.specs.Order.{pick}
 use lib.ListN.{length, getD}
-use lib.IntN.{ℤ, pos, negsuc, negℤ, _-ℤ_, +ℤ-idl}
+use lib.IntN.{pos, negℤ, _-ℤ_, +ℤ-idl}
 use lib.Signed.{mag}
 use mir.Syntax.{w64}
 use mir.Val.{SFits, toZ, ofZ}
@@ -17,7 +17,7 @@ use native.Mathlib.Omega.{arith}
 use borrow.Author.Tests.{le-leb, lt-leb, eq-eqb, ne-eqb}
 use Rattle.line.specs.Number.{digits, plain, positive, negative, numberOf}
 use Rattle.line.specs.Fields.{taken, head}
-use Rattle.line.specs.Reading.{from, Tells, Got, itself, empty, capped, cappedZ, cap, Sized, Long}
+use Rattle.line.specs.Reading.{from, Tells, Got, itself, empty, capped, cappedZ, cap, Long}
 use Rattle.line.proofs.Walk as W
 
 -- ---- digits

@@ -1,19 +1,16 @@
 -- Walking along a line: what stands at a place, and how readings of its fields go one after the other.
-use Prim.Native.Nat.{ℕ, zero, suc, _+_, _-_, _≤_, _<_}
+use Prim.Native.Nat.{ℕ, suc, _+_, _-_, _≤_, _<_}
 use mathlib.Core.Path.{_≡_, refl, sym, ap, _∙_}
-use mathlib.Core.List.{List, [], _∷_, _++_}
-use mathlib.Core.Bool.{Bool, true, false}
+use mathlib.Core.List.{List, [], _∷_}
 use mathlib.Core.Option.{Option, none, some}
-use lib.Dec.{leb, eqb}
 use lib.ListN.{length, getD, take, drop, drop-of-length-le}
 use lib.Seq.{drop-cons}
 use native.Mathlib.Numerals.{add-one}
 use native.Mathlib.Decide.{decLt, ℕ-discrete}
 use native.Mathlib.Omega.{arith}
 use borrow.Author.Tests.{le-leb, lt-leb, le-ltb, lt-ltb, eq-eqb, ne-eqb}
-use Rattle.refusal.specs.Order.{pick}
-use Rattle.line.specs.Fields.{body, fields, front, Form, ends, field, into, taken, head, onward, filled, single, oneOf, letterOf, letter}
-use Rattle.line.specs.Reading.{from, Tells, Got, TellsLine, Told, Framed, empty, itself, unit}
+use Rattle.line.specs.Fields.{body, fields, front, Form, ends, field, into, taken, head, onward, filled, single, oneOf, letterOf}
+use Rattle.line.specs.Reading.{from, Tells, Got, TellsLine, Told, empty, itself}
 
 -- ---- what stands at a place
 pub from-past : (s : List ℕ) (at : ℕ) → length s < at → from s at ≡ []

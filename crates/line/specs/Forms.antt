@@ -1,6 +1,6 @@
 -- The lines that are read: each a list of fields, in their order, and the record that they make.
 use Prim.Native.Nat.{ℕ}
-use mathlib.Core.List.{List, [], _∷_}
+use mathlib.Core.List.{[], _∷_}
 use lib.Dec.{eqb}
 use lib.IntN.{ℤ}
 use Rattle.refusal.specs.Order.{pick}

@@ -4,7 +4,6 @@ use mathlib.Core.Path.{_≡_}
 use mathlib.Core.List.{List, [], _∷_}
 use mathlib.Core.Bool.{Bool, true, false, not, _&&_}
 use lib.Dec.{eqb}
-use lib.IntN.{ℤ}
 use lib.Signed.{ltZ}
 use denote.Ref.{RefT, now, ptr}
 use Rattle.refusal.specs.Numbers as refusal

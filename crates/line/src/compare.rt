@@ -4,6 +4,7 @@ use crate::PointLine;
 use crate::Verdict;
 use crate::point_line::read_point;
 ghost use mathlib.Core.Path.{_≡_};
+ghost use lib.Signed.{ltZ};
 ghost use Rattle.line.specs.Later.{sameBytes, weighed, compared, laterOf, refusalOf, Handed};
 
 fn same_bytes(a: &[u8], b: &[u8]) -> bool
@@ -22,6 +23,13 @@ fn same_bytes(a: &[u8], b: &[u8]) -> bool
     true
 }
 
+// Issues go by number: 9 is before 10.
+fn is_before(issue: i64, other: i64) -> bool
+    ensures { λ r. ⌜ r ≡ ltZ issue other ⌝ }
+{
+    issue < other
+}
+
 fn weigh(p: chain::Point, q: chain::Point, equal: bool) -> Verdict
     ensures { λ r. ⌜ r ≡ weighed p q equal ⌝ }
 {
@@ -31,10 +39,10 @@ fn weigh(p: chain::Point, q: chain::Point, equal: bool) -> Verdict
     if p.id.low != q.id.low {
         return Verdict::Refused(refusal::IDS);
     }
-    if p.issue < q.issue {
+    if is_before(p.issue, q.issue) {
         return Verdict::Second;
     }
-    if q.issue < p.issue {
+    if is_before(q.issue, p.issue) {
         return Verdict::First;
     }
     if equal {
@@ -56,7 +64,8 @@ fn by_issue(a: PointLine, b: PointLine, equal: bool) -> Verdict
     }
 }
 
-fn verdict_on(first: &[u8], second: &[u8]) -> Verdict
+// Which of two point lines is the later one, or why neither is: for callers that want no part.
+pub fn later_verdict(first: &[u8], second: &[u8]) -> Verdict
     ensures { λ r. ⌜ r ≡ laterOf (now (first .entry)) (now (second .entry)) ⌝ }
 {
     let a = read_point(first);
@@ -68,7 +77,7 @@ fn verdict_on(first: &[u8], second: &[u8]) -> Verdict
 fn part_of<'a>(first: &'a [u8], second: &'a [u8]) -> &'a [u8]
     ensures { λ r. ⌜ Handed (laterOf (now (first .entry)) (now (second .entry))) (first .entry) (second .entry) r ⌝ }
 {
-    match verdict_on(first, second) {
+    match later_verdict(first, second) {
         Verdict::First => first,
         Verdict::Second => second,
         Verdict::Refused(_) => &first[..0],
@@ -78,7 +87,7 @@ fn part_of<'a>(first: &'a [u8], second: &'a [u8]) -> &'a [u8]
 fn refusal_of<'a>(first: &'a [u8], second: &'a [u8]) -> u8
     ensures { λ r. ⌜ r ≡ refusalOf (laterOf (now (first .entry)) (now (second .entry))) ⌝ }
 {
-    match verdict_on(first, second) {
+    match later_verdict(first, second) {
         Verdict::First => 0,
         Verdict::Second => 0,
         Verdict::Refused(n) => n,

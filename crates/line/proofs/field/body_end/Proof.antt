@@ -1,35 +1,25 @@
-use mathlib.Core.Path.{_≡_, refl, sym, ap, _∙_}
-use mathlib.Core.Logic.{⊎-elim}
+use mathlib.Core.Path.{refl}
 use native.Mathlib.Omega.{arith}
-use borrow.Author.Tests.{lt-ltb, le-ltb, le-leb, lt-leb, eq-eqb, ne-eqb}
 use Rattle.line.proofs.Walk as W
 use borrow.Author.Needs.{needs}
 use Rattle.line.proofs.field.body_end.Statement.{statement}
 use Rattle.line.proofs.field.body_end.Tie as tie
-use Rattle.line.proofs.field.body_end.Reads as reads
-use Rattle.line.proofs.field.body_end.Lts as lts
 
--- src/field.rt:74:9
 returns : tie.Need-returns
 returns c = rw (W.framed-empty (c .before .args .line .now) (c .if1 .taken)) (omega arith)
 
--- src/field.rt:77:9
 returns-2 : tie.Need-returns-2
 returns-2 c = rw (W.framed-long (c .before .before .args .line .now) (c .if2 .taken)) (omega arith)
 
--- src/field.rt:79:13
 sub-e : tie.Need-sub-e
 sub-e c = search needs
 
--- src/field.rt:80:8
 shared-slice-read-if3 : tie.Need-shared-slice-read-if3
 shared-slice-read-if3 c = search needs
 
--- src/field.rt:69:1
 returns-3 : tie.Need-returns-3
 returns-3 c = rw (W.framed (c .before .before .before .before .args .line .now) (omega arith) (omega arith) (c .if3 .taken)) (omega arith, refl)
 
--- src/field.rt:69:1
 returns-4 : tie.Need-returns-4
 returns-4 c = rw (W.framed-open (c .before .before .before .before .args .line .now) (omega arith) (omega arith) (c .if3 .left)) (omega arith)
 

@@ -1,40 +1,29 @@
-use mathlib.Core.Path.{_≡_, refl, sym, ap, _∙_}
+use mathlib.Core.Path.{refl}
 use mathlib.Core.Logic.{⊎-elim}
 use native.Mathlib.Omega.{arith}
-use borrow.Author.Tests.{lt-ltb, le-ltb, le-leb, lt-leb, eq-eqb, ne-eqb}
 use Rattle.line.proofs.Walk as W
 use borrow.Author.Needs.{needs}
 use Rattle.line.proofs.field.closed.Statement.{statement}
 use Rattle.line.proofs.field.closed.Tie as tie
-use Rattle.line.proofs.field.closed.Reads as reads
-use Rattle.line.proofs.field.closed.Lts as lts
-use Rattle.line.proofs.field.nowhere.Reads as nowhere-reads
 
--- src/field.rt:31:12
 shared-slice-read-if2 : tie.Need-shared-slice-read-if2
 shared-slice-read-if2 c = search needs
 
--- src/field.rt:32:20
 add-result : tie.Need-add-result
 add-result c = search needs
 
--- src/field.rt:32:13
 returns : tie.Need-returns
 returns c = let g = c .before .before .before .before .args in W.ends-here (W.from-tab (g .s .now) (g .at) (omega arith) (omega arith)) (omega arith)
 
--- src/field.rt:36:20
 add-result-2 : tie.Need-add-result-2
 add-result-2 c = search needs
 
--- src/field.rt:36:13
 returns-2 : tie.Need-returns-2
 returns-2 c = let g = c .before .before .before .args in W.ends-here (W.from-end (g .s .now) (g .at) (omega arith)) (omega arith)
 
--- src/field.rt:39:5
 nowhere-requires : tie.Need-nowhere-requires
 nowhere-requires c κs = search needs
 
--- src/field.rt:27:1
 returns-3 : tie.Need-returns-3
 returns-3 c = let g = c .before .before .before .args in W.got-none (⊎-elim (λ w. W.head-off (g .s .now) (g .at) _ (omega arith) (w .2 .left) (λ f. refl)) (λ w. W.head-past (g .s .now) (g .at) _ (omega arith)) (c .before .if1 .came)) (omega arith)
 

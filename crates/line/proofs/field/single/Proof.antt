@@ -1,45 +1,33 @@
 use Prim.Native.Nat.{_+_}
-use mathlib.Core.List.{List, [], _∷_}
+use mathlib.Core.List.{_∷_}
 use lib.ListN.{getD}
 use Rattle.line.specs.Fields.{single}
-use mathlib.Core.Path.{_≡_, refl, sym, ap, _∙_}
+use mathlib.Core.Path.{refl}
 use mathlib.Core.Logic.{⊎-elim}
 use native.Mathlib.Omega.{arith}
-use borrow.Author.Tests.{lt-ltb, le-ltb, le-leb, lt-leb, eq-eqb, ne-eqb}
 use Rattle.line.proofs.Walk as W
 use borrow.Author.Needs.{needs}
 use Rattle.line.proofs.field.single.Statement.{statement}
 use Rattle.line.proofs.field.single.Tie as tie
-use Rattle.line.proofs.field.single.Reads as reads
-use Rattle.line.proofs.field.single.Lts as lts
-use Rattle.line.proofs.field.closed.Reads as closed-reads
-use Rattle.line.proofs.field.nowhere.Reads as nowhere-reads
 
--- src/field.rt:47:12
 shared-slice-read-if2 : tie.Need-shared-slice-read-if2
 shared-slice-read-if2 c = search needs
 
--- src/field.rt:49:23
 shared-slice-read-t9 : tie.Need-shared-slice-read-t9
 shared-slice-read-t9 c = search needs
 
--- src/field.rt:50:33
 add-closed : tie.Need-add-closed
 add-closed c = search needs
 
--- src/field.rt:50:23
 closed-requires : tie.Need-closed-requires
 closed-requires c κs = search needs
 
--- src/field.rt:48:13
 returns : tie.Need-returns
 returns c = let g = c .before .before .before .before .before .before .args in W.onto {rest = λ f. single (getD (g .s .now) (g .at) 0 ∷ f)} (W.head-close (g .s .now) (g .at + 1) _ _ (c .closed .ensures) refl refl (λ l e f. refl)) (omega arith) (c .before .before .if2 .taken) (λ f. refl)
 
--- src/field.rt:56:15
 nowhere-requires : tie.Need-nowhere-requires
 nowhere-requires c κs = search needs
 
--- src/field.rt:43:1
 returns-2 : tie.Need-returns-2
 returns-2 c = let g = c .before .before .before .args in W.got-none (W.head-nothing (g .s .now) (g .at) _ (λ l. ⊎-elim (λ w. w .2 .left) (λ w. absurd (omega arith)) (c .before .if1 .came)) refl) (omega arith)
 

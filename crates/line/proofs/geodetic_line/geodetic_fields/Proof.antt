@@ -1,5 +1,4 @@
-use mathlib.Core.Path.{_≡_, refl, sym, ap, _∙_}
-use native.Mathlib.Omega.{arith}
+use mathlib.Core.Path.{_≡_, _∙_}
 use mir.Syntax.{w64}
 use mir.Val.{toZ, ofZ}
 use Rattle.line.proofs.Walk as W
@@ -7,29 +6,19 @@ use Rattle.line.specs.Forms.{geodeticForm}
 use borrow.Author.Needs.{needs}
 use Rattle.line.proofs.geodetic_line.geodetic_fields.Statement.{statement}
 use Rattle.line.proofs.geodetic_line.geodetic_fields.Tie as tie
-use Rattle.line.proofs.geodetic_line.geodetic_fields.Reads as reads
-use Rattle.line.proofs.geodetic_line.geodetic_fields.Lts as lts
-use Rattle.line.proofs.field.letter.Reads as letter-reads
-use Rattle.line.proofs.name.name.Reads as name-reads
-use Rattle.line.proofs.number.number.Reads as number-reads
 
--- src/geodetic_line.rt:23:9
 letter-requires : tie.Need-letter-requires
 letter-requires c κs = search needs
 
--- src/geodetic_line.rt:24:9
 name-requires : tie.Need-name-requires
 name-requires c κs = search needs
 
--- src/geodetic_line.rt:26:9
 number-requires : tie.Need-number-requires
 number-requires c κs = search needs
 
--- src/geodetic_line.rt:27:9
 number-requires-2 : tie.Need-number-requires-2
 number-requires-2 c κs = search needs
 
--- src/geodetic_line.rt:20:1
 returns : tie.Need-returns
 unfolding geodeticForm
 returns c =

@@ -1,28 +1,20 @@
-use mathlib.Core.Path.{_≡_, refl, sym, ap, _∙_}
-use native.Mathlib.Omega.{arith}
+use mathlib.Core.Path.{_≡_}
 use mir.Syntax.{w64}
 use mir.Val.{toZ, ofZ}
-use Rattle.line.proofs.Walk as W
 use Rattle.line.specs.Lines.{geodeticFault}
 use Rattle.line.specs.declared.GeodeticLine.the-variants.{Geodetic, Refused}
 use Rattle.line.proofs.Answers as A
 use borrow.Author.Needs.{needs}
 use Rattle.line.proofs.geodetic_line.judge_geodetic.Statement.{statement}
 use Rattle.line.proofs.geodetic_line.judge_geodetic.Tie as tie
-use Rattle.line.proofs.geodetic_line.judge_geodetic.Reads as reads
-use Rattle.line.proofs.geodetic_line.judge_geodetic.Lts as lts
-use Rattle.angle.proofs.angles_fault.Reads as angles-fault-reads
 
--- src/geodetic_line.rt:41:9
 angles-fault-requires : tie.Need-angles-fault-requires
 angles-fault-requires c κs = search needs
 
--- src/geodetic_line.rt:38:1
 returns : tie.Need-returns
 returns c = let g = c .before .before .before .before .args .g in let a : toZ w64 (ofZ w64 (g .latitude)) ≡ g .latitude = search needs in let o : toZ w64 (ofZ w64 (g .longitude)) ≡ g .longitude = search needs in
     A.judge-none geodeticFault Geodetic Refused g _ (rw (a, o) at (c .before .angles-fault .ensures)) (c .if1 .taken)
 
--- src/geodetic_line.rt:38:1
 returns-2 : tie.Need-returns-2
 returns-2 c = let g = c .before .before .before .before .args .g in let a : toZ w64 (ofZ w64 (g .latitude)) ≡ g .latitude = search needs in let o : toZ w64 (ofZ w64 (g .longitude)) ≡ g .longitude = search needs in
     A.judge-some geodeticFault Geodetic Refused g _ (rw (a, o) at (c .before .angles-fault .ensures)) (c .if1 .left)

@@ -1,8 +1,5 @@
-use mathlib.Core.Path.{_≡_, refl, sym, ap, _∙_}
+use mathlib.Core.Path.{sym}
 use native.Mathlib.Omega.{arith}
-use mir.Syntax.{w64}
-use mir.Val.{toZ, ofZ}
-use Rattle.line.proofs.Walk as W
 use lib.Seq.{length-take-le}
 use Rattle.line.specs.Lines.{readGeodetic}
 use Rattle.line.proofs.Answers as A
@@ -10,43 +7,30 @@ use Rattle.line.proofs.Faults as F
 use borrow.Author.Needs.{needs}
 use Rattle.line.proofs.geodetic_line.read_geodetic.Statement.{statement}
 use Rattle.line.proofs.geodetic_line.read_geodetic.Tie as tie
-use Rattle.line.proofs.geodetic_line.read_geodetic.Reads as reads
-use Rattle.line.proofs.geodetic_line.read_geodetic.Lts as lts
-use Rattle.line.proofs.field.body_end.Reads as body-end-reads
-use Rattle.line.proofs.geodetic_line.geodetic_fields.Reads as geodetic-fields-reads
-use Rattle.line.proofs.geodetic_line.judge_geodetic.Reads as judge-geodetic-reads
 
--- src/geodetic_line.rt:53:9
 body-end-requires : tie.Need-body-end-requires
 body-end-requires c κs = search needs
 
--- src/geodetic_line.rt:55:13
 slice-aggregate-s : tie.Need-slice-aggregate-s
 slice-aggregate-s c = sym (length-take-le _ _ (omega arith))
 
--- src/geodetic_line.rt:56:13
 geodetic-fields-requires : tie.Need-geodetic-fields-requires
 geodetic-fields-requires c κs = search needs
 
--- src/geodetic_line.rt:57:22
 add-if2 : tie.Need-add-if2
 add-if2 c = search needs
 
--- src/geodetic_line.rt:59:13
 judge-geodetic-requires : tie.Need-judge-geodetic-requires
 judge-geodetic-requires c κs = search needs
 
--- src/geodetic_line.rt:59:13
 returns : tie.Need-returns
 unfolding readGeodetic
 returns c = A.good-form _ _ _ F.careful-geodetic _ _ _ (c .before .before .before .before .before .before .before .body-end .ensures) (omega arith) (c .before .before .before .before .geodetic-fields .ensures) _ (c .before .before .if2 .taken) (c .judge-geodetic .ensures)
 
--- src/geodetic_line.rt:50:1
 returns-2 : tie.Need-returns-2
 unfolding readGeodetic
 returns-2 c = A.bad-form _ _ _ F.careful-geodetic _ _ _ (c .before .before .before .before .before .body-end .ensures) (omega arith) (c .before .before .geodetic-fields .ensures) (c .if2 .left)
 
--- src/geodetic_line.rt:50:1
 returns-3 : tie.Need-returns-3
 unfolding readGeodetic
 returns-3 c = A.bad-frame _ _ _ F.careful-geodetic _ _ _ (c .before .body-end .ensures) (omega arith)

@@ -1,5 +1,4 @@
-use Prim.Native.Nat.{ℕ, _+_, _-_, _*_, _≤_, _<_}
-use mathlib.Core.Path.{_≡_, refl, sym, ap, _∙_}
+use mathlib.Core.Path.{_≡_, refl, sym, _∙_}
 use native.Mathlib.Omega.{arith}
 use borrow.Author.Tests.{not-true, not-false}
 use Rattle.line.specs.Reading.{Run, scaleOf}
@@ -7,10 +6,6 @@ use Rattle.line.proofs.Names as N
 use borrow.Author.Needs.{needs}
 use Rattle.line.proofs.name.eight.Statement.{statement}
 use Rattle.line.proofs.name.eight.Tie as tie
-use Rattle.line.proofs.name.eight.Reads as reads
-use Rattle.line.proofs.name.eight.Lts as lts
-use Rattle.line.proofs.name.is_name_byte.Reads as is-name-byte-reads
-use Rattle.line.proofs.name.wide.Reads as wide-reads
 
 abbrev Inv-loop : tie.InvT-loop
 Inv-loop s at value₀ scale₀ left₀ i₀ value scale left i = (Run s at value left i) × (scale ≡ scaleOf left)
@@ -18,55 +13,42 @@ Inv-loop s at value₀ scale₀ left₀ i₀ value scale left i = (Run s at valu
 abbrev μ-loop : tie.MeasureT-loop
 μ-loop s at value₀ scale₀ left₀ i₀ value scale left i = left
 
--- src/name.rt:53:5
 loop-holds : tie.Need-loop-holds Inv-loop μ-loop
 loop-holds c = (N.run-none _ _, refl)
 
--- src/name.rt:57:17
 shared-slice-read-b : tie.Need-shared-slice-read-b Inv-loop μ-loop
 shared-slice-read-b c = search needs
 
--- src/name.rt:58:13
 is-name-byte-requires : tie.Need-is-name-byte-requires Inv-loop μ-loop
 is-name-byte-requires c κs = search needs
 
--- src/name.rt:61:25
 wide-requires : tie.Need-wide-requires Inv-loop μ-loop
 wide-requires c κs = search needs
 
--- src/name.rt:61:25
 mul-value : tie.Need-mul-value Inv-loop μ-loop
 mul-value c = let k = c .before .before .before .before .before .before .loop in record { fits = N.product-fits (k .inv .0) (omega arith) (c .wide .result) (k .scale) (omega (arith, c .before .before .before .shared-slice-known2 .given (k .i))) (k .inv .1) }
 
--- src/name.rt:61:17
 add-value : tie.Need-add-value Inv-loop μ-loop
 add-value c = let k = c .before .before .before .before .before .before .loop in record { fits = N.sum-fits (k .inv .0) (omega arith) (c .wide .result) (k .scale) (omega (arith, c .before .before .before .shared-slice-known2 .given (k .i))) (k .inv .1) }
 
--- src/name.rt:63:16
 sub-left : tie.Need-sub-left Inv-loop μ-loop
 sub-left c = search needs
 
--- src/name.rt:64:13
 add-i : tie.Need-add-i Inv-loop μ-loop
 add-i c = search needs
 
--- src/name.rt:53:5
 loop-less : tie.Need-loop-less Inv-loop μ-loop
 loop-less c = omega arith
 
--- src/name.rt:53:5
 loop-again : tie.Need-loop-again Inv-loop μ-loop
 loop-again c = let k = c .before .before .before .before .before .before .loop in (N.run-more (k .inv .0) (omega arith) (c .wide .result) (k .scale) (omega arith) (sym (c .before .before .is-name-byte .ensures) ∙ not-false _ (c .before .if2 .left)) (c .wide .ensures) (omega (arith, c .before .before .before .shared-slice-known2 .given (k .i))) (k .inv .1), N.scale-next (k .inv .0) (omega arith) (k .scale) (k .inv .1))
 
--- src/name.rt:46:1
 returns : tie.Need-returns Inv-loop μ-loop
 returns c = let k = c .before .loop in record { left = k .left; run = k .inv .0; last = λ h. absurd (omega arith) }
 
--- src/name.rt:46:1
 returns-2 : tie.Need-returns-2 Inv-loop μ-loop
 returns-2 c = let k = c .before .before .loop in record { left = k .left; run = k .inv .0; last = λ h. N.past-off (c .before .before .before .before .args .s .now) (k .i) (omega arith) }
 
--- src/name.rt:46:1
 returns-3 : tie.Need-returns-3 Inv-loop μ-loop
 returns-3 c = let k = c .before .before .before .before .before .loop in record { left = k .left; run = k .inv .0; last = λ h. sym (c .before .is-name-byte .ensures) ∙ not-true _ (c .if2 .taken) }
 

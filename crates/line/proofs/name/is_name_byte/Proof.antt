@@ -1,29 +1,20 @@
-use mathlib.Core.Path.{_≡_, refl, sym, ap, _∙_}
 use native.Mathlib.Omega.{arith}
 use borrow.Author.Tests.{le-leb, lt-leb, eq-eqb, ne-eqb}
-use borrow.Author.Needs.{needs}
 use Rattle.line.proofs.name.is_name_byte.Statement.{statement}
 use Rattle.line.proofs.name.is_name_byte.Tie as tie
-use Rattle.line.proofs.name.is_name_byte.Reads as reads
-use Rattle.line.proofs.name.is_name_byte.Lts as lts
 
--- src/name.rt:31:9
 returns : tie.Need-returns
 returns c = rw (eq-eqb _ _ (c .if1 .taken))
 
--- src/name.rt:34:9
 returns-2 : tie.Need-returns-2
 returns-2 c = let b = c .before .before .args .b in rw (ne-eqb b 45 (c .before .if1 .left), lt-leb 48 b (c .if2 .taken), lt-leb 65 b (omega arith))
 
--- src/name.rt:37:9
 returns-3 : tie.Need-returns-3
 returns-3 c = rw (ne-eqb _ _ (c .before .before .if1 .left), le-leb _ _ (c .before .if2 .left), le-leb _ _ (c .if3 .taken))
 
--- src/name.rt:40:9
 returns-4 : tie.Need-returns-4
 returns-4 c = rw (ne-eqb _ _ (c .before .before .before .if1 .left), le-leb _ _ (c .before .before .if2 .left), lt-leb _ _ (c .before .if3 .left), lt-leb _ _ (c .if4 .taken))
 
--- src/name.rt:27:1
 returns-5 : tie.Need-returns-5
 returns-5 c = rw (ne-eqb _ _ (c .before .before .before .if1 .left), le-leb _ _ (c .before .before .if2 .left), lt-leb _ _ (c .before .if3 .left), le-leb _ _ (c .if4 .left))
 

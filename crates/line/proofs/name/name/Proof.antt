@@ -1,37 +1,25 @@
-use mathlib.Core.Path.{_≡_, refl, sym, ap, _∙_}
 use native.Mathlib.Omega.{arith}
 use Rattle.line.proofs.Walk as W
 use Rattle.line.proofs.Names as N
 use borrow.Author.Needs.{needs}
 use Rattle.line.proofs.name.name.Statement.{statement}
 use Rattle.line.proofs.name.name.Tie as tie
-use Rattle.line.proofs.name.name.Reads as reads
-use Rattle.line.proofs.name.name.Lts as lts
-use Rattle.line.proofs.field.closed.Reads as closed-reads
-use Rattle.line.proofs.field.nowhere.Reads as nowhere-reads
-use Rattle.line.proofs.name.eight.Reads as eight-reads
 
--- src/name.rt:72:9
 eight-requires : tie.Need-eight-requires
 eight-requires c κs = search needs
 
--- src/name.rt:73:9
 eight-requires-2 : tie.Need-eight-requires-2
 eight-requires-2 c κs = search needs
 
--- src/name.rt:76:9
 nowhere-requires : tie.Need-nowhere-requires
 nowhere-requires c κs = search needs
 
--- src/name.rt:78:9
 closed-requires : tie.Need-closed-requires
 closed-requires c κs = search needs
 
--- src/name.rt:69:1
 returns : tie.Need-returns
 returns c = let g = c .before .before .before .before .before .args in W.got-none (N.name-off (g .s .now) (g .at) (N.packed-none (c .before .before .before .eight .ensures) (let r = c .before .before .before .eight .ensures .run in let t = c .before .before .eight2 .ensures .run in omega (arith, r .place, t .place)))) (omega arith)
 
--- src/name.rt:69:1
 returns-2 : tie.Need-returns-2
 returns-2 c = N.name-got (c .before .before .before .eight .ensures) (c .before .before .eight2 .ensures) (c .closed .ensures) (c .before .if1 .left)
 

@@ -1,24 +1,14 @@
 use Rattle.line.proofs.Numbers as N
-use mathlib.Core.Path.{_≡_, refl, sym, ap, _∙_}
-use mathlib.Core.Logic.{⊎-elim}
-use native.Mathlib.Omega.{arith}
-use borrow.Author.Tests.{lt-ltb, le-ltb, le-leb, lt-leb, eq-eqb, ne-eqb}
-use Rattle.line.proofs.Walk as W
 use borrow.Author.Needs.{needs}
 use Rattle.line.proofs.number.below_zero.Statement.{statement}
 use Rattle.line.proofs.number.below_zero.Tie as tie
-use Rattle.line.proofs.number.below_zero.Reads as reads
-use Rattle.line.proofs.number.below_zero.Lts as lts
 
--- src/number.rt:118:10
 cast-result : tie.Need-cast-result
 cast-result c = search needs
 
--- src/number.rt:118:5
 sub-result : tie.Need-sub-result
 sub-result c = N.neg-fits _ (c .pre)
 
--- src/number.rt:114:1
 returns : tie.Need-returns
 returns c = N.neg-is _ (c .pre)
 

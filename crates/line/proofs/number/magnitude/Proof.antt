@@ -1,5 +1,4 @@
-use Prim.Native.Nat.{ℕ, _+_, _-_, _≤_, _<_}
-use mathlib.Core.Path.{_≡_, refl, sym, ap, _∙_}
+use Prim.Native.Nat.{ℕ, _-_, _≤_}
 use mathlib.Core.Logic.{⊎-elim}
 use native.Mathlib.Omega.{arith}
 use lib.ListN.{length}
@@ -9,12 +8,6 @@ use Rattle.line.proofs.Numbers as N
 use borrow.Author.Needs.{needs}
 use Rattle.line.proofs.number.magnitude.Statement.{statement}
 use Rattle.line.proofs.number.magnitude.Tie as tie
-use Rattle.line.proofs.number.magnitude.Reads as reads
-use Rattle.line.proofs.number.magnitude.Lts as lts
-use Rattle.line.proofs.field.closed.Reads as closed-reads
-use Rattle.line.proofs.number.at_most_cap.Reads as at-most-cap-reads
-use Rattle.line.proofs.number.rest.Reads as rest-reads
-use Rattle.line.proofs.number.wide.Reads as wide-reads
 
 abbrev Inv-loop : tie.InvT-loop
 Inv-loop s at first a₀ i₀ a i = (a ≤ 1000000000000000000) × ((v next : ℕ) → Got s capped (digits a) i v next → Got s capped (digits first) at v next)
@@ -22,59 +15,45 @@ Inv-loop s at first a₀ i₀ a i = (a ≤ 1000000000000000000) × ((v next : �
 abbrev μ-loop : tie.MeasureT-loop
 μ-loop s at first a₀ i₀ a i = length s - i
 
--- src/number.rt:67:5
 loop-holds : tie.Need-loop-holds Inv-loop μ-loop
 loop-holds c = search needs
 
--- src/number.rt:68:17
 shared-slice-read-b : tie.Need-shared-slice-read-b Inv-loop μ-loop
 shared-slice-read-b c = search needs
 
--- src/number.rt:78:23
 rest-requires : tie.Need-rest-requires Inv-loop μ-loop
 rest-requires c κs = search needs
 
--- src/number.rt:76:13
 returns : tie.Need-returns Inv-loop μ-loop
 returns c = record { got = c .before .before .before .before .before .before .loop .inv .1 _ _ (c .rest .ensures (c .before .before .before .before .before .before .loop .a) (omega arith)); small = omega arith }
 
--- src/number.rt:81:13
 mul-a : tie.Need-mul-a Inv-loop μ-loop
 mul-a c = search needs
 
--- src/number.rt:81:23
 wide-requires : tie.Need-wide-requires Inv-loop μ-loop
 wide-requires c κs = search needs
 
--- src/number.rt:81:23
 sub-a : tie.Need-sub-a Inv-loop μ-loop
 sub-a c = search needs
 
--- src/number.rt:81:13
 add-a : tie.Need-add-a Inv-loop μ-loop
 add-a c = search needs
 
--- src/number.rt:82:13
 add-i : tie.Need-add-i Inv-loop μ-loop
 add-i c = search needs
 
--- src/number.rt:67:5
 loop-less : tie.Need-loop-less Inv-loop μ-loop
 loop-less c = search needs
 
--- src/number.rt:67:5
 loop-again : tie.Need-loop-again Inv-loop μ-loop
 loop-again c = let k = c .before .before .before .before .before .before .loop in (omega arith, λ v n g. k .inv .1 v n (N.digit-on (k .a) _ g (omega arith) (omega arith) (omega arith) (omega arith)))
 
--- src/number.rt:85:16
 at-most-cap-requires : tie.Need-at-most-cap-requires Inv-loop μ-loop
 at-most-cap-requires c κs = search needs
 
--- src/number.rt:86:15
 closed-requires : tie.Need-closed-requires Inv-loop μ-loop
 closed-requires c κs = search needs
 
--- src/number.rt:61:1
 returns-2 : tie.Need-returns-2 Inv-loop μ-loop
 returns-2 c = let k = c .before .before .before .loop in record { got = k .inv .1 _ _ (N.digits-close (k .a) (c .closed .ensures) (c .before .at-most-cap .ensures) (λ l. ⊎-elim (λ w. absurd (omega arith)) (λ u. ⊎-elim (λ w. N.low (omega arith)) (λ w. N.high (omega arith)) u) (c .before .before .loop-test .came))); small = omega arith }
 

@@ -1,6 +1,6 @@
 use mir.Syntax.{w64}
 use mir.Val.{toZ, ofZ}
-use mathlib.Core.Path.{_≡_, refl, sym, ap, _∙_}
+use mathlib.Core.Path.{_≡_}
 use mathlib.Core.Logic.{⊎-elim}
 use native.Mathlib.Omega.{arith}
 use Rattle.line.proofs.Walk as W
@@ -8,55 +8,38 @@ use Rattle.line.proofs.Numbers as N
 use borrow.Author.Needs.{needs}
 use Rattle.line.proofs.number.number.Statement.{statement}
 use Rattle.line.proofs.number.number.Tie as tie
-use Rattle.line.proofs.number.number.Reads as reads
-use Rattle.line.proofs.number.number.Lts as lts
-use Rattle.line.proofs.field.nowhere.Reads as nowhere-reads
-use Rattle.line.proofs.number.above_zero.Reads as above-zero-reads
-use Rattle.line.proofs.number.below_zero.Reads as below-zero-reads
-use Rattle.line.proofs.number.unsigned.Reads as unsigned-reads
 
--- src/number.rt:135:19
 nowhere-requires : tie.Need-nowhere-requires
 nowhere-requires c κs = search needs
 
--- src/number.rt:133:9
 returns : tie.Need-returns
 returns c = let g = c .before .before .before .args in W.got-none (W.head-nothing (g .s .now) (g .at) _ (λ l. absurd (omega arith)) N.number-none) (omega arith)
 
--- src/number.rt:138:8
 shared-slice-read-if2 : tie.Need-shared-slice-read-if2
 shared-slice-read-if2 c = search needs
 
--- src/number.rt:139:29
 add-unsigned : tie.Need-add-unsigned
 add-unsigned c = search needs
 
--- src/number.rt:139:13
 unsigned-requires : tie.Need-unsigned-requires
 unsigned-requires c κs = search needs
 
--- src/number.rt:141:32
 nowhere-requires-2 : tie.Need-nowhere-requires-2
 nowhere-requires-2 c κs = search needs
 
--- src/number.rt:143:20
 below-zero-requires : tie.Need-below-zero-requires
 below-zero-requires c κs = search needs
 
--- src/number.rt:147:13
 unsigned-requires-2 : tie.Need-unsigned-requires-2
 unsigned-requires-2 c κs = search needs
 
--- src/number.rt:149:20
 above-zero-requires : tie.Need-above-zero-requires
 above-zero-requires c κs = search needs
 
--- src/number.rt:129:1
 returns-2 : tie.Need-returns-2
 returns-2 c = let g = c .before .before .before .before .before .before .before .args in let z = c .below-zero .result in let e : toZ w64 (ofZ w64 z) ≡ z = search needs in
     rw (e, c .below-zero .ensures) (N.below (omega arith) (c .before .before .unsigned .ensures .got) (c .before .before .before .if2 .taken) (λ q. ⊎-elim (λ w. omega arith) (λ w. absurd (omega arith)) (c .before .if3 .came)) (λ q. ⊎-elim (λ w. absurd (omega arith)) (λ w. w .1) (c .before .if3 .came)))
 
--- src/number.rt:129:1
 returns-3 : tie.Need-returns-3
 returns-3 c = let z = c .above-zero .result in let e : toZ w64 (ofZ w64 z) ≡ z = search needs in
     rw (e, c .above-zero .ensures) (N.above (omega arith) (c .before .unsigned2 .ensures .got) (c .before .before .if2 .left))

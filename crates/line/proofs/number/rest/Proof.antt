@@ -1,18 +1,11 @@
-use Prim.Native.Nat.{ℕ, _+_, _-_, _≤_, _<_}
+use Prim.Native.Nat.{ℕ, _-_}
 use lib.ListN.{length}
 use Rattle.line.specs.Reading.{Long}
 use Rattle.line.proofs.Numbers as N
-use mathlib.Core.Path.{_≡_, refl, sym, ap, _∙_}
-use mathlib.Core.Logic.{⊎-elim}
 use native.Mathlib.Omega.{arith}
-use borrow.Author.Tests.{lt-ltb, le-ltb, le-leb, lt-leb, eq-eqb, ne-eqb}
-use Rattle.line.proofs.Walk as W
 use borrow.Author.Needs.{needs}
 use Rattle.line.proofs.number.rest.Statement.{statement}
 use Rattle.line.proofs.number.rest.Tie as tie
-use Rattle.line.proofs.number.rest.Reads as reads
-use Rattle.line.proofs.number.rest.Lts as lts
-use Rattle.line.proofs.field.closed.Reads as closed-reads
 
 abbrev Inv-loop : tie.InvT-loop
 Inv-loop s at i₀ i = (next : ℕ) → Long s i next → Long s at next
@@ -20,51 +13,39 @@ Inv-loop s at i₀ i = (next : ℕ) → Long s i next → Long s at next
 abbrev μ-loop : tie.MeasureT-loop
 μ-loop s at i₀ i = length s - i
 
--- src/number.rt:48:5
 loop-holds : tie.Need-loop-holds Inv-loop μ-loop
 loop-holds c = search needs
 
--- src/number.rt:49:12
 shared-slice-read-if1 : tie.Need-shared-slice-read-if1 Inv-loop μ-loop
 shared-slice-read-if1 c = search needs
 
--- src/number.rt:50:13
 closed-requires : tie.Need-closed-requires Inv-loop μ-loop
 closed-requires c κs = search needs
 
--- src/number.rt:50:13
 returns : tie.Need-returns Inv-loop μ-loop
 returns c = c .before .before .before .before .loop .inv _ (N.long-close (c .closed .ensures) (λ l. N.low (c .before .if1 .taken)))
 
--- src/number.rt:52:19
 shared-slice-read-if2 : tie.Need-shared-slice-read-if2 Inv-loop μ-loop
 shared-slice-read-if2 c = search needs
 
--- src/number.rt:53:13
 closed-requires-2 : tie.Need-closed-requires-2 Inv-loop μ-loop
 closed-requires-2 c κs = search needs
 
--- src/number.rt:53:13
 returns-2 : tie.Need-returns-2 Inv-loop μ-loop
 returns-2 c = c .before .before .before .before .before .before .loop .inv _ (N.long-close (c .closed2 .ensures) (λ l. N.high (c .before .if2 .taken)))
 
--- src/number.rt:55:13
 add-i : tie.Need-add-i Inv-loop μ-loop
 add-i c = search needs
 
--- src/number.rt:48:5
 loop-less : tie.Need-loop-less Inv-loop μ-loop
 loop-less c = search needs
 
--- src/number.rt:48:5
 loop-again : tie.Need-loop-again Inv-loop μ-loop
 loop-again c = λ n long. c .before .before .before .before .before .loop .inv n (N.long-on _ (c .before .before .before .before .before .loop .i) (omega arith) (omega arith) (omega arith) n long)
 
--- src/number.rt:57:5
 closed-requires-3 : tie.Need-closed-requires-3 Inv-loop μ-loop
 closed-requires-3 c κs = search needs
 
--- src/number.rt:44:1
 returns-3 : tie.Need-returns-3 Inv-loop μ-loop
 returns-3 c = c .before .before .loop .inv _ (N.long-close (c .closed3 .ensures) (λ l. absurd (omega arith)))
 

@@ -1,27 +1,16 @@
-use mathlib.Core.Path.{_≡_, refl, sym, ap, _∙_}
-use native.Mathlib.Omega.{arith}
-use mir.Syntax.{w64}
-use mir.Val.{toZ, ofZ}
-use Rattle.line.proofs.Walk as W
 use Rattle.chain.specs.Faults.{pointFault}
 use Rattle.line.specs.declared.PointLine.the-variants.{Point, Refused}
 use Rattle.line.proofs.Answers as A
 use borrow.Author.Needs.{needs}
 use Rattle.line.proofs.point_line.judge_point.Statement.{statement}
 use Rattle.line.proofs.point_line.judge_point.Tie as tie
-use Rattle.line.proofs.point_line.judge_point.Reads as reads
-use Rattle.line.proofs.point_line.judge_point.Lts as lts
-use Rattle.chain.proofs.point_fault.Reads as point-fault-reads
 
--- src/point_line.rt:54:9
 point-fault-requires : tie.Need-point-fault-requires
 point-fault-requires c κs = search needs
 
--- src/point_line.rt:51:1
 returns : tie.Need-returns
 returns c = A.judge-none pointFault Point Refused (c .before .before .args .p) _ (c .before .point-fault .ensures) (c .if1 .taken)
 
--- src/point_line.rt:51:1
 returns-2 : tie.Need-returns-2
 returns-2 c = A.judge-some pointFault Point Refused (c .before .before .args .p) _ (c .before .point-fault .ensures) (c .if1 .left)
 

@@ -1,5 +1,4 @@
-use mathlib.Core.Path.{_≡_, refl, sym, ap, _∙_}
-use native.Mathlib.Omega.{arith}
+use mathlib.Core.Path.{_≡_, ap, _∙_}
 use mir.Syntax.{w64}
 use mir.Val.{toZ, ofZ}
 use Rattle.line.proofs.Walk as W
@@ -7,49 +6,34 @@ use Rattle.line.specs.Forms.{bursaWolfForm, conventionOf}
 use borrow.Author.Needs.{needs}
 use Rattle.line.proofs.step_line.bursa_wolf_fields.Statement.{statement}
 use Rattle.line.proofs.step_line.bursa_wolf_fields.Tie as tie
-use Rattle.line.proofs.step_line.bursa_wolf_fields.Reads as reads
-use Rattle.line.proofs.step_line.bursa_wolf_fields.Lts as lts
-use Rattle.line.proofs.number.number.Reads as number-reads
-use Rattle.line.proofs.step_line.convention_letter.Reads as convention-letter-reads
-use Rattle.line.proofs.step_line.convention_of.Reads as convention-of-reads
 
--- src/step_line.rt:107:9
 convention-letter-requires : tie.Need-convention-letter-requires
 convention-letter-requires c κs = search needs
 
--- src/step_line.rt:108:9
 number-requires : tie.Need-number-requires
 number-requires c κs = search needs
 
--- src/step_line.rt:109:9
 number-requires-2 : tie.Need-number-requires-2
 number-requires-2 c κs = search needs
 
--- src/step_line.rt:110:9
 number-requires-3 : tie.Need-number-requires-3
 number-requires-3 c κs = search needs
 
--- src/step_line.rt:111:9
 number-requires-4 : tie.Need-number-requires-4
 number-requires-4 c κs = search needs
 
--- src/step_line.rt:112:9
 number-requires-5 : tie.Need-number-requires-5
 number-requires-5 c κs = search needs
 
--- src/step_line.rt:113:9
 number-requires-6 : tie.Need-number-requires-6
 number-requires-6 c κs = search needs
 
--- src/step_line.rt:114:9
 number-requires-7 : tie.Need-number-requires-7
 number-requires-7 c κs = search needs
 
--- src/step_line.rt:115:9
 convention-of-requires : tie.Need-convention-of-requires
 convention-of-requires c κs = search needs
 
--- src/step_line.rt:104:1
 returns : tie.Need-returns
 unfolding bursaWolfForm
 returns c =

@@ -1,5 +1,4 @@
-use mathlib.Core.Path.{_≡_, refl, sym, ap, _∙_}
-use native.Mathlib.Omega.{arith}
+use mathlib.Core.Path.{_≡_, _∙_}
 use mir.Syntax.{w64}
 use mir.Val.{toZ, ofZ}
 use Rattle.line.proofs.Walk as W
@@ -7,42 +6,28 @@ use Rattle.line.specs.Forms.{stepForm, stepOf}
 use borrow.Author.Needs.{needs}
 use Rattle.line.proofs.step_line.step_fields.Statement.{statement}
 use Rattle.line.proofs.step_line.step_fields.Tie as tie
-use Rattle.line.proofs.step_line.step_fields.Reads as reads
-use Rattle.line.proofs.step_line.step_fields.Lts as lts
-use Rattle.line.proofs.field.letter.Reads as letter-reads
-use Rattle.line.proofs.number.number.Reads as number-reads
-use Rattle.line.proofs.step_line.kind_fields.Reads as kind-fields-reads
-use Rattle.line.proofs.step_line.kind_letter.Reads as kind-letter-reads
 
--- src/step_line.rt:154:9
 letter-requires : tie.Need-letter-requires
 letter-requires c κs = search needs
 
--- src/step_line.rt:155:9
 kind-letter-requires : tie.Need-kind-letter-requires
 kind-letter-requires c κs = search needs
 
--- src/step_line.rt:156:9
 number-requires : tie.Need-number-requires
 number-requires c κs = search needs
 
--- src/step_line.rt:157:9
 number-requires-2 : tie.Need-number-requires-2
 number-requires-2 c κs = search needs
 
--- src/step_line.rt:158:9
 number-requires-3 : tie.Need-number-requires-3
 number-requires-3 c κs = search needs
 
--- src/step_line.rt:159:9
 number-requires-4 : tie.Need-number-requires-4
 number-requires-4 c κs = search needs
 
--- src/step_line.rt:160:9
 kind-fields-requires : tie.Need-kind-fields-requires
 kind-fields-requires c κs = search needs
 
--- src/step_line.rt:151:1
 returns : tie.Need-returns
 unfolding stepForm
 returns c =

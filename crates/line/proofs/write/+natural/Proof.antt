@@ -1,9 +1,6 @@
-use Prim.Native.Nat.{ℕ, _+_, _-_, _≤_, _<_}
-use mathlib.Core.Path.{_≡_, refl, sym, ap, _∙_}
-use mathlib.Core.List.{List, [], _∷_, _++_}
+use Prim.Native.Nat.{ℕ, _<_}
+use mathlib.Core.Path.{_∙_}
 use native.Mathlib.Omega.{arith}
-use lib.ListN.{length}
-use borrow.Author.Tests.{eq-eqb, ne-eqb}
 use Rattle.line.proofs.Texts as T
 use borrow.Author.Needs.{needs}
 use borrow.Fn.Kinds.{In}
@@ -25,7 +22,6 @@ natural-at t = and 1 natural-kinds.ps (is 1 natural-kinds.ps μ-natural t) natur
 abbrev natural-below : ℕ → In 1 natural-kinds.ps
 natural-below t = and 1 natural-kinds.ps (falls 1 natural-kinds.ps _<_ μ-natural t) natural.Pre
 
--- src/write.rt:73:9
 natural-short-requires : (t : ℕ) → natural-lts.Need-short-requires (
   short-reads.Asked,
   short-reads.Learnt,
@@ -36,7 +32,6 @@ natural-short-requires : (t : ℕ) → natural-lts.Need-short-requires (
 ) (natural-at t) natural.Post
 natural-short-requires t c κs = omega arith
 
--- src/write.rt:75:13
 natural-natural-requires : (t : ℕ) → natural-lts.Need-natural-requires (
   short-reads.Asked,
   short-reads.Learnt,
@@ -47,7 +42,6 @@ natural-natural-requires : (t : ℕ) → natural-lts.Need-natural-requires (
 ) (natural-at t) natural.Post
 natural-natural-requires t c κs = omega arith
 
--- src/write.rt:76:9
 natural-six-digits-requires : (t : ℕ) → natural-lts.Need-six-digits-requires (
   short-reads.Asked,
   short-reads.Learnt,
@@ -58,7 +52,6 @@ natural-six-digits-requires : (t : ℕ) → natural-lts.Need-six-digits-requires
 ) (natural-at t) natural.Post
 natural-six-digits-requires t c κs = search needs
 
--- src/write.rt:69:1
 natural-same-length : (t : ℕ) → natural-lts.Need-same-length (
   short-reads.Asked,
   short-reads.Learnt,
@@ -69,7 +62,6 @@ natural-same-length : (t : ℕ) → natural-lts.Need-same-length (
 ) (natural-at t) natural.Post
 natural-same-length t c = c .before .before .short .kept .0
 
--- src/write.rt:69:1
 natural-returns : (t : ℕ) → natural-lts.Need-returns (
   short-reads.Asked,
   short-reads.Learnt,
@@ -80,7 +72,6 @@ natural-returns : (t : ℕ) → natural-lts.Need-returns (
 ) (natural-at t) natural.Post
 natural-returns t c = c .before .before .short .ensures
 
--- src/write.rt:69:1
 natural-same-length-2 : (t : ℕ) → natural-lts.Need-same-length-2 (
   short-reads.Asked,
   short-reads.Learnt,
@@ -91,7 +82,6 @@ natural-same-length-2 : (t : ℕ) → natural-lts.Need-same-length-2 (
 ) (natural-at t) natural.Post
 natural-same-length-2 t c = c .before .before .six-digits .kept .0 ∙ c .before .before .before .before .before .before .natural .kept .0
 
--- src/write.rt:69:1
 natural-returns-2 : (t : ℕ) → natural-lts.Need-returns-2 (
   short-reads.Asked,
   short-reads.Learnt,

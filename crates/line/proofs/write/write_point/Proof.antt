@@ -1,58 +1,38 @@
 use mir.Syntax.{w64}
 use mir.Val.{toZ, ofZ}
-use lib.IntN.{ℤ}
-use Prim.Native.Nat.{ℕ, _+_, _-_, _≤_, _<_}
-use mathlib.Core.Path.{_≡_, refl, sym, ap, _∙_}
-use mathlib.Core.List.{List, [], _∷_, _++_, append-assoc}
-use native.Mathlib.Omega.{arith}
-use lib.ListN.{length}
+use mathlib.Core.Path.{_≡_, _∙_}
 use Rattle.line.proofs.Texts as T
 use borrow.Author.Needs.{needs}
 use Rattle.line.proofs.write.write_point.Statement.{statement}
 use Rattle.line.proofs.write.write_point.Tie as tie
-use Rattle.line.proofs.write.write_point.Reads as reads
-use Rattle.line.proofs.write.write_point.Lts as lts
-use Rattle.line.proofs.write.letter.Reads as letter-reads
-use Rattle.line.proofs.write.name.Reads as name-reads
-use Rattle.line.proofs.write.whole.Reads as whole-reads
 
--- src/write.rt:145:9
 letter-requires : tie.Need-letter-requires
 letter-requires c κs = search needs
 
--- src/write.rt:146:9
 name-requires : tie.Need-name-requires
 name-requires c κs = search needs
 
--- src/write.rt:147:9
 whole-requires : tie.Need-whole-requires
 whole-requires c κs = search needs
 
--- src/write.rt:148:9
 whole-requires-2 : tie.Need-whole-requires-2
 whole-requires-2 c κs = search needs
 
--- src/write.rt:149:9
 whole-requires-3 : tie.Need-whole-requires-3
 whole-requires-3 c κs = search needs
 
--- src/write.rt:150:9
 whole-requires-4 : tie.Need-whole-requires-4
 whole-requires-4 c κs = search needs
 
--- src/write.rt:151:9
 whole-requires-5 : tie.Need-whole-requires-5
 whole-requires-5 c κs = search needs
 
--- src/write.rt:152:5
 whole-requires-6 : tie.Need-whole-requires-6
 whole-requires-6 c κs = search needs
 
--- src/write.rt:142:1
 same-length : tie.Need-same-length
 same-length c = c .before .before .whole6 .kept .0 ∙ c .before .before .before .before .before .before .before .whole5 .kept .0 ∙ c .before .before .before .before .before .before .before .before .before .before .before .before .whole4 .kept .0 ∙ c .before .before .before .before .before .before .before .before .before .before .before .before .before .before .before .before .before .whole3 .kept .0 ∙ c .before .before .before .before .before .before .before .before .before .before .before .before .before .before .before .before .before .before .before .before .before .before .whole2 .kept .0 ∙ c .before .before .before .before .before .before .before .before .before .before .before .before .before .before .before .before .before .before .before .before .before .before .before .before .before .before .before .whole .kept .0 ∙ c .before .before .before .before .before .before .before .before .before .before .before .before .before .before .before .before .before .before .before .before .before .before .before .before .before .before .before .before .before .before .before .before .name .kept .0 ∙ c .before .before .before .before .before .before .before .before .before .before .before .before .before .before .before .before .before .before .before .before .before .before .before .before .before .before .before .before .before .before .before .before .before .before .before .before .letter .kept .0
 
--- src/write.rt:142:1
 returns : tie.Need-returns
 returns c = let p = c .before .before .before .before .before .before .before .before .before .before .before .before .before .before .before .before .before .before .before .before .before .before .before .before .before .before .before .before .before .before .before .before .before .before .before .before .before .before .before .args .p in
     let e0 : toZ w64 (ofZ w64 (p .issue)) ≡ p .issue = search needs in

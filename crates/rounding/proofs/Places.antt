@@ -13,7 +13,8 @@ use lib.Ieee.{Float, nan, inf, fin, binary64, up, down, ofBits}
 use lib.Ieee.Fits.{down-pos}
 use Rattle.refusal.specs.Numbers.{range, size}
 use Rattle.refusal.specs.Order.{pick}
-use Rattle.rounding.specs.Decimals.{Nearest, gap, halfUp, signed, tooLarge, wholeOf, answer, roundedOf}
+use Rattle.rounding.specs.Quotient.{halfUp}
+use Rattle.rounding.specs.Decimals.{Nearest, gap, signed, tooLarge, wholeOf, answer, roundedOf}
 use Rattle.rounding.specs.declared.decimals.Rounded.{Rounded}
 use Rattle.rounding.specs.declared.decimals.Rounded.the-variants.{Whole, Refused}
 

@@ -7,6 +7,7 @@ use lib.Dec.{leb, ltb}
 use lib.Ieee.{Float, nan, inf, fin, up, down}
 use Rattle.refusal.specs.Numbers.{range, size}
 use Rattle.refusal.specs.Order.{_gives_, first}
+use Rattle.rounding.specs.Quotient.{halfUp}
 use Rattle.rounding.specs.declared.decimals.Rounded.{Rounded}
 use Rattle.rounding.specs.declared.decimals.Rounded.the-variants.{Whole, Refused}
 
@@ -18,10 +19,6 @@ pub record Nearest (num den r : ℕ) : Type 0 where
 -- how far apart two numbers are
 abbrev pub gap : ℕ → ℕ → ℕ
 gap a b = (a - b) + (b - a)
-
--- the whole number nearest to num / den, and the upper one where two are as near
-unfoldable pub halfUp : ℕ → ℕ → ℕ
-halfUp num den = (2 * num + den) / (2 * den)
 
 -- the magnitude n with the sign s: half up of the magnitude is half away from zero, and both zeros give 0
 abbrev pub signed : Bool → ℕ → ℤ

@@ -7,7 +7,7 @@ use native.Mathlib.Omega.{arith}
 use lib.Dec.{lit<}
 use lib.Pow.{pow-add, pow-pos, pow-mono, pow-lt, shl-exact, shr-lt}
 use lib.Ieee.Nearest.{div-same}
-use Rattle.rounding.specs.Decimals.{halfUp}
+use Rattle.rounding.specs.Quotient.{halfUp}
 
 pub le-mul : {a b c d : ℕ} → a ≤ c → b ≤ d → a * b ≤ c * d
 le-mul {a} {b} {c} {d} p q = le-trans (mul-le-mul-left a q) (mul-le-mul-right d p)

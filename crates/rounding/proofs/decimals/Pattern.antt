@@ -18,7 +18,8 @@ use lib.Ieee.Fits.{down-pos}
 use lib.Ieee.Bits.{ofBits-toBits}
 use lib.Ieee.Exact.{HasValue, odd-sign}
 use borrow.Author.Tests.{lt-ltb, le-leb, lt-leb, ltb-false}
-use Rattle.rounding.specs.Decimals.{halfUp, signed, tooLarge, wholeOf}
+use Rattle.rounding.specs.Decimals.{signed, tooLarge, wholeOf}
+use Rattle.rounding.specs.Quotient.{halfUp}
 use Rattle.rounding.proofs.decimals.Halves.{half-same, half-none, le-mul}
 
 -- 10,000,000 as MIR has it, by its bit pattern, and as a number

@@ -14,7 +14,8 @@ use mir.Syntax.{w64}
 use mir.Val.{toZ}
 use mir.ValLaws.{toZ-pos}
 use Rattle.refusal.specs.Numbers.{size}
-use Rattle.rounding.specs.Decimals.{halfUp, signed, tooLarge, wholeOf, roundedOf}
+use Rattle.rounding.specs.Decimals.{signed, tooLarge, wholeOf, roundedOf}
+use Rattle.rounding.specs.Quotient.{halfUp}
 use Rattle.rounding.specs.declared.decimals.Rounded.{Rounded}
 use Rattle.rounding.specs.declared.decimals.Rounded.the-variants.{Whole, Refused}
 use Rattle.rounding.proofs.Places.{few, refused}

@@ -3,20 +3,20 @@ ghost use mathlib.Core.Path.{_≡_};
 ghost use Rattle.angle.specs.Ranges.{outside, originFault, anglesFault};
 use crate::OriginNumbers;
 
-pub const LATITUDE_LOW: i64 = 0;
+const LATITUDE_LOW: i64 = 0;
 
-pub const LATITUDE_HIGH: i64 = 2880000000;
+const LATITUDE_HIGH: i64 = 2880000000;
 
-pub const LONGITUDE_LOW: i64 = 35640000000;
+const LONGITUDE_LOW: i64 = 35640000000;
 
-pub const LONGITUDE_HIGH: i64 = 43200000000;
+const LONGITUDE_HIGH: i64 = 43200000000;
 
 const FALSE_LOW: i64 = -2000000000;
 
 const FALSE_HIGH: i64 = 2000000000;
 
 // Whether z is not from low to high. Both ends are inside.
-fn is_outside(z: i64, low: i64, high: i64) -> bool
+pub fn is_outside(z: i64, low: i64, high: i64) -> bool
     ensures { λ r. ⌜ r ≡ outside low high z ⌝ }
 {
     if z < low {

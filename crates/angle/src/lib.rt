@@ -1,14 +1,31 @@
 // Angles to metres in f64: geodetic to Cartesian, and the Cassini-Soldner grid. Latitudes and longitudes are whole units of 0.00001",
 // heights whole units of 0.00001 m, false eastings and northings whole millimetres. Every call answers for every input.
+mod ellipsoids;
 mod faults;
+mod geodetic;
+mod projection;
+mod series;
 
 pub use faults::angles_fault;
 pub use faults::origin_fault;
+pub use geodetic::cartesian_metres;
+pub use geodetic::cartesian_units;
+pub use projection::cassini;
+pub use projection::cassini_from;
+pub use projection::cassini_millimetres;
+pub use projection::cassini_millimetres_from;
+pub use projection::make_origin;
 
 // An ellipsoid: the semi-major axis in metres, and the first eccentricity squared.
 pub struct Ellipsoid {
     pub a: f64,
     pub e2: f64,
+}
+
+// A row of the table of ellipsoids: the semi-major axis in metres, and 1/f.
+struct Figure {
+    a: f64,
+    inverse_flattening: f64,
 }
 
 // A state origin as it is written: the ellipsoid's code (1 to 4), its latitude and longitude, its false easting and northing.

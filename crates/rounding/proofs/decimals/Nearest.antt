@@ -47,6 +47,15 @@ closest num den r q n = go (ltb q r) (ltb r q) refl refl
     go false true e f = above (ltb-true r q f)
     go false false e f = let s : q ≡ r = omega (arith, ltb-false q r e, ltb-false r q f) in rw s (le-refl _)
 
+-- 0 to 5 places: the size decides
+pub few : (x : Float) (p : ℕ) → p ≤ 5 → tooLarge x ≡ false → roundedOf x p ≡ Whole (wholeOf x p)
+unfolding roundedOf
+few x p h k = rw (le-ltb 5 p h, k)
+
+pub refused : (x : Float) (p : ℕ) → p ≤ 5 → tooLarge x ≡ true → roundedOf x p ≡ Refused size
+unfolding roundedOf
+refused x p h k = rw (le-ltb 5 p h, k)
+
 -- a whole answer is the value rounded
 kept : (a b : Bool) (v z : ℤ) → answer (pick a range (pick b size 0)) v ≡ Whole z → z ≡ v
 kept true b v z h = cc
@@ -63,8 +72,8 @@ module _ (s : Bool) (m : ℕ) (e : ℤ) (p : ℕ) where
   answers z h = (halfUp num (down e), kept (ltb 5 p) (tooLarge (fin s m e)) (signed s (halfUp num (down e))) z h, is-nearest num (down e) (down-pos e))
 
   pub only : (r : ℕ) → p ≤ 5 → m * up e < 10000000 * down e → Nearest num (down e) r → roundedOf (fin s m e) p ≡ Whole (signed s r)
-  unfolding roundedOf tooLarge wholeOf
-  only r h k n = rw (le-ltb 5 p h, lt-leb (10000000 * down e) (m * up e) k, only-nearest num (down e) r (down-pos e) n)
+  unfolding tooLarge wholeOf
+  only r h k n = few (fin s m e) p h (lt-leb (10000000 * down e) (m * up e) k) ∙ ap (λ (i : ℕ). Whole (signed s i)) (only-nearest num (down e) r (down-pos e) n)
 
 -- ---- worked values
 record Value : Type 0 where
@@ -104,5 +113,5 @@ unfolding roundedOf tooLarge wholeOf halfUp ofBits
 worked = refl
 
 not-a-number : (p : ℕ) → p ≤ 5 → roundedOf nan p ≡ Refused size
-unfolding roundedOf tooLarge
-not-a-number p h = rw (le-ltb 5 p h)
+unfolding tooLarge
+not-a-number p h = refused nan p h refl

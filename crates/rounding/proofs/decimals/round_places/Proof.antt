@@ -17,6 +17,7 @@ use Rattle.refusal.specs.Numbers.{size}
 use Rattle.rounding.specs.Decimals.{halfUp, signed, tooLarge, wholeOf, roundedOf}
 use Rattle.rounding.specs.declared.decimals.Rounded.{Rounded}
 use Rattle.rounding.specs.declared.decimals.Rounded.the-variants.{Whole, Refused}
+use Rattle.rounding.proofs.decimals.Nearest.{few, refused}
 use Rattle.rounding.proofs.decimals.Pattern.{Small, small, no-nan, over, under, not-large, bits-of, field-of, digits-of, field-most, middle, tiny, table, tens, ten-le, in-table, neg-fits, negated}
 use Rattle.rounding.proofs.decimals.round_places.Statement.{statement}
 use Rattle.rounding.proofs.decimals.round_places.Tie as tie
@@ -28,15 +29,6 @@ held c = subst T (sym (c .good .0 .1)) tt
 -- what the two tests tell
 in-range : (c : tie.Then3) → Small (c .before .before .before .args .x)
 in-range c = small (c .before .before .before .args .x) (c .before .if2 .taken) (c .if3 .taken)
-
--- 0 to 5 places: the size decides
-few : (x : Float) (p : ℕ) → p ≤ 5 → tooLarge x ≡ false → Whole (wholeOf x p) ≡ roundedOf x p
-unfolding roundedOf
-few x p h k = rw (le-ltb 5 p h, k)
-
-refused : (x : Float) (p : ℕ) → p ≤ 5 → tooLarge x ≡ true → Refused size ≡ roundedOf x p
-unfolding roundedOf
-refused x p h k = rw (le-ltb 5 p h, k)
 
 returns : tie.Need-returns
 unfolding roundedOf
@@ -50,7 +42,7 @@ returns-2 c =
     let a = c .before .before .before .before in
     let p : a .args .places ≤ 5 = c .before .before .before .if1 .left in
     ap Whole (sym (tiny (a .args .x) (held a) (in-range (c .before)) (a .args .places) (ten-le (a .args .places) p) (c .if4 .taken)))
-    ∙ few (a .args .x) (a .args .places) p (not-large (a .args .x) (in-range (c .before)))
+    ∙ sym (few (a .args .x) (a .args .places) p (not-large (a .args .x) (in-range (c .before))))
 
 add-scaled : tie.Need-add-scaled
 add-scaled c = search needs
@@ -88,7 +80,7 @@ sized c =
     let s = leb 9223372036854775808 (bits-of x) in
     ap (λ (n : ℕ). Whole (signed s n)) (c .scaled .ensures .0 ∙ ap (λ (g : ℕ). halfUp ((4503599627370496 + digits-of x) * g) (2 ^ (1075 - field-of x))) (tens p l))
     ∙ ap Whole (sym (middle x (held a) (in-range (c .before .before)) p (c .before .if4 .left)))
-    ∙ few x p l (not-large x (in-range (c .before .before)))
+    ∙ sym (few x p l (not-large x (in-range (c .before .before))))
 
 returns-3 : tie.Need-returns-3
 returns-3 c =
@@ -108,12 +100,12 @@ returns-4 c =
 returns-5 : tie.Need-returns-5
 returns-5 c =
     let a = c .before .before .before in
-    refused (a .args .x) (a .args .places) (c .before .before .if1 .left) (under (a .args .x) (c .if3 .left))
+    sym (refused (a .args .x) (a .args .places) (c .before .before .if1 .left) (under (a .args .x) (c .if3 .left)))
 
 returns-6 : tie.Need-returns-6
 returns-6 c =
     let a = c .before .before in
-    refused (a .args .x) (a .args .places) (c .before .if1 .left) (over (a .args .x) (c .if2 .left))
+    sym (refused (a .args .x) (a .args .places) (c .before .if1 .left) (over (a .args .x) (c .if2 .left)))
 
 pub round-places-spec : {M : Type 1} → statement M
 round-places-spec =

@@ -1,0 +1,269 @@
+-- No NaN and no infinity: for every input that is not refused, every f64 answer is finite and within a stated bound. The bounds are below 10,000,000 m, so the
+-- calls in whole units never refuse a point that the calls in metres answer. Assumes nothing.
+use mathlib.Core.Path.{_≡_, refl, sym, ap, ap₂, _∙_, subst}
+use mathlib.Core.List.{List, [], _∷_}
+use mathlib.Core.Bool.{Bool, true, false}
+use Prim.Native.Nat.{ℕ, zero, suc, _+_, _-_, _*_, _≤_, _<_}
+use native.Mathlib.Nat.{mul-le-mul-right}
+use native.Mathlib.Omega.{arith}
+use borrow.Author.Tests.{lt-leb}
+use lib.Dec.{T, lit≤, lit<}
+use lib.IntN.{ℤ, pos, negsuc, _-ℤ_}
+use lib.Ieee.{Float, nan, inf, fin, binary64, round, neg, sub, div, up, down}
+use lib.Ieee.Fits.{down-pos}
+use lib.Ieee.Scale.{finite}
+use lib.Ieee.Positive.{num, den}
+use Rattle.refusal.specs.Order.{first}
+use Rattle.rounding.specs.Decimals.{tooLarge, wholeOf, roundedOf}
+use Rattle.rounding.specs.declared.decimals.Rounded.the-variants.{Whole}
+use Rattle.rounding.proofs.decimals.Nearest.{few}
+use Rattle.bounds.specs.Among.{Ends, Among, is-finite, neg-among}
+use Rattle.bounds.specs.Formula.{var, lit, plus, minus, times, over, All, none, also, value, bounds, test, proved}
+use Rattle.bounds.specs.Zero.{wholes, Upto}
+use Rattle.angle.specs.Floats.{near, #, whole, k, radians, metres, unless}
+use Rattle.angle.specs.Ranges.{cartesianTests, originTests, pointTests, cassiniTests}
+use Rattle.angle.specs.Series.{reciprocal, sineOf, cosineOf}
+use Rattle.angle.specs.Ellipsoids.{ellipsoidOf, primeVertical, meridianArc}
+use Rattle.angle.specs.Cartesian.{cartesianAt, cartesianOf, three, inUnits, cartesianUnitsOf}
+use Rattle.angle.specs.Cassini.{originMade, cassiniWith, cassiniAt, cassiniOf, two, inMillimetres, cassiniMillimetresOf}
+use Rattle.angle.specs.declared.Ellipsoid.{Ellipsoid}
+use Rattle.angle.specs.declared.Origin.{Origin}
+use Rattle.angle.specs.declared.OriginNumbers.{OriginNumbers}
+use Rattle.angle.specs.declared.Cartesian.{Cartesian}
+use Rattle.angle.specs.declared.Cartesian.the-variants as cartesian
+use Rattle.angle.specs.declared.CartesianUnits.the-variants.{Units}
+use Rattle.angle.specs.declared.Grid.{Grid}
+use Rattle.angle.specs.declared.Grid.the-variants as grid
+use Rattle.angle.specs.declared.GridMillimetres.the-variants.{Millimetres}
+use Rattle.angle.proofs.Orders.{Passed, passed}
+use Rattle.angle.proofs.Formulas.{sineF, cosineF, eastF, northF, axisF, polarF}
+use Rattle.angle.proofs.Sizes.{from, most, Shaped, shaped, radians-among, parts-among, sine-among, cosine-among, sine-latitude, cosine-latitude, radius-among, arc-among, metres-among}
+use Rattle.angle.proofs.Wholes.{Natural, natural, natural-upto, upto, sub-pos}
+
+-- what is not refused passed every test
+given : {A : Type 0} (f : ℕ) (r : ℕ → A) (a : A) (P : A → Type 0) → ((i : ℕ) → P (r i)) → (f ≡ 0 → P a) → P (unless f r a)
+given zero r a P R A = A refl
+given (suc f) r a P R A = R (suc f)
+
+-- ---- geodetic to Cartesian: |X| at most 3,700,000 m, |Y| at most 7,500,000 m, |Z| at most 1,000,000 m
+abbrev pub CartesianBounded : Cartesian → Type 0
+CartesianBounded (cartesian.Metres x y z) = Among x (most 3700000 1) × Among y (most 7500000 1) × Among z (most 1000000 1)
+CartesianBounded (cartesian.Refused i) = Unit {0}
+
+-- a longitude past 90 degrees: up to 0.53
+past-finite : T (finite (round binary64 false 10800000000 1))
+unfolding round
+past-finite = tt
+
+past-test : T (test (bounds (wholes 0 10800000000 ∷ []) (times (var 0) (lit k))) (most 53 100))
+unfolding test bounds near k
+past-test = tt
+
+sine-test : T (test (bounds (most 53 100 ∷ []) (sineF (var 0))) (most 56 100))
+unfolding test bounds near reciprocal neg div
+sine-test = tt
+
+cosine-test : T (test (bounds (most 53 100 ∷ []) (cosineF (var 0))) (most 115 100))
+unfolding test bounds near reciprocal neg div
+cosine-test = tt
+
+height-finite : T (finite (round binary64 false 900000000 1))
+unfolding round
+height-finite = tt
+
+height-test : T (test (bounds (wholes 0 900000000 ∷ []) (over (var 0) (lit (# 100000)))) (most 9000 1))
+unfolding test bounds near
+height-test = tt
+
+-- e2, the radius, the height, the latitude's sine and cosine, the longitude's cosine and sine
+abbrev space : List Ends
+space = from 1 256 1 128 ∷ most 6379000 1 ∷ most 9000 1 ∷ most 3 20 ∷ from 98 100 102 100 ∷ most 56 100 ∷ most 115 100 ∷ []
+
+x-test : T (test (bounds space (axisF (var 5))) (most 3700000 1))
+unfolding test bounds near
+x-test = tt
+
+y-test : T (test (bounds space (axisF (var 6))) (most 7500000 1))
+unfolding test bounds near
+y-test = tt
+
+z-test : T (test (bounds space polarF) (most 1000000 1))
+unfolding test bounds near
+z-test = tt
+
+module _ (code lat lon h : ℤ) (p : Passed (cartesianTests code lat lon h)) where
+  abbrev e : Ellipsoid
+  e = ellipsoidOf code
+
+  E : Shaped e
+  E = shaped code (p .0)
+
+  latitude : Upto 2880000000 lat
+  latitude = natural-upto (natural 0 2880000000 lat (p .1 .0))
+
+  abbrev w : Float
+  w = radians (lon -ℤ pos 32400000000)
+
+  past : Among w (most 53 100)
+  past =
+      let l = natural 35640000000 43200000000 lon (p .1 .1 .0) in
+      let a = l .low in
+      let b = l .high in
+      let d : lon -ℤ pos 32400000000 ≡ pos (l .n - 32400000000) = ap (λ (z : ℤ). z -ℤ pos 32400000000) (l .is) ∙ sub-pos (l .n) 32400000000 (omega arith) in
+      radians-among 10800000000 (most 53 100) (lon -ℤ pos 32400000000) past-finite past-test (subst (λ (z : ℤ). Upto 10800000000 z) (sym d) (omega arith))
+
+  height : Among (div binary64 (whole h) (# 100000)) (most 9000 1)
+  height = parts-among 900000000 100000 (most 9000 1) h height-finite height-test (upto 900000000 49999999 900000000 h (lit≤ tt) (lit≤ tt) (p .1 .1 .1 .0))
+
+  all : All (e .e2 ∷ primeVertical e (sineOf (radians lat)) ∷ div binary64 (whole h) (# 100000) ∷ sineOf (radians lat) ∷ cosineOf (radians lat) ∷ neg (sineOf w) ∷ cosineOf w ∷ []) space
+  all =
+      also (E .flat)
+      (also (radius-among e lat E latitude)
+      (also height
+      (also (sine-latitude e lat E latitude)
+      (also (cosine-latitude e lat E latitude)
+      (also (neg-among (sine-among (most 53 100) (most 56 100) sine-test past)) (also (cosine-among (most 53 100) (most 115 100) cosine-test past) none))))))
+
+  position-bounded : CartesianBounded (cartesianAt e lat lon h)
+  unfolding value cartesianAt
+  position-bounded = (proved all (axisF (var 5)) (most 3700000 1) x-test, proved all (axisF (var 6)) (most 7500000 1) y-test, proved all polarF (most 1000000 1) z-test)
+
+pub cartesian-bounded : (code lat lon h : ℤ) → CartesianBounded (cartesianOf code lat lon h)
+unfolding cartesianOf
+cartesian-bounded code lat lon h =
+    given (first (cartesianTests code lat lon h)) cartesian.Refused (cartesianAt (ellipsoidOf code) lat lon h) CartesianBounded (λ i. tt)
+    (λ (z : first (cartesianTests code lat lon h) ≡ 0). position-bounded code lat lon h (passed (cartesianTests code lat lon h) tt z))
+
+-- ---- Cassini: |E| at most 2,500,000 m, |N| at most 3,900,000 m
+abbrev pub GridBounded : Grid → Type 0
+GridBounded (grid.Metres x y) = Among x (most 2500000 1) × Among y (most 3900000 1)
+GridBounded (grid.Refused i) = Unit {0}
+
+difference-finite : T (finite (round binary64 false 1440000000 1))
+unfolding round
+difference-finite = tt
+
+difference-test : T (test (bounds (wholes 0 1440000000 ∷ []) (times (var 0) (lit k))) (most 7 100))
+unfolding test bounds near k
+difference-test = tt
+
+arcs-test : T (test (bounds (most 910000 1 ∷ most 910000 1 ∷ []) (minus (var 0) (var 1))) (most 1820000 1))
+unfolding test bounds near
+arcs-test = tt
+
+-- e2, the latitude's sine and cosine, the radius, the difference of longitudes, that of the arcs, and the false easting or northing
+abbrev plane : List Ends
+plane = from 1 256 1 128 ∷ most 3 20 ∷ from 98 100 102 100 ∷ most 6379000 1 ∷ most 7 100 ∷ most 1820000 1 ∷ most 2000000 1 ∷ []
+
+east-test : T (test (bounds plane (plus (var 6) eastF)) (most 2500000 1))
+unfolding test bounds near
+east-test = tt
+
+north-test : T (test (bounds plane (plus (var 6) northF)) (most 3900000 1))
+unfolding test bounds near
+north-test = tt
+
+module _ (o : OriginNumbers) (lat lon : ℤ) (p : Passed (originTests o)) (q : Passed (pointTests (o .longitude) lat lon)) where
+  abbrev g : Ellipsoid
+  g = ellipsoidOf (o .ellipsoid)
+
+  G : Shaped g
+  G = shaped (o .ellipsoid) (p .0)
+
+  abbrev φ : Float
+  φ = radians lat
+
+  latitude′ : Upto 2880000000 lat
+  latitude′ = natural-upto (natural 0 2880000000 lat (q .0))
+
+  difference : Among (radians (lon -ℤ o .longitude)) (most 7 100)
+  difference =
+      radians-among 1440000000 (most 7 100) (lon -ℤ o .longitude) difference-finite difference-test (upto 1440000000 1439999999 1440000000 (lon -ℤ o .longitude) (lit≤ tt) (lit≤ tt) (q .1 .1 .0))
+
+  abbrev arcs : Float
+  arcs = sub binary64 (meridianArc g φ) (meridianArc g (radians (o .latitude)))
+
+  arcs-among : Among arcs (most 1820000 1)
+  unfolding value
+  arcs-among =
+      proved (also (arc-among g lat G latitude′) (also (arc-among g (o .latitude) G (natural-upto (natural 0 2880000000 (o .latitude) (p .1 .1 .1 .0)))) none)) (minus (var 0) (var 1)) (most 1820000 1) arcs-test
+
+  -- with a false easting or northing
+  laid : (z : ℤ) → Upto 2000000000 z → All (g .e2 ∷ sineOf φ ∷ cosineOf φ ∷ primeVertical g (sineOf φ) ∷ radians (lon -ℤ o .longitude) ∷ arcs ∷ metres z ∷ []) plane
+  laid z h =
+      also (G .flat)
+      (also (sine-latitude g lat G latitude′)
+      (also (cosine-latitude g lat G latitude′)
+      (also (radius-among g lat G latitude′) (also difference (also arcs-among (also (metres-among z h) none))))))
+
+  place-bounded : GridBounded (cassiniAt (originMade o) lat lon)
+  unfolding value cassiniAt cassiniWith originMade
+  place-bounded = (
+    proved (laid (o .«false_easting») (upto 2000000000 1999999999 2000000000 (o .«false_easting») (lit≤ tt) (lit≤ tt) (p .1 .0))) (plus (var 6) eastF) (most 2500000 1) east-test,
+    proved (laid (o .«false_northing») (upto 2000000000 1999999999 2000000000 (o .«false_northing») (lit≤ tt) (lit≤ tt) (p .1 .1 .0))) (plus (var 6) northF) (most 3900000 1) north-test,
+  )
+
+pub grid-bounded : (o : OriginNumbers) (lat lon : ℤ) → GridBounded (cassiniOf o lat lon)
+unfolding cassiniOf
+grid-bounded o lat lon =
+    given (first (cassiniTests o lat lon)) grid.Refused (cassiniAt (originMade o) lat lon) GridBounded (λ i. tt)
+    (λ (z : first (cassiniTests o lat lon) ≡ 0).
+    let p : Passed (cassiniTests o lat lon) = passed (cassiniTests o lat lon) tt z in
+    place-bounded o lat lon (p .0, (p .1 .0, (p .1 .1 .0, (p .1 .1 .1 .0, (p .1 .1 .1 .1 .0, tt))))) (p .1 .1 .1 .1 .1))
+
+-- ---- no rounding refuses: the bounds are below 10,000,000
+-- y is the whole number b, as a computed fact
+not-large : (b : ℕ) (x y : Float) → num y ≡ b → den y ≡ 1 → b < 10000000 → Among x (record { lo = near 0 1; hi = y }) → tooLarge x ≡ false
+unfolding tooLarge
+not-large b nan y N D l h = absurd (is-finite h)
+not-large b (inf s) y N D l h = absurd (is-finite h)
+not-large b (fin s m e) y N D l h =
+    let c : m * up e * 1 ≤ b * down e = subst (λ (i : ℕ). m * up e * i ≤ b * down e) D (subst (λ (i : ℕ). m * up e * den y ≤ i * down e) N (h .most .cross)) in
+    lt-leb (10000000 * down e) (m * up e) (below (m * up e) b (down e) (down-pos e) l c)
+  where
+    below : (v b d : ℕ) → 0 < d → b < 10000000 → v * 1 ≤ b * d → v < 10000000 * d
+    below v b d D l c = let k : (b + 1) * d ≤ 10000000 * d = mul-le-mul-right d l in omega arith
+
+-- each bound's computed facts
+record Bound (b : ℕ) : Type 0 where
+  is : num (# b) ≡ b
+  unit : den (# b) ≡ 1
+  low : b < 10000000
+
+whole-answer : {b : ℕ} (x : Float) (p : ℕ) → Bound b → p ≤ 5 → Among x (most b 1) → roundedOf x p ≡ Whole (wholeOf x p)
+whole-answer {b} x p B h k = few x p h (not-large b x (# b) (B .is) (B .unit) (B .low) k)
+
+bound-x : Bound 3700000
+unfolding near round
+bound-x = record { is = refl; unit = refl; low = lit< tt }
+
+bound-y : Bound 7500000
+unfolding near round
+bound-y = record { is = refl; unit = refl; low = lit< tt }
+
+bound-z : Bound 1000000
+unfolding near round
+bound-z = record { is = refl; unit = refl; low = lit< tt }
+
+bound-e : Bound 2500000
+unfolding near round
+bound-e = record { is = refl; unit = refl; low = lit< tt }
+
+bound-n : Bound 3900000
+unfolding near round
+bound-n = record { is = refl; unit = refl; low = lit< tt }
+
+pub units-answered : (code lat lon h : ℤ) (x y z : Float)
+    → cartesianOf code lat lon h ≡ cartesian.Metres x y z → cartesianUnitsOf code lat lon h ≡ Units (wholeOf x 5) (wholeOf y 5) (wholeOf z 5)
+unfolding cartesianUnitsOf inUnits
+units-answered code lat lon h x y z e =
+    let b : CartesianBounded (cartesian.Metres x y z) = subst CartesianBounded e (cartesian-bounded code lat lon h) in
+    ap inUnits e
+    ∙ rw (whole-answer x 5 bound-x (lit≤ tt) (b .0), whole-answer y 5 bound-y (lit≤ tt) (b .1), whole-answer z 5 bound-z (lit≤ tt) (b .2))
+
+pub millimetres-answered : (o : OriginNumbers) (lat lon : ℤ) (x y : Float)
+    → cassiniOf o lat lon ≡ grid.Metres x y → cassiniMillimetresOf o lat lon ≡ Millimetres (wholeOf x 3) (wholeOf y 3)
+unfolding cassiniMillimetresOf inMillimetres
+millimetres-answered o lat lon x y e =
+    let b : GridBounded (grid.Metres x y) = subst GridBounded e (grid-bounded o lat lon) in
+    ap inMillimetres e ∙ rw (whole-answer x 3 bound-e (lit≤ tt) (b .0), whole-answer y 3 bound-n (lit≤ tt) (b .1))

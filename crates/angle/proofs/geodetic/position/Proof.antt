@@ -1,0 +1,109 @@
+-- `angle::geodetic::position` meets its contract: the numbers are f64s exactly, and the formulas are the printed ones. Assumes nothing.
+use borrow.Author.Needs.{needs}
+use mathlib.Core.Path.{_≡_, refl, sym, ap, _∙_, subst}
+use Prim.Native.Nat.{_-_, _≤_}
+use native.Mathlib.Omega.{arith}
+use lib.Dec.{T, lit≤}
+use lib.IntN.{ℤ, pos, _-ℤ_}
+use lib.Ieee.{Float, binary64, inFloat, ofBits, round}
+use mir.Syntax.{w64}
+use mir.Val.{SFits, toZ, ofZ}
+use mir.ValLaws.{toZ-ofZ}
+use Rattle.bounds.specs.Zero.{Upto}
+use Rattle.angle.specs.Floats.{near, radians}
+use Rattle.angle.specs.Cartesian.{cartesianAt}
+use Rattle.angle.proofs.Tests.{read-back}
+use Rattle.angle.proofs.Wholes.{Natural, natural, natural-upto, upto, in-float, fits, sub-pos}
+use Rattle.angle.proofs.geodetic.position.Statement.{statement}
+use Rattle.angle.proofs.geodetic.position.Tie as tie
+
+module _ (c : tie.Start) where
+  latitude : T (inFloat binary64 (c .args .latitude))
+  latitude = in-float 2880000000 (c .args .latitude) tt (natural-upto (natural 0 2880000000 (c .args .latitude) (c .pre .0)))
+
+  longitude : Natural 35640000000 43200000000 (c .args .longitude)
+  longitude = natural 35640000000 43200000000 (c .args .longitude) (c .pre .1)
+
+  -- what is past 90 degrees
+  past : c .args .longitude -ℤ pos 32400000000 ≡ pos (longitude .n - 32400000000)
+  past =
+      let l = longitude .low in
+      ap (λ (z : ℤ). z -ℤ pos 32400000000) (longitude .is) ∙ sub-pos (longitude .n) 32400000000 (omega arith)
+
+  past-upto : Upto 10800000000 (c .args .longitude -ℤ pos 32400000000)
+  past-upto = let h = longitude .high in subst (λ (z : ℤ). Upto 10800000000 z) (sym past) (omega arith)
+
+  past-fits : SFits w64 (c .args .longitude -ℤ pos 32400000000)
+  past-fits = fits 10800000000 (c .args .longitude -ℤ pos 32400000000) tt past-upto
+
+  past-float : T (inFloat binary64 (c .args .longitude -ℤ pos 32400000000))
+  past-float = in-float 10800000000 (c .args .longitude -ℤ pos 32400000000) tt past-upto
+
+  -- the machine reads the longitude back from its bits
+  same : toZ w64 (ofZ w64 (c .args .longitude)) ≡ c .args .longitude
+  same = toZ-ofZ w64 (c .args .longitude) (c .fits .longitude)
+
+  height : T (inFloat binary64 (c .args .height))
+  height = in-float 900000000 (c .args .height) tt (upto 900000000 49999999 900000000 (c .args .height) (lit≤ tt) (lit≤ tt) (c .pre .2))
+
+int-to-float-radians : tie.Need-int-to-float-radians
+int-to-float-radians c = read-back (c .before .args .latitude) (c .before .fits .latitude) (latitude (c .before))
+
+radians-requires : tie.Need-radians-requires
+radians-requires c κs = search needs
+
+sub-radians : tie.Need-sub-radians
+sub-radians c = rw (same (c .before .before)) (past-fits (c .before .before))
+
+int-to-float-radians-2 : tie.Need-int-to-float-radians-2
+int-to-float-radians-2 c = let a = c .before .before .before in rw (same a) (read-back _ (past-fits a) (past-float a))
+
+radians-requires-2 : tie.Need-radians-requires-2
+radians-requires-2 c κs = search needs
+
+sine-requires : tie.Need-sine-requires
+sine-requires c κs = search needs
+
+cosine-requires : tie.Need-cosine-requires
+cosine-requires c κs = search needs
+
+int-to-float-h : tie.Need-int-to-float-h
+int-to-float-h c =
+    let a = c .before .before .before .before .before .before .before in
+    read-back (a .args .height) (a .fits .height) (height a)
+
+sine-requires-2 : tie.Need-sine-requires-2
+sine-requires-2 c κs = search needs
+
+cosine-requires-2 : tie.Need-cosine-requires-2
+cosine-requires-2 c κs = search needs
+
+prime-vertical-requires : tie.Need-prime-vertical-requires
+prime-vertical-requires c κs = search needs
+
+returns : tie.Need-returns
+unfolding cartesianAt radians near round ofBits
+returns c =
+    let a = c .before .before .before .before .before .before .before .before .before .before .before in
+    let lat : toZ w64 (ofZ w64 (a .args .latitude)) ≡ a .args .latitude = toZ-ofZ w64 (a .args .latitude) (a .fits .latitude) in
+    let lon : toZ w64 (ofZ w64 (a .args .longitude)) ≡ a .args .longitude = same a in
+    let w : toZ w64 (ofZ w64 (a .args .longitude -ℤ pos 32400000000)) ≡ a .args .longitude -ℤ pos 32400000000 = toZ-ofZ w64 (a .args .longitude -ℤ pos 32400000000) (past-fits a) in
+    let h : toZ w64 (ofZ w64 (a .args .height)) ≡ a .args .height = toZ-ofZ w64 (a .args .height) (a .fits .height) in
+    cc
+
+pub position-spec : {M : Type 1} → statement M
+position-spec =
+    tie.close
+    (tie.spec
+    int-to-float-radians
+    radians-requires
+    sub-radians
+    int-to-float-radians-2
+    radians-requires-2
+    sine-requires
+    cosine-requires
+    int-to-float-h
+    sine-requires-2
+    cosine-requires-2
+    prime-vertical-requires
+    returns)

@@ -1,0 +1,45 @@
+-- `angle::projection::both` meets its contract: each arm is given its constructors. Assumes nothing.
+use borrow.Author.Needs.{needs}
+use mir.Syntax.{w64}
+use mir.Val.{SFits}
+use mir.ValLaws.{toZ-ofZ}
+use Rattle.angle.proofs.projection.both.Statement.{statement}
+use Rattle.angle.proofs.projection.both.Tie as tie
+
+enum-known-x : tie.Need-enum-known-x
+enum-known-x c = search needs
+
+enum-known-x-2 : tie.Need-enum-known-x-2
+enum-known-x-2 c = search needs
+
+enum-known-y : tie.Need-enum-known-y
+enum-known-y c = search needs
+
+enum-known-y-2 : tie.Need-enum-known-y-2
+enum-known-y-2 c = search needs
+
+returns : tie.Need-returns
+returns c = rw (c .before .x .given .1)
+
+returns-2 : tie.Need-returns-2
+returns-2 c = rw (c .before .before .before .before .x2 .given .1, c .before .y .given .1)
+
+returns-3 : tie.Need-returns-3
+returns-3 c =
+    let x = c .before .before .before .before .x2 .given in
+    let y = c .before .y2 .given in
+    let p : SFits w64 (x .0 .0) = search needs in
+    let q : SFits w64 (y .0 .0) = search needs in
+    rw (x .1, y .1, toZ-ofZ w64 (x .0 .0) p, toZ-ofZ w64 (y .0 .0) q)
+
+pub both-spec : {M : Type 1} → statement M
+both-spec =
+    tie.close
+    (tie.spec
+    enum-known-x
+    enum-known-x-2
+    enum-known-y
+    enum-known-y-2
+    returns
+    returns-2
+    returns-3)

@@ -1,0 +1,40 @@
+-- `angle::projection::in_millimetres` meets its contract: each arm is given its constructor, and each call what it answered. Assumes nothing.
+use borrow.Author.Needs.{needs}
+use Rattle.angle.specs.Cassini.{inMillimetres}
+use Rattle.angle.proofs.projection.in_millimetres.Statement.{statement}
+use Rattle.angle.proofs.projection.in_millimetres.Tie as tie
+
+enum-known-g : tie.Need-enum-known-g
+enum-known-g c = search needs
+
+enum-known-g-2 : tie.Need-enum-known-g-2
+enum-known-g-2 c = search needs
+
+round-places-requires : tie.Need-round-places-requires
+round-places-requires c κs = search needs
+
+round-places-requires-2 : tie.Need-round-places-requires-2
+round-places-requires-2 c κs = search needs
+
+both-requires : tie.Need-both-requires
+both-requires c κs = search needs
+
+returns : tie.Need-returns
+unfolding inMillimetres
+returns c = rw (c .before .g .given .1)
+
+returns-2 : tie.Need-returns-2
+unfolding inMillimetres
+returns-2 c = rw (c .before .before .before .before .g2 .given .1) (cc)
+
+pub in-millimetres-spec : {M : Type 1} → statement M
+in-millimetres-spec =
+    tie.close
+    (tie.spec
+    enum-known-g
+    enum-known-g-2
+    round-places-requires
+    round-places-requires-2
+    both-requires
+    returns
+    returns-2)

@@ -1,0 +1,13 @@
+-- `angle::series::radians` meets its contract: the literal is the f64 nearest to the decimal, which antt computes. Assumes nothing.
+use mathlib.Core.Path.{refl}
+use lib.Ieee.{ofBits, round}
+use Rattle.angle.specs.Floats.{near, k}
+use Rattle.angle.proofs.series.radians.Statement.{statement}
+use Rattle.angle.proofs.series.radians.Tie as tie
+
+returns : tie.Need-returns
+unfolding k near round ofBits
+returns c = refl
+
+pub radians-spec : {M : Type 1} → statement M
+radians-spec = tie.close (tie.spec returns)

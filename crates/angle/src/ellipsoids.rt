@@ -1,0 +1,75 @@
+// The four ellipsoids, the prime vertical radius and the meridian's length.
+ghost use mathlib.Core.Path.{_≡_};
+ghost use Rattle.angle.specs.Ranges.{badCode};
+ghost use Rattle.angle.specs.Ellipsoids.{ellipsoidOf, primeVertical, arcWith, meridianArc};
+ghost use mathlib.Core.Bool.{false};
+use crate::Ellipsoid;
+use crate::Figure;
+use crate::series::sine;
+
+// Codes 1 to 4: GRS80, WGS84, Everest 1830 Modified, Everest 1967.
+const ELLIPSOIDS: [Figure; 4] = [
+    Figure {
+        a: 6378137.0,
+        inverse_flattening: 298.257222101,
+    },
+    Figure {
+        a: 6378137.0,
+        inverse_flattening: 298.257223563,
+    },
+    Figure {
+        a: 6377304.063,
+        inverse_flattening: 300.8017,
+    },
+    Figure {
+        a: 6377298.556,
+        inverse_flattening: 300.8017,
+    },
+];
+
+// The ellipsoid of a code from 1 to 4.
+pub(crate) fn ellipsoid(code: i64) -> Ellipsoid
+    requires { ⌜ badCode code ≡ false ⌝ }
+    ensures { λ r. ⌜ r ≡ ellipsoidOf code ⌝ }
+{
+    let table = ELLIPSOIDS;
+    let i = (code - 1) as usize;
+    let row = table[i];
+    let f = 1.0 / row.inverse_flattening;
+    Ellipsoid {
+        a: row.a,
+        e2: f * (2.0 - f),
+    }
+}
+
+// The radius of curvature in the prime vertical, in metres, for the sine of the latitude.
+pub fn prime_vertical(e: Ellipsoid, sine: f64) -> f64
+    ensures { λ r. ⌜ r ≡ primeVertical e sine ⌝ }
+{
+    let q = e.e2 * (sine * sine);
+    e.a * (1.0 + q * (0.5 + q * (0.375 + q * (0.3125 + q * 0.2734375))))
+}
+
+// The meridian's length from the equator in metres, by the sines of twice, four and six times the latitude in radians.
+fn arc_with(e: Ellipsoid, latitude: f64, s2: f64, s4: f64, s6: f64) -> f64
+    ensures { λ r. ⌜ r ≡ arcWith e latitude s2 s4 s6 ⌝ }
+{
+    let e2 = e.e2;
+    let e4 = e2 * e2;
+    let e6 = e4 * e2;
+    let m0 = 1.0 - e2 / 4.0 - 3.0 * e4 / 64.0 - 5.0 * e6 / 256.0;
+    let m2 = 3.0 * e2 / 8.0 + 3.0 * e4 / 32.0 + 45.0 * e6 / 1024.0;
+    let m4 = 15.0 * e4 / 256.0 + 45.0 * e6 / 1024.0;
+    let m6 = 35.0 * e6 / 3072.0;
+    e.a * (m0 * latitude - m2 * s2 + m4 * s4 - m6 * s6)
+}
+
+// The meridian's length from the equator to a latitude in radians, in metres.
+pub fn meridian_arc(e: Ellipsoid, latitude: f64) -> f64
+    ensures { λ r. ⌜ r ≡ meridianArc e latitude ⌝ }
+{
+    let s2 = sine(2.0 * latitude);
+    let s4 = sine(4.0 * latitude);
+    let s6 = sine(6.0 * latitude);
+    arc_with(e, latitude, s2, s4, s6)
+}

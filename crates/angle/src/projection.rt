@@ -1,0 +1,163 @@
+// Cassini-Soldner, forward, from a state origin.
+ghost use mathlib.Core.Path.{_≡_};
+ghost use mathlib.Core.Bool.{false};
+ghost use Rattle.angle.specs.Ranges.{badLatitude, badOffset, farApart, originFault};
+ghost use Rattle.angle.specs.Floats.{metres as Floats·metres};
+ghost use Rattle.angle.specs.Cassini.{originMade, originOf, cassiniWith, cassiniAt, cassiniFromOf, cassiniOf, two, inMillimetres, cassiniMillimetresFromOf, cassiniMillimetresOf};
+use crate::Grid;
+use crate::GridMillimetres;
+use crate::Origin;
+use crate::OriginAnswer;
+use crate::OriginNumbers;
+use crate::ellipsoids::ellipsoid;
+use crate::ellipsoids::meridian_arc;
+use crate::ellipsoids::prime_vertical;
+use crate::faults::angles_fault;
+use crate::faults::is_outside;
+use crate::faults::origin_fault;
+use crate::series::cosine;
+use crate::series::radians;
+use crate::series::sine;
+use rounding::Rounded;
+use rounding::round_places;
+
+// How far apart the longitudes may be: 4 degrees.
+const APART: i64 = 1440000000;
+
+// Millimetres in metres, for a number in its range.
+fn metres(n: i64) -> f64
+    requires { ⌜ badOffset n ≡ false ⌝ }
+    ensures { λ r. ⌜ r ≡ Floats·metres n ⌝ }
+{
+    n as f64 / 1000.0
+}
+
+// The origin's values, for numbers in their ranges.
+fn made(o: OriginNumbers) -> Origin
+    requires { ⌜ originFault o ≡ 0 ⌝ }
+    ensures { λ r. ⌜ r ≡ originMade o ⌝ }
+{
+    let e = ellipsoid(o.ellipsoid);
+    let m0 = meridian_arc(e, radians(o.latitude as f64));
+    let fe = metres(o.false_easting);
+    let fi = metres(o.false_northing);
+    Origin {
+        ellipsoid: e,
+        longitude: o.longitude,
+        m0,
+        false_easting: fe,
+        false_northing: fi,
+    }
+}
+
+// An origin made ready for many points. Refused: RANGE for the code, false easting or northing, then GEODETIC for the angles.
+pub fn make_origin(o: OriginNumbers) -> OriginAnswer
+    ensures { λ r. ⌜ r ≡ originOf o ⌝ }
+{
+    let fault = origin_fault(o);
+    if fault != 0 {
+        return OriginAnswer::Refused(fault);
+    }
+    OriginAnswer::Made(made(o))
+}
+
+// The formulas, of the latitude's sine and cosine, the radius nu there, the meridian's length m and the difference of longitudes in
+// radians.
+fn lay(o: Origin, s: f64, c: f64, nu: f64, m: f64, difference: f64) -> Grid
+    ensures { λ r. ⌜ r ≡ cassiniWith o s c nu m difference ⌝ }
+{
+    let e2 = o.ellipsoid.e2;
+    let a = difference * c;
+    let t = s / c;
+    let t2 = t * t;
+    let cc = e2 / (1.0 - e2) * c * c;
+    let a2 = a * a;
+    let a3 = a2 * a;
+    let a4 = a2 * a2;
+    let a5 = a4 * a;
+    let east = nu * (a - t2 * a3 / 6.0 - (8.0 - t2 + 8.0 * cc) * t2 * a5 / 120.0);
+    let north = m - o.m0 + nu * t * (a2 / 2.0 + (5.0 - t2 + 6.0 * cc) * a4 / 24.0);
+    Grid::Metres(o.false_easting + east, o.false_northing + north)
+}
+
+// The same, for a latitude in its range and longitudes that are not too far apart.
+fn place(o: Origin, latitude: i64, longitude: i64) -> Grid
+    requires { ⌜ (badLatitude latitude ≡ false) × (farApart longitude (o .longitude) ≡ false) ⌝ }
+    ensures { λ r. ⌜ r ≡ cassiniAt o latitude longitude ⌝ }
+{
+    let e = o.ellipsoid;
+    let phi = radians(latitude as f64);
+    let s = sine(phi);
+    let c = cosine(phi);
+    let nu = prime_vertical(e, s);
+    let m = meridian_arc(e, phi);
+    let difference = radians((longitude - o.longitude) as f64);
+    lay(o, s, c, nu, m, difference)
+}
+
+// A point on a made origin, whatever the origin holds: easting and northing in metres. Refused: GEODETIC for the point's angles, then
+// APART where the longitudes are over 4 degrees apart. The longitudes are compared as whole numbers, and no sum passes an i64: the
+// point's longitude is in its range by then.
+pub fn cassini_from(origin: Origin, latitude: i64, longitude: i64) -> Grid
+    ensures { λ r. ⌜ r ≡ cassiniFromOf origin latitude longitude ⌝ }
+{
+    let fault = angles_fault(latitude, longitude);
+    if fault != 0 {
+        return Grid::Refused(fault);
+    }
+    if is_outside(origin.longitude, longitude - APART, longitude + APART) {
+        return Grid::Refused(refusal::APART);
+    }
+    place(origin, latitude, longitude)
+}
+
+// A point on an origin as it is written, in metres. Refused: RANGE, then GEODETIC, of the origin or the point, then APART.
+pub fn cassini(o: OriginNumbers, latitude: i64, longitude: i64) -> Grid
+    ensures { λ r. ⌜ r ≡ cassiniOf o latitude longitude ⌝ }
+{
+    match make_origin(o) {
+        OriginAnswer::Refused(n) => Grid::Refused(n),
+        OriginAnswer::Made(made) => cassini_from(made, latitude, longitude),
+    }
+}
+
+// Both, or the first refusal.
+fn both(x: Rounded, y: Rounded) -> GridMillimetres
+    ensures { λ r. ⌜ r ≡ two x y ⌝ }
+{
+    match x {
+        Rounded::Refused(n) => GridMillimetres::Refused(n),
+        Rounded::Whole(a) => match y {
+            Rounded::Refused(n) => GridMillimetres::Refused(n),
+            Rounded::Whole(b) => GridMillimetres::Millimetres(a, b),
+        },
+    }
+}
+
+// Each to the nearest millimetre, half away from zero.
+fn in_millimetres(g: Grid) -> GridMillimetres
+    ensures { λ r. ⌜ r ≡ inMillimetres g ⌝ }
+{
+    match g {
+        Grid::Refused(n) => GridMillimetres::Refused(n),
+        Grid::Metres(e, n) => {
+            let x = round_places(e, 3);
+            let y = round_places(n, 3);
+            both(x, y)
+        }
+    }
+}
+
+// As cassini_from, in whole millimetres: each rounded by itself, and its SIZE comes last.
+pub fn cassini_millimetres_from(origin: Origin, latitude: i64, longitude: i64) -> GridMillimetres
+    ensures { λ r. ⌜ r ≡ cassiniMillimetresFromOf origin latitude longitude ⌝ }
+{
+    in_millimetres(cassini_from(origin, latitude, longitude))
+}
+
+// As cassini, in whole millimetres: each rounded by itself, and its SIZE comes last.
+pub fn cassini_millimetres(o: OriginNumbers, latitude: i64, longitude: i64) -> GridMillimetres
+    ensures { λ r. ⌜ r ≡ cassiniMillimetresOf o latitude longitude ⌝ }
+{
+    in_millimetres(cassini(o, latitude, longitude))
+}

@@ -48,10 +48,11 @@ endOf r (s ∷ ss) = endOf (s .after) ss
 
 -- ---- the answer
 -- the chain first, then the point: its numbers, whether it is where the chain wants it, and the area
+abbrev pub placeTests : Point → Realization → List Test
+placeTests p wanted = (not (sameRealization (p .realization) wanted) gives refusal.start) ∷ (not (inArea (p .position)) gives refusal.area) ∷ []
+
 abbrev pub conversionTests : Chain → Point → Realization → List Test
-conversionTests c p wanted =
-    chainTests c
-    ++ (pointTests p ++ ((not (sameRealization (p .realization) wanted) gives refusal.start) ∷ (not (inArea (p .position)) gives refusal.area) ∷ []))
+conversionTests c p wanted = chainTests c ++ (pointTests p ++ placeTests p wanted)
 
 -- the point at another position: id and issue pass through
 abbrev pub movedTo : Point → Realization → Position → Point

@@ -77,9 +77,12 @@ stepFault s = first (stepTests s)
 abbrev pub stepsOf : Chain → List Step
 stepsOf c = take (c .length) (c .steps)
 
+abbrev pub joinTest : Step → Step → Test
+joinTest s t = not (sameRealization (s .after) (t .before)) gives refusal.join
+
 abbrev pub laterTests : Step → List Step → List Test
 laterTests s [] = []
-laterTests s (t ∷ ts) = stepTests t ++ ((not (sameRealization (s .after) (t .before)) gives refusal.join) ∷ laterTests t ts)
+laterTests s (t ∷ ts) = stepTests t ++ (joinTest s t ∷ laterTests t ts)
 
 abbrev pub stepsTests : List Step → List Test
 stepsTests [] = []

@@ -1,7 +1,7 @@
 -- A step: each coordinate gains its part of g, worked out at the point. Each part is one exact fraction, affine in the coordinates and rounded once, so
 -- a step of any kind is three such fractions.
 use mathlib.Core.List.{List}
-use Prim.Native.Nat.{ℕ}
+use Prim.Native.Nat.{ℕ, _+_}
 use lib.IntN.{ℤ, pos, negℤ, _+ℤ_, _-ℤ_, _*ℤ_}
 use Rattle.rounding.specs.Quotient.{roundDiv}
 use Rattle.chain.specs.declared.Position.{Position}
@@ -81,18 +81,23 @@ bursaWolfParts t =
 unfoldable pub atEpoch : ℤ → ℤ → ℤ → ℤ
 atEpoch t tv dt = pos 1000 *ℤ t +ℤ tv *ℤ dt
 
--- −(b/1000 + e·coordinate/10^14), one fraction over 10^14, on each axis; b and e in thousandths
+-- −t/1000 + (a·X + b·Y + c·Z)/10^14 is one fraction
+abbrev pub over14 : ℤ → ℤ → ℤ → ℤ → Part
+over14 t a b c = record { k = negℤ (t *ℤ pos 100000000000); a = a; b = b; c = c; d = 100000000000000 }
+
+-- −(t/1000 + e·coordinate/10^14) on each axis; t and e in thousandths
 abbrev pub scaledParts : ℤ → ℤ → ℤ → ℤ → Parts
-scaledParts bx by bz e = record {
-  px = record { k = negℤ (bx *ℤ pos 100000000000); a = negℤ e; b = pos 0; c = pos 0; d = 100000000000000 };
-  py = record { k = negℤ (by *ℤ pos 100000000000); a = pos 0; b = negℤ e; c = pos 0; d = 100000000000000 };
-  pz = record { k = negℤ (bz *ℤ pos 100000000000); a = pos 0; b = pos 0; c = negℤ e; d = 100000000000000 };
-}
+scaledParts tx ty tz e = record { px = over14 tx (negℤ e) (pos 0) (pos 0); py = over14 ty (pos 0) (negℤ e) (pos 0); pz = over14 tz (pos 0) (pos 0) (negℤ e) }
+
+-- a row's shift on an axis, and its scale
+abbrev pub shiftAt : List ℤ → ℤ → ℕ → ℤ
+shiftAt row dt i = atEpoch (figure row i) (figure row (i + 3)) dt
+
+abbrev pub scaleAt : List ℤ → ℤ → ℤ
+scaleAt row dt = atEpoch (figure row 6) (figure row 7) dt
 
 unfoldable pub frameParts : List ℤ → ℤ → Parts
-frameParts row dt =
-    scaledParts (atEpoch (figure row 0) (figure row 3) dt) (atEpoch (figure row 1) (figure row 4) dt) (atEpoch (figure row 2) (figure row 5) dt)
-    (atEpoch (figure row 6) (figure row 7) dt)
+frameParts row dt = scaledParts (shiftAt row dt 0) (shiftAt row dt 1) (shiftAt row dt 2) (scaleAt row dt)
 
 -- ---- a step of any kind, from a realization to another
 unfoldable pub kindParts : Kind → Realization → Realization → Parts

@@ -1,8 +1,10 @@
 // Datum steps on Cartesian positions, forward and inverse, and chains of up to eight of them.
 
+mod apply;
 mod faults;
 mod kinds;
 mod ranges;
+mod ready;
 
 pub use crate::faults::point_fault;
 pub use crate::faults::step_fault;

@@ -5,12 +5,14 @@ use native.Mathlib.Nat as NatL
 use native.Mathlib.Omega.{arith}
 use lib.IntN.{ℤ, pos, negsuc, natAbs, _+ℤ_, _-ℤ_, _*ℤ_}
 use lib.Dec.{ltb→lt}
-use lib.Signed.{_≤ℤ_, _<ℤ_, quotZ, remZ}
+use lib.Signed.{_≤ℤ_, _<ℤ_, ltZ, quotZ, remZ}
 use mir.Syntax.{w64}
 use mir.Val.{SFits}
-use Rattle.rounding.specs.Zn.{P, N, Is, v, k, _⊕_, _⊖_, _⊗_, le, unle, lt, unlt, eq, uneq, abs, unabs, pos-abs, quot-rem, rem-less, quot-le}
-use Rattle.rounding.specs.Machine.{fits, fits-abs}
-use Rattle.rounding.specs.Quotient.{roundDiv, mixed, round-pos, round-neg-side}
+use mathlib.Core.Bool.{false, _||_}
+use Rattle.refusal.specs.Order.{pick}
+use Rattle.rounding.specs.Zn.{P, N, Is, v, k, k-, _⊕_, _⊖_, _⊗_, le, unle, lt, unlt, eq, uneq, abs, unabs, pos-abs, quot-rem, rem-less, quot-le}
+use Rattle.rounding.specs.Machine.{fits, fits-abs, not-lt}
+use Rattle.rounding.specs.Quotient.{roundDiv, mixed, mixedOf, round-pos, round-neg-side}
 
 -- what the decision asks of t, r and d
 pub record FloorOk (t r d : ℤ) : Type 0 where
@@ -135,3 +137,12 @@ module _ (a n d : ℤ) (ok : MixedOk a d) (fn : SFits w64 n) (fd : SFits w64 d) 
       ap (λ (z : ℤ). roundDiv z (natAbs d))
       (eq ((v a ⊕ v (quotZ n d) ⊖ k 1) ⊗ v d ⊕ (v (remZ n d) ⊕ v d)) (v a ⊗ v d ⊕ v n)
       (omega (arith, uneq divided (v n) (v (quotZ n d) ⊗ v d ⊕ v (remZ n d)))))
+
+-- ---- for callers: a whole part and a divisor that can be used
+pub mixed-usable : (a n d : ℤ) → MixedOk a d → mixedOf a n d ≡ mixed a n d
+mixed-usable a n d ok =
+    let x = unabs 4000000000000000000 (ok .small) (v a) in
+    let f = not-lt d (pos 2) (ok .above) in
+    let g = not-lt (pos 4000000000000000000) a (le (v a) (k 4000000000000000000) (omega arith)) in
+    let h = not-lt a (negsuc 3999999999999999999) (le (k- 3999999999999999999) (v a) (omega arith)) in
+    rw (f, g, h)

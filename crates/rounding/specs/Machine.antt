@@ -10,7 +10,7 @@ use mir.Syntax.{w64}
 use mir.Val.{SFits, ofZ, toZ}
 use mir.Facts.{toZ-ofZ}
 use borrow.Author.Tests.{leb-false}
-use lib.Signed.{_≤ℤ_, _<ℤ_, mag, leZ, ltZ, ltZ-no, quotZ, remZ}
+use lib.Signed.{_≤ℤ_, _<ℤ_, mag, leZ, ltZ, ltZ-no, clashℤ, quotZ, remZ}
 use Rattle.rounding.specs.Zn.{P, v, k, neg, _⊖_, eq}
 
 -- a number of at most m units fits an i64
@@ -39,6 +39,14 @@ le-no (negsuc a) (negsuc b) e = lt→ltb a b (leb-false b a e)
 
 pub le-false : (a b : ℤ) → leZ a b ≡ false → b <ℤ a
 le-false a b e = record { lt = le-no a b e }
+
+-- and the test from the fact
+pub not-lt : (a b : ℤ) → b ≤ℤ a → ltZ a b ≡ false
+not-lt a b h = other (ltZ a b) refl
+  where
+    other : (t : Bool) → ltZ a b ≡ t → ltZ a b ≡ false
+    other true e = clashℤ (lt-true a b e) h
+    other false e = e
 
 -- what a signed division asks of its divisor's bits
 pub bits-pos : (d : ℤ) → pos 0 <ℤ d → 0 < ofZ w64 d

@@ -1,0 +1,88 @@
+-- What a conversion that is not refused went by: no test failed, and the walk ended where the answer says. Assumes nothing.
+use mathlib.Core.Path.{_≡_, refl, sym, _∙_, ap}
+use mathlib.Core.Bool.{Bool, true, false, not}
+use mathlib.Core.List.{List, [], _∷_, _++_}
+use Prim.Native.Nat.{ℕ, zero, suc, _≤_}
+use native.Mathlib.Omega.{arith}
+use borrow.Author.Tests.{ltb-false}
+use lib.Dec.{ltb}
+use Rattle.refusal.specs.Order.{Test, first, pick}
+use Rattle.chain.specs.declared.Position.{Position}
+use Rattle.chain.specs.declared.Realization.{Realization}
+use Rattle.chain.specs.declared.Point.{Point}
+use Rattle.chain.specs.declared.Step.{Step}
+use Rattle.chain.specs.declared.Chain.{Chain}
+use Rattle.chain.specs.declared.Answer.{Answer}
+use Rattle.chain.specs.declared.Answer.the-variants.{Converted, Refused}
+use Rattle.chain.specs.Faults.{sameRealization, inArea, pointTests, stepTests, stepFault, joinTest, laterTests, stepsTests, chainTests, stepsOf}
+use Rattle.chain.specs.Convert.{Walk, at, outside, placeTests, conversionTests, movedTo, answerOf, unlessRefused, convert}
+use Rattle.chain.proofs.Tests.{Named, both-pass, head-holds}
+
+-- no step is refused by itself
+abbrev pub Sound : List Step → Type 0
+Sound [] = Unit {0}
+Sound (s ∷ ss) = (stepFault s ≡ 0) × Sound ss
+
+-- ---- the chain's tests
+pub named-later : (s : Step) (ss : List Step) → Named (laterTests s ss)
+named-later s [] = tt
+named-later s (t ∷ ts) = (refl, (refl, (refl, (refl, named-later t ts))))
+
+pub named-steps : (ss : List Step) → Named (stepsTests ss)
+named-steps [] = tt
+named-steps (s ∷ ss) = (refl, (refl, (refl, named-later s ss)))
+
+sound-later : (s : Step) (ss : List Step) → first (laterTests s ss) ≡ 0 → Sound ss
+unfolding stepFault
+sound-later s [] e = tt
+sound-later s (t ∷ ts) e =
+    let f = both-pass (stepTests t) (joinTest s t ∷ laterTests t ts) (refl, (refl, (refl, tt))) e in
+    (f .0, sound-later t ts (head-holds (sameRealization (s .after) (t .before)) 4 (first (laterTests t ts)) (f .1) .1))
+
+pub sound-steps : (ss : List Step) → first (stepsTests ss) ≡ 0 → Sound ss
+unfolding stepFault
+sound-steps [] e = tt
+sound-steps (s ∷ ss) e = let f = both-pass (stepTests s) (laterTests s ss) (refl, (refl, (refl, tt))) e in (f .0, sound-later s ss (f .1))
+
+-- ---- all of a conversion's
+pub record Accepted (c : Chain) (p : Point) (wanted : Realization) : Type 0 where
+  pub short : c .length ≤ 8
+  pub sound : Sound (stepsOf c)
+  pub here : sameRealization (p .realization) wanted ≡ true
+  pub area : inArea (p .position) ≡ true
+
+no-ninth : (b : Bool) (n x : ℕ) → pick b (suc n) x ≡ 0 → (b ≡ false) × (x ≡ 0)
+no-ninth true n x e = absurd (never e)
+  where
+    never : suc n ≡ 0 → ⊥
+    never e = omega arith
+no-ninth false n x e = (refl, e)
+
+pub accepted : (c : Chain) (p : Point) (wanted : Realization) → first (conversionTests c p wanted) ≡ 0 → Accepted c p wanted
+accepted c p wanted e =
+    let f = both-pass (chainTests c) (pointTests p ++ placeTests p wanted) (refl, named-steps (stepsOf c)) e in
+    let n = no-ninth (ltb 8 (c .length)) 5 (first (stepsTests (stepsOf c))) (f .0) in
+    let g = both-pass (pointTests p) (placeTests p wanted) (refl, (refl, tt)) (f .1) in
+    let h = head-holds (sameRealization (p .realization) wanted) 8 _ (g .1) in
+    record { short = ltb-false 8 (c .length) (n .0); sound = sound-steps (stepsOf c) (n .1); here = h .0; area = head-holds (inArea (p .position)) 9 0 (h .1) .0 }
+
+-- ---- a converted point
+pub record Conversion (c : Chain) (p : Point) (wanted reached : Realization) (w : Walk) (q : Point) : Type 0 where
+  pub accept : Accepted c p wanted
+  pub ended : w ≡ at (q .position)
+  pub is : q ≡ movedTo p reached (q .position)
+
+module _ (c : Chain) (p : Point) (wanted reached : Realization) where
+  answered : (n : ℕ) (w : Walk) (q : Point) → unlessRefused n (answerOf p reached w) ≡ Converted q → (n ≡ 0) × (w ≡ at (q .position)) × (q ≡ movedTo p reached (q .position))
+  unfolding unlessRefused answerOf
+  answered zero (at x) q e =
+      let f : movedTo p reached x ≡ q = cc in
+      (refl, ap (λ (t : Point). at (t .position)) f, sym f ∙ ap (λ (t : Point). movedTo p reached (t .position)) f)
+  answered zero outside q e = (refl, cc, cc)
+  answered (suc n) w q e = (cc, cc, cc)
+
+  pub converted : (w : Walk) (q : Point) → convert c p wanted reached w ≡ Converted q → Conversion c p wanted reached w q
+  unfolding convert
+  converted w q e =
+      let f = answered (first (conversionTests c p wanted)) w q e in
+      record { accept = accepted c p wanted (f .0); ended = f .1; is = f .2 }

@@ -1,0 +1,142 @@
+-- Demand 3: a point converted by a chain and handed to the other conversion by the same chain has come back. Assumes nothing.
+use mathlib.Core.Path.{_≡_, refl, sym, _∙_, ap, subst}
+use mathlib.Core.Bool.{true}
+use mathlib.Core.List.{List, [], _∷_, _++_, reverse, reverseAux-eq}
+use Prim.Native.Nat.{ℕ, _+_, _≤_}
+use native.Mathlib.Nat as NatL
+use native.Mathlib.Omega.{arith}
+use lib.Dec.{lit≤}
+use lib.ListN.{length, take, length-take}
+use lib.IntN.{ℤ}
+use Rattle.chain.specs.declared.Position.{Position}
+use Rattle.chain.specs.declared.Realization.{Realization}
+use Rattle.chain.specs.declared.Point.{Point}
+use Rattle.chain.specs.declared.Kind.{Kind}
+use Rattle.chain.specs.declared.Kind.the-variants.{Shift, Velocity, BursaWolf, Frame}
+use Rattle.chain.specs.declared.Step.{Step}
+use Rattle.chain.specs.declared.Chain.{Chain}
+use Rattle.chain.specs.declared.Answer.the-variants.{Converted}
+use Rattle.chain.specs.Faults.{inArea, sameRealization, stepFault, stepsOf}
+use Rattle.chain.specs.Parts.{kindParts, partsOf, forwardBy, inverseBy}
+use Rattle.chain.specs.Axes.{Axis, onX, onY, onZ, coordinate, Small}
+use Rattle.chain.specs.Convert.{Walk, at, walk, forwardStep, inverseStep, startOf, endOf, movedTo, forwardOf, inverseOf}
+use Rattle.chain.specs.RoundTrip.{inexact, inexactSteps, Returned, RoundTrip}
+use Rattle.chain.proofs.Within.{same-is, area-small}
+use Rattle.chain.proofs.StepLaws.{Off, off-le, off-self, small-le, inverse-off, inverse-exact, forward-off, forward-exact}
+use Rattle.chain.proofs.Sizes.{StepOk, step-ok, kind-mild, shift-flat, velocity-flat}
+use Rattle.chain.proofs.Walk.{walk-step, walk-last, walk-area, at-is}
+use Rattle.chain.proofs.Accepted.{Sound, Accepted, Conversion, converted}
+
+-- ---- one step of any kind: nothing is added by a shift or a velocity, one unit by Bursa-Wolf or a frame
+module _ (r a : Realization) where
+  kind-inverse :
+      (kind : Kind) → StepOk kind r a → (q' p : Position) (m : ℕ) → Small 650000000000 p → m + inexact kind ≤ 8 →
+      Off m q' (forwardBy (kindParts kind r a) p) → Off (m + inexact kind) (inverseBy (kindParts kind r a) q') p
+  kind-inverse (Shift t) ok q' p m s l h = off-le (omega arith) (inverse-exact (kindParts (Shift t) r a) (shift-flat t r a) q' p m h)
+  kind-inverse (Velocity t) ok q' p m s l h = off-le (omega arith) (inverse-exact (kindParts (Velocity t) r a) (velocity-flat t r a) q' p m h)
+  kind-inverse (BursaWolf t) ok q' p m s l h = inverse-off (kindParts (BursaWolf t) r a) (kind-mild (BursaWolf t) r a ok) q' p m s (omega arith) h
+  kind-inverse Frame ok q' p m s l h = inverse-off (kindParts Frame r a) (kind-mild Frame r a ok) q' p m s (omega arith) h
+
+  kind-forward :
+      (kind : Kind) → StepOk kind r a → (p' q : Position) (m : ℕ) → Small 650000000000 q → m + inexact kind ≤ 8 →
+      Off m p' (inverseBy (kindParts kind r a) q) → Off (m + inexact kind) (forwardBy (kindParts kind r a) p') q
+  kind-forward (Shift t) ok p' q m s l h = off-le (omega arith) (forward-exact (kindParts (Shift t) r a) (shift-flat t r a) p' q m h)
+  kind-forward (Velocity t) ok p' q m s l h = off-le (omega arith) (forward-exact (kindParts (Velocity t) r a) (velocity-flat t r a) p' q m h)
+  kind-forward (BursaWolf t) ok p' q m s l h = forward-off (kindParts (BursaWolf t) r a) (kind-mild (BursaWolf t) r a ok) p' q m s (omega arith) h
+  kind-forward Frame ok p' q m s l h = forward-off (kindParts Frame r a) (kind-mild Frame r a ok) p' q m s (omega arith) h
+
+near : (p : Position) → inArea p ≡ true → Small 650000000000 p
+near p h = small-le (lit≤ tt) (area-small p h)
+
+-- ---- a chain. The inverse of a chain ends with the inverse of its first step
+last-first : (f : Step → Position → Position) (s : Step) (ss : List Step) (q : Position) → walk f (reverse ss ++ (s ∷ [])) q ≡ walk f (reverse (s ∷ ss)) q
+last-first f s ss q = ap (λ (l : List Step). walk f l q) (sym (reverseAux-eq ss (s ∷ [])))
+
+-- forward to q; from q', m off from q, the inverse comes to p within m and one for each inexact step
+there-and-back :
+    (ss : List Step) → Sound ss → (p q q' r : Position) (m : ℕ) → m + inexactSteps ss ≤ 8 → inArea p ≡ true →
+    walk forwardStep ss p ≡ at q → Off m q' q → walk inverseStep (reverse ss) q' ≡ at r → Off (m + inexactSteps ss) r p
+unfolding walk
+there-and-back [] ok p q q' r m l h e o b =
+    off-le (omega arith) (subst (λ (x : Position). Off m r x) (sym (at-is e)) (subst (λ (x : Position). Off m x q) (at-is b) o))
+there-and-back (s ∷ ss) ok p q q' r m l h e o b =
+    let t = walk-step forwardStep s ss p q e in
+    let u = walk-last inverseStep (reverse ss) s q' r (last-first inverseStep s ss q' ∙ b) in
+    let i = there-and-back ss (ok .1) (forwardStep s p) q q' (u .mid) m (omega arith) (t .0) (t .1) o (u .came) in
+    let j = kind-inverse (s .before) (s .after) (s .kind) (step-ok s (ok .0)) (u .mid) p (m + inexactSteps ss) (near p h) (omega arith) i in
+    off-le (omega arith) (subst (λ (x : Position). Off (m + inexactSteps ss + inexact (s .kind)) x p) (u .went) j)
+
+-- inverse to p; from p', m off from p, the way forward comes to q within m and one for each inexact step
+back-and-there :
+    (ss : List Step) → Sound ss → (q p p' r : Position) (m : ℕ) → m + inexactSteps ss ≤ 8 → inArea q ≡ true →
+    walk inverseStep (reverse ss) q ≡ at p → Off m p' p → walk forwardStep ss p' ≡ at r → Off (m + inexactSteps ss) r q
+unfolding walk
+back-and-there [] ok q p p' r m l h e o b =
+    off-le (omega arith) (subst (λ (x : Position). Off m r x) (sym (at-is e)) (subst (λ (x : Position). Off m x p) (at-is b) o))
+back-and-there (s ∷ ss) ok q p p' r m l h e o b =
+    let t = walk-step forwardStep s ss p' r b in
+    let u = walk-last inverseStep (reverse ss) s q p (last-first inverseStep s ss q ∙ e) in
+    let n = near (u .mid) (walk-area inverseStep (reverse ss) q (u .mid) h (u .came)) in
+    let j = kind-forward (s .before) (s .after) (s .kind) (step-ok s (ok .0)) p' (u .mid) m n (omega arith) (subst (λ (x : Position). Off m p' x) (sym (u .went)) o) in
+    off-le (omega arith) (back-and-there ss (ok .1) q (u .mid) (forwardStep s p') r (m + inexact (s .kind)) (omega arith) h (u .came) j (t .1))
+
+-- ---- datum and epoch
+start-home : (r e : Realization) (ss : List Step) → sameRealization r (startOf r ss) ≡ true → e ≡ endOf r ss → (startOf e ss .datum ≡ r .datum) × (startOf e ss .epoch ≡ r .epoch)
+unfolding startOf endOf
+start-home r e [] h i = (ap (λ (t : Realization). t .datum) i, ap (λ (t : Realization). t .epoch) i)
+start-home r e (s ∷ ss) h i = let f = same-is r (s .before) h in (sym (f .0), sym (f .1))
+
+end-home : (r e : Realization) (ss : List Step) → sameRealization r (endOf r ss) ≡ true → e ≡ startOf r ss → (endOf e ss .datum ≡ r .datum) × (endOf e ss .epoch ≡ r .epoch)
+unfolding startOf endOf
+end-home r e [] h i = (ap (λ (t : Realization). t .datum) i, ap (λ (t : Realization). t .epoch) i)
+end-home r e (s ∷ ss) h i = let f = same-is r (endOf (s .after) ss) h in (sym (f .0), sym (f .1))
+
+-- ---- at most eight steps, so at most eight units
+count-le : (ss : List Step) → inexactSteps ss ≤ length ss
+count-le [] = omega arith
+count-le (s ∷ ss) = let h = count-le ss in let l = one (s .kind) in omega arith
+  where
+    one : (kind : Kind) → inexact kind ≤ 1
+    one (Shift t) = omega arith
+    one (Velocity t) = omega arith
+    one (BursaWolf t) = omega arith
+    one Frame = omega arith
+
+eight : (c : Chain) → c .length ≤ 8 → 0 + inexactSteps (stepsOf c) ≤ 8
+eight c h = omega (arith, count-le (stepsOf c), length-take (c .length) (c .steps))
+
+-- ---- the claim, from two conversions that were not refused
+returned :
+    (n : ℕ) (p q r : Point) (there home : Realization) → q ≡ movedTo p there (q .position) → r ≡ movedTo q home (r .position) →
+    (home .datum ≡ p .realization .datum) × (home .epoch ≡ p .realization .epoch) → Off (0 + n) (r .position) (p .position) → Returned n p r
+returned n p q r there home e f d o = record {
+  id = ap (λ (t : Point). t .id) f ∙ ap (λ (t : Point). t .id) e;
+  issue = ap (λ (t : Point). t .issue) f ∙ ap (λ (t : Point). t .issue) e;
+  datum = ap (λ (t : Point). t .realization .datum) f ∙ d .0;
+  epoch = ap (λ (t : Point). t .realization .epoch) f ∙ d .1;
+  x = NatL.le-trans (o .on onX) (omega arith);
+  y = NatL.le-trans (o .on onY) (omega arith);
+  z = NatL.le-trans (o .on onZ) (omega arith);
+}
+
+pub round-trip : RoundTrip
+unfolding forwardOf inverseOf
+round-trip c p q r = (forth, back)
+  where
+    forth : forwardOf c p ≡ Converted q → inverseOf c q ≡ Converted r → Returned (inexactSteps (stepsOf c)) p r
+    forth e f =
+        let ss = stepsOf c in
+        let a = converted c p (startOf (p .realization) ss) (endOf (p .realization) ss) (walk forwardStep ss (p .position)) q e in
+        let b = converted c q (endOf (q .realization) ss) (startOf (q .realization) ss) (walk inverseStep (reverse ss) (q .position)) r f in
+        returned (inexactSteps ss) p q r (endOf (p .realization) ss) (startOf (q .realization) ss) (a .is) (b .is)
+        (start-home (p .realization) (q .realization) ss (a .accept .here) (ap (λ (t : Point). t .realization) (a .is)))
+        (there-and-back ss (a .accept .sound) (p .position) (q .position) (q .position) (r .position) 0 (eight c (a .accept .short)) (a .accept .area) (a .ended) (off-self _) (b .ended))
+
+    back : inverseOf c p ≡ Converted q → forwardOf c q ≡ Converted r → Returned (inexactSteps (stepsOf c)) p r
+    back e f =
+        let ss = stepsOf c in
+        let a = converted c p (endOf (p .realization) ss) (startOf (p .realization) ss) (walk inverseStep (reverse ss) (p .position)) q e in
+        let b = converted c q (startOf (q .realization) ss) (endOf (q .realization) ss) (walk forwardStep ss (q .position)) r f in
+        returned (inexactSteps ss) p q r (startOf (p .realization) ss) (endOf (q .realization) ss) (a .is) (b .is)
+        (end-home (p .realization) (q .realization) ss (a .accept .here) (ap (λ (t : Point). t .realization) (a .is)))
+        (back-and-there ss (a .accept .sound) (p .position) (q .position) (q .position) (r .position) 0 (eight c (a .accept .short)) (a .accept .area) (a .ended) (off-self _) (b .ended))

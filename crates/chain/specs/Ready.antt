@@ -1,0 +1,64 @@
+-- A step made ready: its numbers worked out once, and what it gains by them at a position. The code's own; `Prepares` ties it to the step.
+use mathlib.Core.Path.{_≡_}
+use Prim.Native.Nat.{ℕ, _+_, _≤_}
+use lib.IntN.{ℤ, pos, natAbs}
+use Rattle.chain.specs.declared.Position.{Position}
+use Rattle.chain.specs.declared.Step.{Step}
+use Rattle.chain.specs.declared.ready.Turn.{Turn}
+use Rattle.chain.specs.declared.ready.Scale.{Scale}
+use Rattle.chain.specs.declared.ready.Ready.{Ready}
+use Rattle.chain.specs.declared.ready.Ready.the-variants.{Fixed, Turned, Scaled}
+use Rattle.chain.specs.Parts.{Part, Parts, fixed, gain, turnedParts, partsOf}
+use Rattle.chain.specs.Axes.{Axis, coordinate, Small}
+
+-- ---- what it gains
+abbrev pub turnParts : Turn → Parts
+turnParts t = turnedParts (t .dx) (t .dy) (t .dz) (t .rx) (t .ry) (t .rz) (t .s)
+
+-- (k + slope·coordinate)/10^14 on each axis
+abbrev pub slopeParts : ℤ → ℤ → ℤ → ℤ → Parts
+slopeParts kx ky kz slope = record {
+  px = record { k = kx; a = slope; b = pos 0; c = pos 0; d = 100000000000000 };
+  py = record { k = ky; a = pos 0; b = slope; c = pos 0; d = 100000000000000 };
+  pz = record { k = kz; a = pos 0; b = pos 0; c = slope; d = 100000000000000 };
+}
+
+abbrev pub readyParts : Ready → Parts
+readyParts (Fixed g) = record { px = fixed (g .x) 1; py = fixed (g .y) 1; pz = fixed (g .z) 1 }
+readyParts (Turned t) = turnParts t
+readyParts (Scaled t) = slopeParts (t .kx) (t .ky) (t .kz) (t .slope)
+
+-- ---- what the code asks of it, so that nothing passes an i64
+pub record TurnOk (t : Turn) : Type 0 where
+  pub dx : natAbs (t .dx) ≤ 100000000
+  pub dy : natAbs (t .dy) ≤ 100000000
+  pub dz : natAbs (t .dz) ≤ 100000000
+  pub rx : natAbs (t .rx) ≤ 4848137
+  pub ry : natAbs (t .ry) ≤ 4848137
+  pub rz : natAbs (t .rz) ≤ 4848137
+  pub s : natAbs (t .s) ≤ 2000000
+
+pub record ScaleOk (t : Scale) : Type 0 where
+  pub kx : natAbs (t .kx) ≤ 1971000000000000000
+  pub ky : natAbs (t .ky) ≤ 1971000000000000000
+  pub kz : natAbs (t .kz) ≤ 1971000000000000000
+  pub slope : natAbs (t .slope) ≤ 1202000
+
+abbrev pub ReadyOk : Ready → Type 0
+ReadyOk (Fixed g) = Small 100000000 g
+ReadyOk (Turned t) = TurnOk t
+ReadyOk (Scaled t) = ScaleOk t
+
+-- ---- ready for a step: it gains what the step gains, everywhere
+pub record Prepares (s : Step) (r : Ready) : Type 0 where
+  pub same : (p : Position) → gain (readyParts r) p ≡ gain (partsOf s) p
+  pub ok : ReadyOk r
+
+-- ---- what one axis' part asks of its numbers
+pub record LinearOk (a b c : ℤ) (p : Position) : Type 0 where
+  pub sum : natAbs a + natAbs b + natAbs c ≤ 11696274
+  pub small : Small 650000000000 p
+
+pub record PartOk (k a b c : ℤ) (p : Position) : Type 0 where
+  pub start : natAbs k ≤ 100000000
+  pub linear : LinearOk a b c p

@@ -1,0 +1,82 @@
+/* Swivelcrane for C: datum steps, geodetic to Cartesian, Cassini grids, exact rounding, the later of two point lines,
+ * and whole sheets and plans. Link with target/staticlib/libcapi.a, which `rt staticlib capi` proves and builds.
+ *
+ * Units. Cartesian coordinates and heights: whole units of 0.00001 m. Latitudes and longitudes: whole units of 0.00001".
+ * Epochs: thousandths of a year, 0 for none. Rotations: 0.00001". Scale: 10^-11. False eastings and northings: mm.
+ *
+ * Answers. A call answers 0 and writes its results, or answers a refusal number (1 to 17, the table in README.md) or
+ * SWIVELCRANE_WRONG_LENGTH, and then writes nothing. swivelcrane_sheet and swivelcrane_plan answer the length of what
+ * they wrote, or minus SWIVELCRANE_WRONG_LENGTH. Every input has its answer: nothing has to be checked beforehand.
+ *
+ * Every array is handed over as a pointer and the number of its elements. A pointer must be valid for that many elements,
+ * also where there are none; arrays that are written must not overlap others of the same call. There is no state: calls
+ * may run side by side. */
+#ifndef SWIVELCRANE_H
+#define SWIVELCRANE_H
+
+#include <stddef.h>
+#include <stdint.h>
+
+#ifdef __cplusplus
+extern "C" {
+#endif
+
+/* An array has not the number of elements that its call asks for. It comes before every refusal. */
+#define SWIVELCRANE_WRONG_LENGTH 255
+
+/* Numbers to a step of a chain, in this order:
+ *   0  kind: 'T' shift, 'V' velocity, 'B' Bursa-Wolf, 'F' frame
+ *   1  convention of a 'B': 'P' position vector, 'C' coordinate frame; not read for the other kinds
+ *   2  datum before   3  epoch before   4  datum after   5  epoch after
+ *   6..12  T: dx, dy, dz.  V: vx, vy, vz (units a year).  B: dx, dy, dz, rx, ry, rz, s.  F: none.  The rest is not read.
+ * Another kind or convention counts as a number out of range, refusal 2, of that step. */
+#define SWIVELCRANE_STEP_NUMBERS 13
+
+/* Numbers to a point: issue, datum, epoch, X, Y, Z. The point's id stays with the caller. */
+#define SWIVELCRANE_POINT_NUMBERS 6
+
+/* Converts a point along a chain (forward) or back (inverse). The chain has 13 numbers a step; no step at all is a chain
+ * too, and more than eight are refused with 6. Refusals: chain 6, then each step 2, 3, 4, 5; point 2, 3, 9, 10; then 11. */
+int64_t swivelcrane_forward(const int64_t *chain, size_t chain_length, const int64_t *point, size_t point_length,
+                            int64_t *out, size_t out_length);
+int64_t swivelcrane_inverse(const int64_t *chain, size_t chain_length, const int64_t *point, size_t point_length,
+                            int64_t *out, size_t out_length);
+
+/* Geodetic to Cartesian on an ellipsoid (1 GRS80, 2 WGS84, 3 Everest 1830 Modified, 4 Everest 1967): X, Y, Z in metres,
+ * and in whole units. out has 3 elements. Refusals: 2 (ellipsoid), 12 (latitude, longitude, height), then 14. */
+int64_t swivelcrane_cartesian(int64_t ellipsoid, int64_t latitude, int64_t longitude, int64_t height, double *out,
+                              size_t out_length);
+int64_t swivelcrane_cartesian_units(int64_t ellipsoid, int64_t latitude, int64_t longitude, int64_t height, int64_t *out,
+                                    size_t out_length);
+
+/* Cassini-Soldner: easting and northing in metres, and in whole millimetres. out has 2 elements.
+ * Refusals: 2 (ellipsoid, false easting, false northing), 12 (a latitude or longitude), 13 (longitudes over 1,440,000,000
+ * apart), then 14. */
+int64_t swivelcrane_cassini(int64_t ellipsoid, int64_t origin_latitude, int64_t origin_longitude, int64_t false_easting,
+                            int64_t false_northing, int64_t latitude, int64_t longitude, double *out, size_t out_length);
+int64_t swivelcrane_cassini_millimetres(int64_t ellipsoid, int64_t origin_latitude, int64_t origin_longitude,
+                                        int64_t false_easting, int64_t false_northing, int64_t latitude,
+                                        int64_t longitude, int64_t *out, size_t out_length);
+
+/* The whole number nearest to the exact value of x times ten to the places (0 to 5), a half away from zero. out has 1
+ * element. Refusals: 2 (places), 14 (x not finite, or 10,000,000 or more in size). */
+int64_t swivelcrane_round(double x, uint32_t places, int64_t *out, size_t out_length);
+
+/* The later of two point lines, each with its line feed: which has 1 element and becomes 1 for the first, 2 for the second.
+ * Byte-equal lines give the first. Refusals: first line 1, 2, 3, then the second's, then 16, 17. */
+int64_t swivelcrane_later(const uint8_t *first, size_t first_length, const uint8_t *second, size_t second_length,
+                          int64_t *which, size_t which_length);
+
+/* Room that a sheet or a plan of n bytes asks for in out: 11 bytes for each byte of input, up to 65,536 of them, and 7. */
+#define SWIVELCRANE_ROOM(n) (11 * ((n) < 65536 ? (size_t)(n) : (size_t)65536) + 7)
+
+/* A whole sheet, and a whole plan, from its bytes to what the program prints. The answer is the length of the text, whose
+ * bytes stand at the start of out; the bytes past it are as they were. */
+int64_t swivelcrane_sheet(const uint8_t *input, size_t input_length, uint8_t *out, size_t out_length);
+int64_t swivelcrane_plan(const uint8_t *input, size_t input_length, uint8_t *out, size_t out_length);
+
+#ifdef __cplusplus
+}
+#endif
+
+#endif

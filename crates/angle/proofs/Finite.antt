@@ -16,7 +16,7 @@ use lib.Ieee.Positive.{num, den}
 use Rattle.refusal.specs.Order.{first}
 use Rattle.rounding.specs.Decimals.{tooLarge, wholeOf, roundedOf}
 use Rattle.rounding.specs.declared.decimals.Rounded.the-variants.{Whole}
-use Rattle.rounding.proofs.decimals.Nearest.{few}
+use Rattle.rounding.proofs.Places.{few}
 use Rattle.bounds.specs.Among.{Ends, Among, is-finite, neg-among}
 use Rattle.bounds.specs.Formula.{var, lit, plus, minus, times, over, All, none, also, value, bounds, test, proved}
 use Rattle.bounds.specs.Zero.{wholes, Upto}

@@ -17,7 +17,7 @@ use Rattle.refusal.specs.Numbers.{size}
 use Rattle.rounding.specs.Decimals.{halfUp, signed, tooLarge, wholeOf, roundedOf}
 use Rattle.rounding.specs.declared.decimals.Rounded.{Rounded}
 use Rattle.rounding.specs.declared.decimals.Rounded.the-variants.{Whole, Refused}
-use Rattle.rounding.proofs.decimals.Nearest.{few, refused}
+use Rattle.rounding.proofs.Places.{few, refused}
 use Rattle.rounding.proofs.decimals.Pattern.{Small, small, no-nan, over, under, not-large, bits-of, field-of, digits-of, field-most, middle, tiny, table, tens, ten-le, in-table, neg-fits, negated}
 use Rattle.rounding.proofs.decimals.round_places.Statement.{statement}
 use Rattle.rounding.proofs.decimals.round_places.Tie as tie

@@ -1,2 +1,4 @@
-pub mod Outcome
 pub mod Calls
+pub mod Chains
+pub mod Letters
+pub mod Outcome

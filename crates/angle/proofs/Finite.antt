@@ -222,7 +222,7 @@ not-large b (fin s m e) y N D l h =
     lt-leb (10000000 * down e) (m * up e) (below (m * up e) b (down e) (down-pos e) l c)
   where
     below : (v b d : ℕ) → 0 < d → b < 10000000 → v * 1 ≤ b * d → v < 10000000 * d
-    below v b d D l c = let k : (b + 1) * d ≤ 10000000 * d = mul-le-mul-right d l in omega arith
+    below v b d D l c = let k : (b + 1) * d ≤ 10000000 * d = mul-le-mul-right d (omega arith) in omega arith
 
 -- each bound's computed facts
 record Bound (b : ℕ) : Type 0 where

@@ -1,6 +1,7 @@
 pub mod AtOrigin
 pub mod Finite
 pub mod Formulas
+pub mod Made
 pub mod Orders
 pub mod Sizes
 pub mod Tests

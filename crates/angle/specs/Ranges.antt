@@ -2,7 +2,7 @@
 use Prim.Native.Nat.{ℕ}
 use mathlib.Core.Bool.{Bool, _||_}
 use mathlib.Core.List.{List, [], _∷_, _++_}
-use lib.IntN.{ℤ, pos, negsuc, _-ℤ_}
+use lib.IntN.{ℤ, pos, negℤ, _-ℤ_}
 use lib.Signed.{ltZ}
 use Rattle.refusal.specs.Numbers.{range, geodetic}
 use Rattle.refusal.specs.Numbers as numbers
@@ -25,17 +25,17 @@ badLatitude z = outside (pos 0) (pos 2880000000) z
 abbrev pub badLongitude : ℤ → Bool
 badLongitude z = outside (pos 35640000000) (pos 43200000000) z
 
--- units of 0.00001 m: from -50,000,000
+-- units of 0.00001 m
 abbrev pub badHeight : ℤ → Bool
-badHeight z = outside (negsuc 49999999) (pos 900000000) z
+badHeight z = outside (negℤ (pos 50000000)) (pos 900000000) z
 
 -- a false easting or northing: within 2,000,000,000 mm
 abbrev pub badOffset : ℤ → Bool
-badOffset z = outside (negsuc 1999999999) (pos 2000000000) z
+badOffset z = outside (negℤ (pos 2000000000)) (pos 2000000000) z
 
 -- two longitudes over 1,440,000,000 apart
 abbrev pub farApart : ℤ → ℤ → Bool
-farApart a b = outside (negsuc 1439999999) (pos 1440000000) (a -ℤ b)
+farApart a b = outside (negℤ (pos 1440000000)) (pos 1440000000) (a -ℤ b)
 
 -- ---- the orders
 abbrev pub angleTests : ℤ → ℤ → List Test

@@ -75,9 +75,10 @@ fn lay(o: Origin, s: f64, c: f64, nu: f64, m: f64, difference: f64) -> Grid
     let a3 = a2 * a;
     let a4 = a2 * a2;
     let a5 = a4 * a;
-    let east = nu * (a - t2 * a3 / 6.0 - (8.0 - t2 + 8.0 * cc) * t2 * a5 / 120.0);
-    let north = m - o.m0 + nu * t * (a2 / 2.0 + (5.0 - t2 + 6.0 * cc) * a4 / 24.0);
-    Grid::Metres(o.false_easting + east, o.false_northing + north)
+    let east = o.false_easting + nu * (a - t2 * a3 / 6.0 - (8.0 - t2 + 8.0 * cc) * t2 * a5 / 120.0);
+    let north = o.false_northing
+        + (m - o.m0 + nu * t * (a2 / 2.0 + (5.0 - t2 + 6.0 * cc) * a4 / 24.0));
+    Grid::Metres(east, north)
 }
 
 // The same, for a latitude in its range and longitudes that are not too far apart.

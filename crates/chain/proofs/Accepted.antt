@@ -16,7 +16,7 @@ use Rattle.chain.specs.declared.Answer.{Answer}
 use Rattle.chain.specs.declared.Answer.the-variants.{Converted, Refused}
 use Rattle.chain.specs.Faults.{sameRealization, inArea, pointTests, stepTests, stepFault, joinTest, laterTests, stepsTests, chainTests, stepsOf}
 use Rattle.chain.specs.Convert.{Walk, at, outside, placeTests, conversionTests, movedTo, answerOf, unlessRefused, convert}
-use Rattle.chain.proofs.Tests.{Named, both-pass, head-holds}
+use Rattle.chain.proofs.Tests.{Named, first-left, first-right, both-pass, head-holds}
 
 -- no step is refused by itself
 abbrev pub Sound : List Step → Type 0
@@ -44,13 +44,6 @@ unfolding stepFault
 sound-steps [] e = tt
 sound-steps (s ∷ ss) e = let f = both-pass (stepTests s) (laterTests s ss) (refl, (refl, (refl, tt))) e in (f .0, sound-later s ss (f .1))
 
--- ---- all of a conversion's
-pub record Accepted (c : Chain) (p : Point) (wanted : Realization) : Type 0 where
-  pub short : c .length ≤ 8
-  pub sound : Sound (stepsOf c)
-  pub here : sameRealization (p .realization) wanted ≡ true
-  pub area : inArea (p .position) ≡ true
-
 no-ninth : (b : Bool) (n x : ℕ) → pick b (suc n) x ≡ 0 → (b ≡ false) × (x ≡ 0)
 no-ninth true n x e = absurd (never e)
   where
@@ -58,13 +51,59 @@ no-ninth true n x e = absurd (never e)
     never e = omega arith
 no-ninth false n x e = (refl, e)
 
+pub chain-holds : (c : Chain) → first (chainTests c) ≡ 0 → (c .length ≤ 8) × Sound (stepsOf c)
+chain-holds c e =
+    let n = no-ninth (ltb 8 (c .length)) 5 (first (stepsTests (stepsOf c))) e in
+    (ltb-false 8 (c .length) (n .0), sound-steps (stepsOf c) (n .1))
+
+-- ---- all of a conversion's
+pub record Accepted (c : Chain) (p : Point) (wanted : Realization) : Type 0 where
+  pub short : c .length ≤ 8
+  pub sound : Sound (stepsOf c)
+  pub here : sameRealization (p .realization) wanted ≡ true
+  pub area : inArea (p .position) ≡ true
+
 pub accepted : (c : Chain) (p : Point) (wanted : Realization) → first (conversionTests c p wanted) ≡ 0 → Accepted c p wanted
 accepted c p wanted e =
     let f = both-pass (chainTests c) (pointTests p ++ placeTests p wanted) (refl, named-steps (stepsOf c)) e in
-    let n = no-ninth (ltb 8 (c .length)) 5 (first (stepsTests (stepsOf c))) (f .0) in
+    let n = chain-holds c (f .0) in
     let g = both-pass (pointTests p) (placeTests p wanted) (refl, (refl, tt)) (f .1) in
     let h = head-holds (sameRealization (p .realization) wanted) 8 _ (g .1) in
-    record { short = ltb-false 8 (c .length) (n .0); sound = sound-steps (stepsOf c) (n .1); here = h .0; area = head-holds (inArea (p .position)) 9 0 (h .1) .0 }
+    record { short = n .0; sound = n .1; here = h .0; area = head-holds (inArea (p .position)) 9 0 (h .1) .0 }
+
+-- ---- how the code answers: the chain decides first, then the point, then the walk
+abbrev pub entry : Point → Realization → ℕ
+entry p wanted = first (pointTests p ++ placeTests p wanted)
+
+pub entry-area : (p : Point) (wanted : Realization) → entry p wanted ≡ 0 → inArea (p .position) ≡ true
+entry-area p wanted e =
+    let g = both-pass (pointTests p) (placeTests p wanted) (refl, (refl, tt)) e in
+    head-holds (inArea (p .position)) 9 0 (head-holds (sameRealization (p .realization) wanted) 8 _ (g .1) .1) .0
+
+refused : (n : ℕ) (a : Answer) → (n ≡ 0 → ⊥) → Refused n ≡ unlessRefused n a
+unfolding unlessRefused
+refused zero a h = absurd (h refl)
+refused (suc n) a h = refl
+
+module _ (c : Chain) (p : Point) (wanted reached : Realization) (w : Walk) where
+  named : Named (chainTests c)
+  named = (refl, named-steps (stepsOf c))
+
+  pub by-chain : (first (chainTests c) ≡ 0 → ⊥) → Refused (first (chainTests c)) ≡ convert c p wanted reached w
+  unfolding convert
+  by-chain h =
+      refused (first (chainTests c)) (answerOf p reached w) h
+      ∙ ap (λ (n : ℕ). unlessRefused n (answerOf p reached w)) (first-left (chainTests c) (pointTests p ++ placeTests p wanted) named h)
+
+  pub by-point : first (chainTests c) ≡ 0 → (entry p wanted ≡ 0 → ⊥) → Refused (entry p wanted) ≡ convert c p wanted reached w
+  unfolding convert
+  by-point e h =
+      refused (entry p wanted) (answerOf p reached w) h
+      ∙ ap (λ (n : ℕ). unlessRefused n (answerOf p reached w)) (first-right (chainTests c) (pointTests p ++ placeTests p wanted) named e)
+
+  pub by-walk : first (chainTests c) ≡ 0 → entry p wanted ≡ 0 → answerOf p reached w ≡ convert c p wanted reached w
+  unfolding convert unlessRefused
+  by-walk e h = ap (λ (n : ℕ). unlessRefused n (answerOf p reached w)) (sym h ∙ first-right (chainTests c) (pointTests p ++ placeTests p wanted) named e)
 
 -- ---- a converted point
 pub record Conversion (c : Chain) (p : Point) (wanted reached : Realization) (w : Walk) (q : Point) : Type 0 where

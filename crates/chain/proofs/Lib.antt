@@ -5,5 +5,6 @@ pub mod Sizes
 pub mod Walk
 pub mod Accepted
 pub mod Prepared
+pub mod Places
 pub mod RoundTrip
 pub mod Cases

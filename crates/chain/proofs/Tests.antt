@@ -18,6 +18,13 @@ orElse-both (suc m) n e = absurd (never e)
     never : suc m ≡ 0 → ⊥
     never e = omega arith
 
+pub orElse-left : (m n : ℕ) → (m ≡ 0 → ⊥) → orElse m n ≡ m
+orElse-left zero n h = absurd (h refl)
+orElse-left (suc m) n h = refl
+
+pub orElse-right : (m n : ℕ) → m ≡ 0 → orElse m n ≡ n
+orElse-right m n e = ap (λ (k : ℕ). orElse k n) e
+
 -- two orders one after the other. The numbers are none of them 0
 abbrev pub Named : List Test → Type 0
 Named [] = Unit {0}
@@ -34,6 +41,13 @@ first-pick false n x e y = refl
 pub first-append : (a b : List Test) → Named a → first (a ++ b) ≡ orElse (first a) (first b)
 first-append [] b n = refl
 first-append (t ∷ a) b n = ap (pick (t .fails) (t .number)) (first-append a b (n .1)) ∙ first-pick (t .fails) (t .number) (first a) (n .0) (first b)
+
+-- what the code finds: the first order decides where it refuses, and the second where it doesn't
+pub first-left : (a b : List Test) → Named a → (first a ≡ 0 → ⊥) → first a ≡ first (a ++ b)
+first-left a b n h = sym (first-append a b n ∙ orElse-left (first a) (first b) h)
+
+pub first-right : (a b : List Test) → Named a → first a ≡ 0 → first b ≡ first (a ++ b)
+first-right a b n e = sym (first-append a b n ∙ orElse-right (first a) (first b) e)
 
 -- where no test of two orders fails, none of either does
 pub both-pass : (a b : List Test) → Named a → first (a ++ b) ≡ 0 → (first a ≡ 0) × (first b ≡ 0)

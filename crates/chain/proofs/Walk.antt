@@ -35,6 +35,13 @@ onward-assoc : (w : Walk) (g h : Position → Walk) → onward (onward w g) h �
 onward-assoc (at p) g h = refl
 onward-assoc outside g h = refl
 
+-- a step that stays in the area, and one that leaves it
+pub stays : (q : Position) (g : Position → Walk) → inArea q ≡ true → onward (kept q) g ≡ g q
+stays q g e = ap (λ (b : Bool). onward (pick b (at q) outside) g) e
+
+pub leaves : (q : Position) (g : Position → Walk) → inArea q ≡ false → onward (kept q) g ≡ outside
+leaves q g e = ap (λ (b : Bool). onward (pick b (at q) outside) g) e
+
 module _ (f : Step → Position → Position) where
   -- the first step's result is in the area, and the rest goes on from there
   pub walk-step : (s : Step) (ss : List Step) (p r : Position) → walk f (s ∷ ss) p ≡ at r → (inArea (f s p) ≡ true) × (walk f ss (f s p) ≡ at r)

@@ -1,11 +1,15 @@
 // Datum steps on Cartesian positions, forward and inverse, and chains of up to eight of them.
 
 mod apply;
+mod checks;
+mod convert;
 mod faults;
 mod kinds;
 mod ranges;
 mod ready;
 
+pub use crate::convert::forward;
+pub use crate::convert::inverse;
 pub use crate::faults::point_fault;
 pub use crate::faults::step_fault;
 

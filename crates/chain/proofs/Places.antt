@@ -1,0 +1,89 @@
+-- The steps of a chain by their places: what is left to examine or to walk from a place on. Assumes nothing.
+use mathlib.Core.Path.{_≡_, refl, sym, _∙_, ap, subst}
+use mathlib.Core.List.{List, [], _∷_, _++_, reverse, reverseAux-eq, reverse-append}
+use Prim.Native.Nat.{ℕ, zero, suc, _+_, _≤_, _<_}
+use native.Mathlib.Nat as NatL
+use native.Mathlib.Numerals.{add-one}
+use native.Mathlib.Omega.{arith}
+use lib.IntN.{pos}
+use lib.ListN.{length, take, drop, getD, length-take}
+use lib.Seq.{take-suc, drop-cons, getD-take}
+use Rattle.refusal.specs.Order.{Test, first}
+use Rattle.chain.specs.declared.Position.{Position}
+use Rattle.chain.specs.declared.Realization.{Realization}
+use Rattle.chain.specs.declared.Kind.the-variants.{Shift}
+use Rattle.chain.specs.declared.Step.{Step}
+use Rattle.chain.specs.Faults.{stepFault, stepTests, joinTest, laterTests, stepsTests}
+use Rattle.chain.specs.Convert.{Walk, onward, kept, walk, startOf, endOf}
+use Rattle.chain.proofs.Tests.{orElse, Named, first-append}
+use Rattle.chain.proofs.Accepted.{Sound}
+
+-- what a place past the end reads as
+abbrev pub no-step : Step
+no-step = record {
+  kind = Shift (record { dx = pos 0; dy = pos 0; dz = pos 0 });
+  before = record { datum = pos 0; epoch = pos 0 };
+  after = record { datum = pos 0; epoch = pos 0 };
+}
+
+-- a step that follows another: its tests and the join, then the rest
+pub later-first : (s t : Step) (ts : List Step) → first (laterTests s (t ∷ ts)) ≡ orElse (first (stepTests t ++ (joinTest s t ∷ []))) (first (laterTests t ts))
+later-first s t ts = first-append (stepTests t ++ (joinTest s t ∷ [])) (laterTests t ts) (refl, (refl, (refl, (refl, tt))))
+
+module _ (l : List Step) (n i : ℕ) (below : i < n) (inside : i < length l) where
+  abbrev here : Step
+  here = getD l i no-step
+
+  -- the steps from place i on, below n
+  pub from : drop i (take n l) ≡ here ∷ drop (i + 1) (take n l)
+  from =
+      let long : i < length (take n l) = simp length-take (omega arith) in
+      drop-cons (take n l) i no-step long
+      ∙ ap (λ (s : Step). s ∷ drop (suc i) (take n l)) (getD-take n l i no-step below)
+      ∙ ap (λ (j : ℕ). here ∷ drop j (take n l)) (sym (add-one i))
+
+  pub later-from : (s : Step) → first (laterTests s (drop i (take n l))) ≡ orElse (first (stepTests here ++ (joinTest s here ∷ []))) (first (laterTests here (drop (i + 1) (take n l))))
+  later-from s = ap (λ (ss : List Step). first (laterTests s ss)) from ∙ later-first s here (drop (i + 1) (take n l))
+
+  pub walk-from : (f : Step → Position → Position) (p : Position) → walk f (drop i (take n l)) p ≡ onward (kept (f here p)) (walk f (drop (i + 1) (take n l)))
+  unfolding walk
+  walk-from f p = ap (λ (ss : List Step). walk f ss p) from
+
+-- nothing is left at the end
+pub none-left : (l : List Step) (n : ℕ) → drop n (take n l) ≡ []
+none-left l zero = refl
+none-left [] (suc n) = refl
+none-left (x ∷ xs) (suc n) = none-left xs n
+
+-- from the last place of i + 1 steps down
+pub walk-down : (l : List Step) (i : ℕ) (f : Step → Position → Position) (p : Position) → i < length l → walk f (reverse (take (i + 1) l)) p ≡ onward (kept (f (getD l i no-step) p)) (walk f (reverse (take i l)))
+unfolding walk
+walk-down l i f p h =
+    ap (λ (k : ℕ). walk f (reverse (take k l)) p) (add-one i)
+    ∙ ap (λ (ss : List Step). walk f (reverse ss) p) (take-suc l i no-step h)
+    ∙ ap (λ (ss : List Step). walk f ss p) (reverse-append (take i l) (getD l i no-step ∷ []))
+
+-- each step of a sound chain is sound
+pub sound-at : (l : List Step) (n i : ℕ) → i < n → i < length l → Sound (take n l) → stepFault (getD l i no-step) ≡ 0
+sound-at [] n i h k ok = absurd (NatL.not-suc-le-zero k)
+sound-at (x ∷ xs) zero i h k ok = absurd (NatL.not-suc-le-zero h)
+sound-at (x ∷ xs) (suc n) zero h k ok = ok .0
+sound-at (x ∷ xs) (suc n) (suc i) h k ok = sound-at xs n i (NatL.le-of-suc-le-suc h) (NatL.le-of-suc-le-suc k) (ok .1)
+
+-- ---- the first and the last step
+pub first-tests : (l : List Step) (n : ℕ) → 0 < n → 0 < length l → first (stepsTests (take n l)) ≡ orElse (first (stepTests (getD l 0 no-step))) (first (laterTests (getD l 0 no-step) (drop 1 (take n l))))
+first-tests [] n h k = absurd (NatL.not-suc-le-zero k)
+first-tests (x ∷ xs) zero h k = absurd (NatL.not-suc-le-zero h)
+first-tests (x ∷ xs) (suc n) h k = first-append (stepTests x) (laterTests x (take n xs)) (refl, (refl, (refl, tt)))
+
+pub start-at : (l : List Step) (n : ℕ) (r : Realization) → 0 < n → 0 < length l → startOf r (take n l) ≡ getD l 0 no-step .before
+unfolding startOf
+start-at [] n r h k = absurd (NatL.not-suc-le-zero k)
+start-at (x ∷ xs) zero r h k = absurd (NatL.not-suc-le-zero h)
+start-at (x ∷ xs) (suc n) r h k = refl
+
+pub end-at : (l : List Step) (i : ℕ) (r : Realization) → i < length l → endOf r (take (suc i) l) ≡ getD l i no-step .after
+unfolding endOf
+end-at [] i r k = absurd (NatL.not-suc-le-zero k)
+end-at (x ∷ xs) zero r k = refl
+end-at (x ∷ xs) (suc i) r k = end-at xs i (x .after) (NatL.le-of-suc-le-suc k)

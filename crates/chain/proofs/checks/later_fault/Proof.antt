@@ -1,0 +1,45 @@
+-- `chain::checks::later_fault` meets its contract: the tests in the order of the definition. Assumes nothing.
+use mathlib.Core.Path.{_≡_, refl, sym, _∙_, ap}
+use mathlib.Core.Bool.{Bool, true, false, not}
+use mathlib.Core.List.{[], _∷_, _++_}
+use borrow.Author.Tests.{not-true, not-false}
+use Rattle.refusal.specs.Order.{pick, first}
+use Rattle.chain.specs.declared.Step.{Step}
+use Rattle.chain.specs.Faults.{sameRealization, stepTests, joinTest, stepFault}
+use Rattle.chain.proofs.Tests.{first-left, first-right, Named}
+use Rattle.chain.proofs.checks.later_fault.Statement.{statement}
+use Rattle.chain.proofs.checks.later_fault.Tie as tie
+
+step-fault-requires : tie.Need-step-fault-requires
+step-fault-requires c κs = tt
+
+named : (s : Step) → Named (stepTests s)
+named s = (refl, (refl, (refl, tt)))
+
+returns : tie.Need-returns
+unfolding stepFault
+returns c =
+    let s = c .before .before .args .step in
+    let f = c .before .step-fault .ensures in
+    f ∙ first-left (stepTests s) (joinTest (c .before .before .args .previous) s ∷ []) (named s) (λ e. c .if1 .taken (f ∙ e))
+
+same-realization-requires : tie.Need-same-realization-requires
+same-realization-requires c κs = tt
+
+-- where the step by itself is not refused, the join decides
+module _ (c : tie.After-same-realization) where
+  joined : first (joinTest (c .before .before .before .before .before .args .previous) (c .before .before .before .before .before .args .step) ∷ []) ≡ first (stepTests (c .before .before .before .before .before .args .step) ++ (joinTest (c .before .before .before .before .before .args .previous) (c .before .before .before .before .before .args .step) ∷ []))
+  unfolding stepFault
+  joined = first-right (stepTests (c .before .before .before .before .before .args .step)) (joinTest (c .before .before .before .before .before .args .previous) (c .before .before .before .before .before .args .step) ∷ []) (named (c .before .before .before .before .before .args .step)) (sym (c .before .before .before .before .step-fault .ensures) ∙ c .before .before .before .if1 .left)
+
+  same : (b : Bool) → c .same-realization .result ≡ b → sameRealization (c .before .before .before .before .before .args .previous .after) (c .before .before .before .before .before .args .step .before) ≡ b
+  same b e = sym (c .same-realization .ensures) ∙ e
+
+returns-2 : tie.Need-returns-2
+returns-2 c = let e = same (c .before) false (not-true _ (c .if2 .taken)) in ap (λ (b : Bool). pick (not b) 5 0) (sym e) ∙ joined (c .before)
+
+returns-3 : tie.Need-returns-3
+returns-3 c = let e = same (c .before) true (not-false _ (c .if2 .left)) in ap (λ (b : Bool). pick (not b) 5 0) (sym e) ∙ joined (c .before)
+
+pub later-fault-spec : {M : Type 1} → statement M
+later-fault-spec = tie.close (tie.spec step-fault-requires returns same-realization-requires returns-2 returns-3)

@@ -1,0 +1,110 @@
+// What a chain, and a point for it, are refused for.
+ghost use mathlib.Core.Path.{_≡_};
+ghost use mathlib.Core.List.{_++_, _∷_, []};
+ghost use Prim.Native.Nat.{_≤_};
+ghost use Rattle.refusal.specs.Order.{first};
+ghost use Rattle.chain.specs.Faults.{stepTests, joinTest, stepsTests, chainTests, pointTests, stepsOf};
+ghost use Rattle.chain.specs.Convert.{placeTests, startOf, endOf};
+use crate::Chain;
+use crate::Point;
+use crate::Realization;
+use crate::Step;
+use crate::faults;
+use crate::ranges;
+
+// A step that follows another: its own faults, then JOIN where it doesn't begin where the other ended.
+fn later_fault(previous: Step, step: Step) -> u8
+    ensures { λ r. ⌜ r ≡ first (stepTests step ++ (joinTest previous step ∷ [])) ⌝ }
+{
+    let f = faults::step_fault(step);
+    if f != 0 {
+        return f;
+    }
+    let end = previous.after;
+    let start = step.before;
+    if !ranges::same_realization(end, start) {
+        return refusal::JOIN;
+    }
+    0
+}
+
+// The steps within the length, one after another.
+fn steps_fault(chain: Chain) -> u8
+    requires { ⌜ chain .length ≤ 8 ⌝ }
+    ensures { λ r. ⌜ r ≡ first (stepsTests (stepsOf chain)) ⌝ }
+{
+    let n = chain.length;
+    if n == 0 {
+        return 0;
+    }
+    let mut previous = chain.steps[0];
+    let f = faults::step_fault(previous);
+    if f != 0 {
+        return f;
+    }
+    let mut i = 1;
+    while i < n {
+        let step = chain.steps[i];
+        let f = later_fault(previous, step);
+        if f != 0 {
+            return f;
+        }
+        previous = step;
+        i += 1;
+    }
+    0
+}
+
+// The refusal that a chain alone decides: NINTH, then each step's, or 0 for none.
+pub(crate) fn chain_fault(chain: Chain) -> u8
+    ensures { λ r. ⌜ r ≡ first (chainTests chain) ⌝ }
+{
+    if chain.length > 8 {
+        return refusal::NINTH;
+    }
+    steps_fault(chain)
+}
+
+// The refusal of a point for a conversion that wants it at a realization: its numbers, START, AREA, or 0 for none.
+pub(crate) fn entry_fault(point: Point, wanted: Realization) -> u8
+    ensures { λ r. ⌜ r ≡ first (pointTests point ++ placeTests point wanted) ⌝ }
+{
+    let f = faults::point_fault(point);
+    if f != 0 {
+        return f;
+    }
+    let r = point.realization;
+    if !ranges::same_realization(r, wanted) {
+        return refusal::START;
+    }
+    let p = point.position;
+    if !ranges::in_area(p) {
+        return refusal::AREA;
+    }
+    0
+}
+
+// Where a chain starts; for the empty chain, where the point is.
+pub(crate) fn start_of(chain: Chain, r: Realization) -> Realization
+    ensures { λ t. ⌜ t ≡ startOf r (stepsOf chain) ⌝ }
+{
+    if chain.length == 0 {
+        return r;
+    }
+    let s = chain.steps[0];
+    s.before
+}
+
+// Where a chain ends; for the empty chain, where the point is.
+pub(crate) fn end_of(chain: Chain, r: Realization) -> Realization
+    requires { ⌜ chain .length ≤ 8 ⌝ }
+    ensures { λ t. ⌜ t ≡ endOf r (stepsOf chain) ⌝ }
+{
+    let n = chain.length;
+    if n == 0 {
+        return r;
+    }
+    let last = n - 1;
+    let s = chain.steps[last];
+    s.after
+}

@@ -1,11 +1,15 @@
 -- The three ways in which a call ends, for arrays of any numbers. Assumes nothing.
-use mathlib.Core.Path.{_≡_, refl, sym, _∙_, ap, subst⁻¹}
-use mathlib.Core.List.{List, [], _++_, append-nil}
-use Prim.Native.Nat.{ℕ, _+_, _≤_}
+use mathlib.Core.Path.{_≡_, refl, sym, _∙_, ap, ap₂}
+use mathlib.Core.List.{List, [], _∷_, _++_, map, append-nil}
+use Prim.Native.Nat.{ℕ, _+_, _≤_, _<_}
 use native.Mathlib.Omega.{arith}
 use lib.IntN.{ℤ, pos}
 use lib.ListN.{length, drop-of-length-le}
 use lib.Seq.{sets, sets-eq}
+use lib.Signed.{mag}
+use mir.Syntax.{w64}
+use mir.Val.{toZ, ofZ}
+use Rattle.rounding.specs.Machine.{told}
 use Rattle.capi.specs.Outcome.{Outcome, wrongLength, refused, gives, Answered}
 
 -- all elements of an array are stored, from the first on
@@ -27,5 +31,20 @@ module _ {A : Type 0} {o : Outcome A} {before : List A} where
   declined e f = rw e (record { status = f; out = refl })
 
   -- numbers are given, and stored one after the other
-  pub given : (vs : List A) → o ≡ gives vs → length before ≡ length vs → Answered o before (sets before 0 vs) (pos 0)
-  given vs e f = rw e (record { status = refl; out = filled before vs f })
+  pub given : {vs : List A} → o ≡ gives vs → length before ≡ length vs → Answered o before (sets before 0 vs) (pos 0)
+  given {vs} e f = rw e (record { status = refl; out = filled before vs f })
+
+-- ---- whole numbers: an array holds what the machine stores of each
+abbrev pub stored : ℤ → ℤ
+stored z = toZ w64 (ofZ w64 z)
+
+abbrev pub Fit : List ℤ → Type 0
+Fit [] = Unit {0}
+Fit (z ∷ zs) = (mag z < 9223372036854775808) × Fit zs
+
+all-stored : (zs : List ℤ) → Fit zs → zs ≡ map stored zs
+all-stored [] f = refl
+all-stored (z ∷ zs) f = ap₂ _∷_ (sym (told (f .0))) (all-stored zs (f .1))
+
+pub numbers : {o : Outcome ℤ} {before vs : List ℤ} → o ≡ gives vs → Fit vs → length before ≡ length vs → Answered o before (sets before 0 (map stored vs)) (pos 0)
+numbers {vs = vs} e f l = given (e ∙ ap gives (all-stored vs f)) (l ∙ ap length (all-stored vs f))

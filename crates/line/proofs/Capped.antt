@@ -17,7 +17,7 @@ use Rattle.line.specs.Reading.{cap, capped, cappedZ}
 use Rattle.line.proofs.Answers.{Careful}
 
 -- ---- bools
-never : _≡_ {A = Bool} false true → ⊥
+pub never : _≡_ {A = Bool} false true → ⊥
 never q = let w : _≡_ {A = ℕ} 0 1 = cc in omega arith
 
 pub both : {a b c d : Bool} → a ≡ c → b ≡ d → (a && b) ≡ (c && d)

@@ -4,3 +4,9 @@ pub mod Names
 pub mod Answers
 pub mod Capped
 pub mod Faults
+pub mod Texts
+pub mod Compared
+pub mod Lengths
+pub mod WrittenNumbers
+pub mod WrittenNames
+pub mod Back

@@ -36,7 +36,7 @@ word-append [] q (suc k) h = absurd (omega arith)
 word-append (x ∷ p) q zero h = absurd (omega arith)
 word-append (x ∷ p) q (suc k) h = let e = word-append p q k (omega arith) in omega arith
 
-pow-above : (k : ℕ) → 0 < 256 ^ k
+pub pow-above : (k : ℕ) → 0 < 256 ^ k
 pow-above zero = omega arith
 pow-above (suc k) = let e = pow-suc 256 k in let h = pow-above k in omega arith
 

@@ -181,6 +181,10 @@ module _ {s : List ℕ} {at b next : ℕ} (ls : List ℕ) (g : Got s itself sing
       go [] t = h
       go (f ∷ fs) t = by (single f) fs t
 
+-- one of some letters
+pub is-one : (ls : List ℕ) {b l : ℕ} → b ≡ l → oneOf ls (some l) ≡ some l → oneOf ls (some b) ≡ some b
+is-one ls e m = rw e m
+
 -- a line's bytes before its line feed
 module _ (line : List ℕ) where
   pub framed-empty : length line ≡ 0 → body line ≡ none
@@ -222,3 +226,26 @@ module _ {A C : Type 0} {s : List ℕ} {image : A → C} {v : C} {last : ℕ} wh
       go : Dec (length s < last) → TellsLine s image (filled (ends a) (from s last)) v last
       go (yes l) = rw (from-past s last l) (e, omega arith)
       go (no l) = let x = field-at s last (omega arith) in rw (x .is) (λ q. omega arith)
+
+-- ---- a form whose record another holds
+abbrev pub mapped : {A B : Type 0} → (A → B) → Option A → Option B
+mapped f none = none
+mapped f (some a) = some (f a)
+
+pub filled-into : {A B : Type 0} (f : A → B) (form : Form A) (fs : List (List ℕ)) → filled (into f form) fs ≡ mapped f (filled form fs)
+unfolding filled into
+filled-into f (ends a) [] = refl
+filled-into f (ends a) (g ∷ fs) = refl
+filled-into f (field read k) fs = go (head read fs) (λ b rest. filled-into f (k b) rest)
+  where
+    go : (o : Option _) → ((b : _) (rest : List (List ℕ)) → filled (into f (k b)) rest ≡ mapped f (filled (k b) rest)) → onward o (λ b rest. filled (into f (k b)) rest) ≡ mapped f (onward o (λ b rest. filled (k b) rest))
+    go none on = refl
+    go (some p) on = on (p .0) (p .1)
+
+pub told-into : {A B C D : Type 0} {s : List ℕ} {part : A → C} {image : B → D} {form : Form A} {at : ℕ} {w : C} {v : D} {last : ℕ} (f : A → B)
+    → Told s part form at w last → ((a : A) → w ≡ part a → v ≡ image (f a)) → Told s image (into f form) at v last
+told-into {s = s} {part} {image} {form} {at} {w} {v} {last} f t on = record { tells = rw (filled-into f form (from s at)) (go (filled form (from s at)) (t .tells)) }
+  where
+    go : (o : Option _) → TellsLine s part o w last → TellsLine s image (mapped f o) v last
+    go none q = q
+    go (some a) q = (on a (q .0), q .1)

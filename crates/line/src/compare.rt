@@ -4,6 +4,7 @@ use crate::PointLine;
 use crate::Verdict;
 use crate::point_line::read_point;
 ghost use mathlib.Core.Path.{_≡_};
+ghost use lib.Signed.{ltZ};
 ghost use Rattle.line.specs.Later.{sameBytes, weighed, compared, laterOf, refusalOf, Handed};
 
 fn same_bytes(a: &[u8], b: &[u8]) -> bool
@@ -22,6 +23,13 @@ fn same_bytes(a: &[u8], b: &[u8]) -> bool
     true
 }
 
+// Issues go by number: 9 is before 10.
+fn is_before(issue: i64, other: i64) -> bool
+    ensures { λ r. ⌜ r ≡ ltZ issue other ⌝ }
+{
+    issue < other
+}
+
 fn weigh(p: chain::Point, q: chain::Point, equal: bool) -> Verdict
     ensures { λ r. ⌜ r ≡ weighed p q equal ⌝ }
 {
@@ -31,10 +39,10 @@ fn weigh(p: chain::Point, q: chain::Point, equal: bool) -> Verdict
     if p.id.low != q.id.low {
         return Verdict::Refused(refusal::IDS);
     }
-    if p.issue < q.issue {
+    if is_before(p.issue, q.issue) {
         return Verdict::Second;
     }
-    if q.issue < p.issue {
+    if is_before(q.issue, p.issue) {
         return Verdict::First;
     }
     if equal {

@@ -1,3 +1,4 @@
+use borrow.Author.Tests.{eq-eqb, ne-eqb}
 use borrow.Author.Needs.{needs}
 use Rattle.line.proofs.step_line.convention_of.Statement.{statement}
 use Rattle.line.proofs.step_line.convention_of.Tie as tie
@@ -6,11 +7,11 @@ use Rattle.line.proofs.step_line.convention_of.Lts as lts
 
 -- src/step_line.rt:61:1
 returns : tie.Need-returns
-returns c = ?
+returns c = rw (eq-eqb _ _ (c .if1 .taken))
 
 -- src/step_line.rt:61:1
 returns-2 : tie.Need-returns-2
-returns-2 c = ?
+returns-2 c = rw (ne-eqb _ _ (c .if1 .left))
 
 pub convention-of-spec : {M : Type 1} → statement M
 convention-of-spec = tie.close (tie.spec returns returns-2)

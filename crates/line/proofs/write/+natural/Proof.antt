@@ -1,5 +1,11 @@
+use Prim.Native.Nat.{ℕ, _+_, _-_, _≤_, _<_}
+use mathlib.Core.Path.{_≡_, refl, sym, ap, _∙_}
+use mathlib.Core.List.{List, [], _∷_, _++_}
+use native.Mathlib.Omega.{arith}
+use lib.ListN.{length}
+use borrow.Author.Tests.{eq-eqb, ne-eqb}
+use Rattle.line.proofs.Texts as T
 use borrow.Author.Needs.{needs}
-use Prim.Native.Nat.{ℕ, _<_}
 use borrow.Fn.Kinds.{In}
 use borrow.Fn.PlainCycle.{Measures, is, falls, and}
 use Rattle.line.proofs.write.natural.Reads as natural
@@ -11,7 +17,7 @@ use Rattle.line.proofs.write.+natural.{statement}
 use Rattle.line.proofs.write.+natural.Tie.{close}
 
 abbrev μ-natural : Measures 1 natural-kinds.ps ℕ
-μ-natural κs a = ?
+μ-natural κs a = a .1 .1 .0
 
 abbrev natural-at : ℕ → In 1 natural-kinds.ps
 natural-at t = and 1 natural-kinds.ps (is 1 natural-kinds.ps μ-natural t) natural.Pre
@@ -19,7 +25,7 @@ natural-at t = and 1 natural-kinds.ps (is 1 natural-kinds.ps μ-natural t) natur
 abbrev natural-below : ℕ → In 1 natural-kinds.ps
 natural-below t = and 1 natural-kinds.ps (falls 1 natural-kinds.ps _<_ μ-natural t) natural.Pre
 
--- src/write.rt:69:9
+-- src/write.rt:73:9
 natural-short-requires : (t : ℕ) → natural-lts.Need-short-requires (
   short-reads.Asked,
   short-reads.Learnt,
@@ -28,9 +34,9 @@ natural-short-requires : (t : ℕ) → natural-lts.Need-short-requires (
   six-digits-reads.Asked,
   six-digits-reads.Learnt,
 ) (natural-at t) natural.Post
-natural-short-requires t c κs = ?
+natural-short-requires t c κs = omega arith
 
--- src/write.rt:71:13
+-- src/write.rt:75:13
 natural-natural-requires : (t : ℕ) → natural-lts.Need-natural-requires (
   short-reads.Asked,
   short-reads.Learnt,
@@ -39,9 +45,9 @@ natural-natural-requires : (t : ℕ) → natural-lts.Need-natural-requires (
   six-digits-reads.Asked,
   six-digits-reads.Learnt,
 ) (natural-at t) natural.Post
-natural-natural-requires t c κs = ?
+natural-natural-requires t c κs = omega arith
 
--- src/write.rt:72:9
+-- src/write.rt:76:9
 natural-six-digits-requires : (t : ℕ) → natural-lts.Need-six-digits-requires (
   short-reads.Asked,
   short-reads.Learnt,
@@ -50,9 +56,9 @@ natural-six-digits-requires : (t : ℕ) → natural-lts.Need-six-digits-requires
   six-digits-reads.Asked,
   six-digits-reads.Learnt,
 ) (natural-at t) natural.Post
-natural-six-digits-requires t c κs = ?
+natural-six-digits-requires t c κs = search needs
 
--- src/write.rt:65:1
+-- src/write.rt:69:1
 natural-same-length : (t : ℕ) → natural-lts.Need-same-length (
   short-reads.Asked,
   short-reads.Learnt,
@@ -61,9 +67,9 @@ natural-same-length : (t : ℕ) → natural-lts.Need-same-length (
   six-digits-reads.Asked,
   six-digits-reads.Learnt,
 ) (natural-at t) natural.Post
-natural-same-length t c = ?
+natural-same-length t c = c .before .before .short .kept .0
 
--- src/write.rt:65:1
+-- src/write.rt:69:1
 natural-returns : (t : ℕ) → natural-lts.Need-returns (
   short-reads.Asked,
   short-reads.Learnt,
@@ -72,9 +78,9 @@ natural-returns : (t : ℕ) → natural-lts.Need-returns (
   six-digits-reads.Asked,
   six-digits-reads.Learnt,
 ) (natural-at t) natural.Post
-natural-returns t c = ?
+natural-returns t c = c .before .before .short .ensures
 
--- src/write.rt:65:1
+-- src/write.rt:69:1
 natural-same-length-2 : (t : ℕ) → natural-lts.Need-same-length-2 (
   short-reads.Asked,
   short-reads.Learnt,
@@ -83,9 +89,9 @@ natural-same-length-2 : (t : ℕ) → natural-lts.Need-same-length-2 (
   six-digits-reads.Asked,
   six-digits-reads.Learnt,
 ) (natural-at t) natural.Post
-natural-same-length-2 t c = ?
+natural-same-length-2 t c = c .before .before .six-digits .kept .0 ∙ c .before .before .before .before .before .before .natural .kept .0
 
--- src/write.rt:65:1
+-- src/write.rt:69:1
 natural-returns-2 : (t : ℕ) → natural-lts.Need-returns-2 (
   short-reads.Asked,
   short-reads.Learnt,
@@ -94,7 +100,7 @@ natural-returns-2 : (t : ℕ) → natural-lts.Need-returns-2 (
   six-digits-reads.Asked,
   six-digits-reads.Learnt,
 ) (natural-at t) natural.Post
-natural-returns-2 t c = ?
+natural-returns-2 t c = T.as-text (T.six-on (c .before .before .before .before .before .before .before .before .before .before .args .n) (omega arith)) (T.«then» (c .before .before .before .before .before .before .natural .ensures) (c .before .before .six-digits .ensures))
 
 pub +natural-spec : {M : Type 1} → statement M
 +natural-spec = close μ-natural λ t. natural-lts.spec (

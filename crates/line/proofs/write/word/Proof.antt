@@ -1,3 +1,11 @@
+use Rattle.line.specs.Text.{letters, Wrote}
+use Prim.Native.Nat.{ℕ, _+_, _-_, _≤_, _<_}
+use mathlib.Core.Path.{_≡_, refl, sym, ap, _∙_}
+use mathlib.Core.List.{List, [], _∷_, _++_}
+use native.Mathlib.Omega.{arith}
+use lib.ListN.{length}
+use borrow.Author.Tests.{eq-eqb, ne-eqb}
+use Rattle.line.proofs.Texts as T
 use borrow.Author.Needs.{needs}
 use Rattle.line.proofs.write.word.Statement.{statement}
 use Rattle.line.proofs.write.word.Tie as tie
@@ -6,54 +14,54 @@ use Rattle.line.proofs.write.word.Lts as lts
 use Rattle.line.proofs.write.byte.Reads as byte-reads
 
 abbrev Inv-loop : tie.InvT-loop
-Inv-loop out₀ at w p₀ v₀ left₀ out p v left = ?
+Inv-loop out₀ at w p₀ v₀ left₀ out p v left = (v < 18446744073709551616) × (length out ≡ length out₀) × ((m : List ℕ) (r : ℕ) → Wrote out p (letters left v) m r → Wrote out₀ at (letters 8 w) m r)
 
 abbrev μ-loop : tie.MeasureT-loop
-μ-loop out₀ at w p₀ v₀ left₀ out p v left = ?
+μ-loop out₀ at w p₀ v₀ left₀ out p v left = left
 
--- src/write.rt:108:5
+-- src/write.rt:112:5
 loop-holds : tie.Need-loop-holds Inv-loop μ-loop
-loop-holds c = search needs
+loop-holds c = (omega arith, refl, λ m r g. g)
 
--- src/write.rt:113:26
+-- src/write.rt:117:26
 cast-byte : tie.Need-cast-byte Inv-loop μ-loop
-cast-byte c = search needs
+cast-byte c = omega arith
 
--- src/write.rt:113:9
+-- src/write.rt:117:9
 byte-requires : tie.Need-byte-requires Inv-loop μ-loop
 byte-requires c κs = search needs
 
--- src/write.rt:114:13
+-- src/write.rt:118:13
 mul-v : tie.Need-mul-v Inv-loop μ-loop
 mul-v c = search needs
 
--- src/write.rt:115:16
+-- src/write.rt:119:16
 sub-left : tie.Need-sub-left Inv-loop μ-loop
 sub-left c = search needs
 
--- src/write.rt:108:5
+-- src/write.rt:112:5
 loop-less : tie.Need-loop-less Inv-loop μ-loop
 loop-less c = search needs
 
--- src/write.rt:108:5
+-- src/write.rt:112:5
 loop-again : tie.Need-loop-again Inv-loop μ-loop
-loop-again c = search needs
+loop-again c = let k = c .before .before .before .before .before .before .loop in (omega arith, c .before .before .byte .kept .0 ∙ k .inv .1, λ m r g. k .inv .2 m r (T.as-text (sym (T.letters-on (k .left) (k .v) (omega arith) (c .before .before .before .before .if1 .left))) (T.«then» (c .before .before .byte .ensures) g)))
 
--- src/write.rt:102:1
+-- src/write.rt:106:1
 same-length : tie.Need-same-length Inv-loop μ-loop
-same-length c = search needs
+same-length c = c .before .loop .inv .1
 
--- src/write.rt:102:1
+-- src/write.rt:106:1
 returns : tie.Need-returns Inv-loop μ-loop
-returns c = search needs
+returns c = let k = c .before .loop in k .inv .2 _ _ (T.as-text (sym (T.letters-none (k .left) (k .v) (omega arith))) (T.nothing _ _))
 
--- src/write.rt:102:1
+-- src/write.rt:106:1
 same-length-2 : tie.Need-same-length-2 Inv-loop μ-loop
-same-length-2 c = search needs
+same-length-2 c = c .before .before .loop .inv .1
 
--- src/write.rt:102:1
+-- src/write.rt:106:1
 returns-2 : tie.Need-returns-2 Inv-loop μ-loop
-returns-2 c = search needs
+returns-2 c = let k = c .before .before .loop in k .inv .2 _ _ (T.as-text (sym (T.letters-end (k .left) (k .v) (c .if1 .taken))) (T.nothing _ _))
 
 pub word-spec : {M : Type 1} → statement M
 word-spec =

@@ -1,0 +1,119 @@
+-- How long a written line can be.
+use Prim.Native.Nat.{ℕ, zero, suc, _+_, _*_, _/_, _%_, _^_, _≤_, _<_, max}
+use mathlib.Core.Path.{_≡_, refl, sym, ap, _∙_}
+use mathlib.Core.List.{List, [], _∷_, _++_}
+use mathlib.Core.Bool.{Bool, true, false, not, _&&_, _||_}
+use lib.Dec.{eqb, leb}
+use lib.IntN.{ℤ, pos, negsuc, negℤ, natAbs}
+use lib.Signed.{leZ}
+use lib.ListN.{length, length-append}
+use native.Mathlib.Decide.{decLt}
+use native.Mathlib.Nat.{pow-suc}
+use native.Mathlib.Omega.{arith}
+use borrow.Author.Tests.{leb-true}
+use Rattle.refusal.specs.Order.{pick, first, _gives_}
+use Rattle.refusal.specs.Numbers as refusal
+use Rattle.chain.specs.declared.Id.{Id}
+use Rattle.chain.specs.declared.Point.{Point}
+use Rattle.chain.specs.Ranges.{within, issueRange, datumRange, epochRange, givenRange}
+use Rattle.chain.specs.Faults.{realizationRange, agrees, givenPosition, pointRange, pointTests, pointFault}
+use Rattle.line.specs.Text.{decimal, integer, highest, letters, nameText, lineText, pointText, gridText, refusalText}
+use Rattle.line.proofs.Capped.{never, halves, passed}
+use Rattle.line.proofs.Texts as T
+
+-- ---- numbers and names
+len-pow : (k n : ℕ) → n < 10 ^ suc k → length (decimal n) ≤ suc k
+len-pow zero n h = omega (arith, ap length (T.decimal-one n h))
+len-pow (suc k) n h = go (decLt n 10) (λ l. len-pow k (n / 10) l)
+  where
+    go : Dec (n < 10) → (n / 10 < 10 ^ suc k → length (decimal (n / 10)) ≤ suc k) → length (decimal n) ≤ suc (suc k)
+    go (yes l) on = omega (arith, ap length (T.decimal-one n l))
+    go (no l) on =
+        let e = pow-suc 10 (suc k) in
+        let i = on (omega arith) in
+        omega (arith, ap length (T.decimal-more n (omega arith)), length-append (decimal (n / 10)) ((48 + n % 10) ∷ []))
+
+pub length-integer : (k : ℕ) (z : ℤ) → natAbs z < 10 ^ suc k → length (integer z) ≤ suc (suc k)
+unfolding integer
+length-integer k (pos n) h = omega (arith, len-pow k n h)
+length-integer k (negsuc n) h = omega (arith, len-pow k (suc n) h)
+
+-- a number that cannot be negative
+length-plus : (k : ℕ) (a b : ℕ) (z : ℤ) → b < 10 ^ suc k → within (pos a) z (pos b) ≡ true → length (integer z) ≤ suc k
+unfolding integer within
+length-plus k a b (pos n) h e = len-pow k n (omega (arith, leb-true n b (halves (leb a n) (leb n b) e .1)))
+length-plus k a b (negsuc n) h e = absurd (never e)
+
+size-within : (a b : ℕ) (z : ℤ) → within (negsuc a) z (pos b) ≡ true → natAbs z ≤ max (suc a) b
+unfolding within
+size-within a b (pos n) e = omega (arith, leb-true n b e)
+size-within a b (negsuc n) e = omega (arith, leb-true n a (halves (leb n a) true e .0))
+
+length-letters : (k w : ℕ) → length (letters k w) ≤ k
+unfolding letters
+length-letters zero w = omega arith
+length-letters (suc k) w = go (eqb (w / highest) 0) (length-letters k (w % highest * 256))
+  where
+    go : (t : Bool) → length (letters k (w % highest * 256)) ≤ k → length (pick t [] (w / highest ∷ letters k (w % highest * 256))) ≤ suc k
+    go true h = omega arith
+    go false h = omega arith
+
+pub length-name : (id : Id) → length (nameText id) ≤ 16
+unfolding nameText
+length-name id = omega (arith, length-append (letters 8 (id .high)) (letters 8 (id .low)), length-letters 8 (id .high), length-letters 8 (id .low))
+
+-- ---- lines
+module _ (p : Point) (none : pointFault p ≡ 0) where
+  in-range : pointRange p ≡ true
+  unfolding pointFault
+  in-range =
+      go (pointRange p) (passed (not (pointRange p)) refusal.range (first ((not (agrees (p .realization)) gives refusal.epoch) ∷ [])) (λ q. omega arith) none .0)
+    where
+      go : (b : Bool) → not b ≡ false → b ≡ true
+      go true e = refl
+      go false e = absurd (never (sym e))
+
+  parts : (issueRange (p .issue) ≡ true) × (realizationRange (p .realization) ≡ true) × (givenPosition (p .position) ≡ true)
+  unfolding pointRange
+  parts =
+      let s = halves (issueRange (p .issue) && realizationRange (p .realization)) (givenPosition (p .position)) in-range in
+      let t = halves (issueRange (p .issue)) (realizationRange (p .realization)) (s .0) in
+      (t .0, t .1, s .1)
+
+  times : (datumRange (p .realization .datum) ≡ true) × (epochRange (p .realization .epoch) ≡ true)
+  unfolding realizationRange
+  times = halves (datumRange (p .realization .datum)) (epochRange (p .realization .epoch)) (parts .1)
+
+  places : (givenRange (p .position .x) ≡ true) × (givenRange (p .position .y) ≡ true) × (givenRange (p .position .z) ≡ true)
+  unfolding givenPosition
+  places =
+      let s = halves (givenRange (p .position .x) && givenRange (p .position .y)) (givenRange (p .position .z)) (parts .2) in
+      let t = halves (givenRange (p .position .x)) (givenRange (p .position .y)) (s .0) in
+      (t .0, t .1, s .1)
+
+  length-epoch : length (integer (p .realization .epoch)) ≤ 7
+  length-epoch = go (within (pos 0) (p .realization .epoch) (pos 0)) refl (times .1)
+    where
+      go : (b : Bool) → within (pos 0) (p .realization .epoch) (pos 0) ≡ b → (b || within (pos 1980000) (p .realization .epoch) (pos 2100000)) ≡ true → length (integer (p .realization .epoch)) ≤ 7
+      go true q t = omega (arith, length-plus 0 0 0 (p .realization .epoch) (omega arith) q)
+      go false q t = length-plus 6 1980000 2100000 (p .realization .epoch) (omega arith) t
+
+  length-coordinate : (z : ℤ) → givenRange z ≡ true → length (integer z) ≤ 13
+  length-coordinate z e = length-integer 11 z (omega (arith, size-within 639999999999 640000000000 z e))
+
+  -- a point line, written for a point with no fault: at most 78 bytes
+  pub length-point : length (pointText p) ≤ 78
+  length-point =
+      rw (sym (T.point-is p))
+      (simp length-append
+      (omega (arith, length-name (p .id), length-plus 4 1 65535 (p .issue) (omega arith) (parts .0), length-plus 1 1 10 (p .realization .datum) (omega arith) (times .0), length-epoch, length-coordinate (p .position .x) (places .0), length-coordinate (p .position .y) (places .1), length-coordinate (p .position .z) (places .2))))
+
+-- a grid line of numbers below 10^18 in size: at most 60 bytes
+pub length-grid : (id : Id) (e n : ℤ) → natAbs e < 10 ^ 18 → natAbs n < 10 ^ 18 → length (gridText id e n) ≤ 60
+length-grid id e n h k =
+    rw (sym (T.grid-is id e n)) (simp length-append (omega (arith, length-name id, length-integer 17 e h, length-integer 17 n k)))
+
+-- a refusal line of a line number below 100,000: at most 11 bytes
+pub length-refusal : (line number : ℕ) → line < 100000 → number < 100 → length (refusalText line number) ≤ 11
+length-refusal line number h k =
+    rw (sym (T.refusal-is line number)) (simp length-append (omega (arith, len-pow 4 line h, len-pow 1 number k)))

@@ -1,0 +1,32 @@
+use mathlib.Core.Path.{_≡_, refl, sym, ap, _∙_}
+use mathlib.Core.Logic.{⊎-elim, inl, inr}
+use mathlib.Core.List.{[], _∷_}
+use native.Mathlib.Omega.{arith}
+use borrow.Author.Tests.{ne-eqb}
+use Rattle.line.proofs.Walk as W
+use borrow.Author.Needs.{needs}
+use Rattle.line.proofs.step_line.convention_letter.Statement.{statement}
+use Rattle.line.proofs.step_line.convention_letter.Tie as tie
+use Rattle.line.proofs.step_line.convention_letter.Reads as reads
+use Rattle.line.proofs.step_line.convention_letter.Lts as lts
+use Rattle.line.proofs.field.nowhere.Reads as nowhere-reads
+use Rattle.line.proofs.field.single.Reads as single-reads
+
+-- src/step_line.rt:50:9
+single-requires : tie.Need-single-requires
+single-requires c κs = search needs
+
+-- src/step_line.rt:56:19
+nowhere-requires : tie.Need-nowhere-requires
+nowhere-requires c κs = search needs
+
+-- src/step_line.rt:47:1
+returns : tie.Need-returns
+returns c = W.sift (80 ∷ 67 ∷ []) (c .before .single .ensures) (⊎-elim (λ e. W.is-one (80 ∷ 67 ∷ []) e refl) (λ e. W.is-one (80 ∷ 67 ∷ []) e refl) (c .match .keys1)) refl
+
+-- src/step_line.rt:47:1
+returns-2 : tie.Need-returns-2
+returns-2 c = let r = c .before .match .rest .1 in W.sift-off (80 ∷ 67 ∷ []) (c .before .before .single .ensures) (rw (ne-eqb _ 80 (λ e. r (inr e)), ne-eqb _ 67 (λ e. r (inl e)))) (omega arith)
+
+pub convention-letter-spec : {M : Type 1} → statement M
+convention-letter-spec = tie.close (tie.spec single-requires nowhere-requires returns returns-2)

@@ -3,6 +3,7 @@ ghost use mathlib.Core.Path.{_≡_};
 ghost use Rattle.angle.specs.Ranges.{outside, originFault, anglesFault};
 use crate::OriginNumbers;
 
+// Units of 0.00001".
 const LATITUDE_LOW: i64 = 0;
 
 const LATITUDE_HIGH: i64 = 2880000000;
@@ -11,9 +12,10 @@ const LONGITUDE_LOW: i64 = 35640000000;
 
 const LONGITUDE_HIGH: i64 = 43200000000;
 
-const FALSE_LOW: i64 = -2000000000;
+// Millimetres: a false easting or northing.
+const OFFSET_LOW: i64 = -2000000000;
 
-const FALSE_HIGH: i64 = 2000000000;
+const OFFSET_HIGH: i64 = 2000000000;
 
 // Whether z is not from low to high. Both ends are inside.
 pub fn is_outside(z: i64, low: i64, high: i64) -> bool
@@ -45,10 +47,10 @@ pub fn origin_fault(o: OriginNumbers) -> u8
     if is_outside(o.ellipsoid, 1, 4) {
         return refusal::RANGE;
     }
-    if is_outside(o.false_easting, FALSE_LOW, FALSE_HIGH) {
+    if is_outside(o.false_easting, OFFSET_LOW, OFFSET_HIGH) {
         return refusal::RANGE;
     }
-    if is_outside(o.false_northing, FALSE_LOW, FALSE_HIGH) {
+    if is_outside(o.false_northing, OFFSET_LOW, OFFSET_HIGH) {
         return refusal::RANGE;
     }
     angles_fault(o.latitude, o.longitude)

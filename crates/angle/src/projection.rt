@@ -39,14 +39,14 @@ fn made(o: OriginNumbers) -> Origin
 {
     let e = ellipsoid(o.ellipsoid);
     let m0 = meridian_arc(e, radians(o.latitude as f64));
-    let fe = metres(o.false_easting);
-    let fi = metres(o.false_northing);
+    let east = metres(o.false_easting);
+    let north = metres(o.false_northing);
     Origin {
         ellipsoid: e,
         longitude: o.longitude,
         m0,
-        false_easting: fe,
-        false_northing: fi,
+        false_easting: east,
+        false_northing: north,
     }
 }
 

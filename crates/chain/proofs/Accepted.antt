@@ -44,7 +44,7 @@ unfolding stepFault
 sound-steps [] e = tt
 sound-steps (s ∷ ss) e = let f = both-pass (stepTests s) (laterTests s ss) (refl, (refl, (refl, tt))) e in (f .0, sound-later s ss (f .1))
 
-no-ninth : (b : Bool) (n x : ℕ) → pick b (suc n) x ≡ 0 → (b ≡ false) × (x ≡ 0)
+pub no-ninth : (b : Bool) (n x : ℕ) → pick b (suc n) x ≡ 0 → (b ≡ false) × (x ≡ 0)
 no-ninth true n x e = absurd (never e)
   where
     never : suc n ≡ 0 → ⊥

@@ -8,3 +8,4 @@ pub mod Prepared
 pub mod Places
 pub mod RoundTrip
 pub mod Cases
+pub mod Keeping

@@ -15,10 +15,10 @@ use Rattle.chain.specs.declared.BursaWolf as bursaWolf'
 use Rattle.chain.specs.declared.Kind.{Kind}
 use Rattle.chain.specs.declared.Kind.the-variants.{Shift, Velocity, BursaWolf, Frame}
 use Rattle.chain.specs.declared.Step.{Step}
-use Rattle.chain.specs.declared.ready.Turn.{Turn}
-use Rattle.chain.specs.declared.ready.Scale.{Scale}
-use Rattle.chain.specs.declared.ready.Ready.{Ready}
-use Rattle.chain.specs.declared.ready.Ready.the-variants.{Fixed, Turned, Scaled}
+use Rattle.chain.specs.declared.steps.Turn.{Turn}
+use Rattle.chain.specs.declared.steps.Scale.{Scale}
+use Rattle.chain.specs.declared.steps.Ready.{Ready}
+use Rattle.chain.specs.declared.steps.Ready.the-variants.{Fixed, Turned, Scaled}
 use Rattle.chain.specs.Faults.{stepFault}
 use Rattle.chain.specs.Rows.{rowOf}
 use Rattle.chain.specs.Parts.{Part, Parts, linear, part, gain, fixed, signed, radians, shiftAt, scaleAt, shiftParts, velocityParts, bursaWolfParts, frameParts, kindParts, partsOf}

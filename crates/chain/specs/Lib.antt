@@ -7,3 +7,4 @@ pub mod Ready
 pub mod Convert
 pub mod RoundTrip
 pub mod Cases
+pub mod Prepared

@@ -4,10 +4,10 @@ use Prim.Native.Nat.{ℕ, _+_, _≤_}
 use lib.IntN.{ℤ, pos, natAbs}
 use Rattle.chain.specs.declared.Position.{Position}
 use Rattle.chain.specs.declared.Step.{Step}
-use Rattle.chain.specs.declared.ready.Turn.{Turn}
-use Rattle.chain.specs.declared.ready.Scale.{Scale}
-use Rattle.chain.specs.declared.ready.Ready.{Ready}
-use Rattle.chain.specs.declared.ready.Ready.the-variants.{Fixed, Turned, Scaled}
+use Rattle.chain.specs.declared.steps.Turn.{Turn}
+use Rattle.chain.specs.declared.steps.Scale.{Scale}
+use Rattle.chain.specs.declared.steps.Ready.{Ready}
+use Rattle.chain.specs.declared.steps.Ready.the-variants.{Fixed, Turned, Scaled}
 use Rattle.chain.specs.Parts.{Part, Parts, fixed, gain, turnedParts, partsOf}
 use Rattle.chain.specs.Axes.{Axis, coordinate, Small}
 

@@ -4,7 +4,7 @@ ghost use mathlib.Core.List.{_++_, _∷_, []};
 ghost use Prim.Native.Nat.{_≤_};
 ghost use Rattle.refusal.specs.Order.{first};
 ghost use Rattle.chain.specs.Faults.{stepTests, joinTest, stepsTests, chainTests, pointTests, stepsOf};
-ghost use Rattle.chain.specs.Convert.{placeTests, startOf, endOf};
+ghost use Rattle.chain.specs.Convert.{placeTests};
 use crate::Chain;
 use crate::Point;
 use crate::Realization;
@@ -82,29 +82,4 @@ pub(crate) fn entry_fault(point: Point, wanted: Realization) -> u8
         return refusal::AREA;
     }
     0
-}
-
-// Where a chain starts; for the empty chain, where the point is.
-pub(crate) fn start_of(chain: Chain, r: Realization) -> Realization
-    ensures { λ t. ⌜ t ≡ startOf r (stepsOf chain) ⌝ }
-{
-    if chain.length == 0 {
-        return r;
-    }
-    let s = chain.steps[0];
-    s.before
-}
-
-// Where a chain ends; for the empty chain, where the point is.
-pub(crate) fn end_of(chain: Chain, r: Realization) -> Realization
-    requires { ⌜ chain .length ≤ 8 ⌝ }
-    ensures { λ t. ⌜ t ≡ endOf r (stepsOf chain) ⌝ }
-{
-    let n = chain.length;
-    if n == 0 {
-        return r;
-    }
-    let last = n - 1;
-    let s = chain.steps[last];
-    s.after
 }

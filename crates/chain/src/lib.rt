@@ -1,17 +1,18 @@
 // Datum steps on Cartesian positions, forward and inverse, and chains of up to eight of them.
 
-mod apply;
 mod checks;
-mod convert;
 mod faults;
 mod kinds;
 mod ranges;
-mod ready;
+mod steps;
 
-pub use crate::convert::forward;
-pub use crate::convert::inverse;
 pub use crate::faults::point_fault;
 pub use crate::faults::step_fault;
+pub use crate::ranges::same_realization;
+pub use crate::steps::convert::forward;
+pub use crate::steps::convert::inverse;
+pub use crate::steps::kept::forward_ready;
+pub use crate::steps::kept::make_ready;
 
 // Geocentric coordinates in whole units of 0.00001 m.
 pub struct Position {

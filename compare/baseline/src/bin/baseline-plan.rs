@@ -1,0 +1,3 @@
+fn main() -> std::io::Result<()> {
+    baseline::program::main(baseline::plan::plan)
+}

@@ -1,0 +1,74 @@
+//! Conversions by value: 13 numbers a step, 6 a point.
+
+use crate::check::{self, Kind, Place, Point, Step, JOIN, NINTH};
+use crate::steps::Chain;
+
+const WRONG_LENGTH: u8 = 255;
+
+pub fn forward(rows: &[i64], point: &[i64]) -> Result<[i64; 6], u8> {
+    convert(rows, point, Chain::forward)
+}
+
+pub fn inverse(rows: &[i64], point: &[i64]) -> Result<[i64; 6], u8> {
+    convert(rows, point, Chain::inverse)
+}
+
+#[inline]
+fn convert(
+    rows: &[i64],
+    point: &[i64],
+    way: impl Fn(&Chain, Point) -> Result<Point, u8>,
+) -> Result<[i64; 6], u8> {
+    let &[issue, datum, epoch, x, y, z] = point else { return Err(WRONG_LENGTH) };
+    if !rows.len().is_multiple_of(13) {
+        return Err(WRONG_LENGTH);
+    }
+    let chain = chain(rows)?;
+    let point = Point { issue, place: Place { datum, epoch }, xyz: [x, y, z] };
+    let fault = check::point(&point);
+    if fault != 0 {
+        return Err(fault);
+    }
+    let Point { issue, place, xyz: [x, y, z] } = way(&chain, point)?;
+    Ok([issue, place.datum, place.epoch, x, y, z])
+}
+
+fn chain(rows: &[i64]) -> Result<Chain, u8> {
+    if rows.len() > 8 * 13 {
+        return Err(NINTH);
+    }
+    let mut chain = Chain::with_room();
+    for row in rows.chunks_exact(13) {
+        let step = step(row);
+        let fault = check::step(&step);
+        if fault != 0 {
+            return Err(fault);
+        }
+        if !chain.joins(&step) {
+            return Err(JOIN);
+        }
+        chain.push(&step);
+    }
+    Ok(chain)
+}
+
+fn step(row: &[i64]) -> Step {
+    const T: i64 = b'T' as i64;
+    const V: i64 = b'V' as i64;
+    const B: i64 = b'B' as i64;
+    const F: i64 = b'F' as i64;
+    const P: i64 = b'P' as i64;
+    const C: i64 = b'C' as i64;
+    let kind = match (row[0], row[1]) {
+        (T, _) => Kind::Shift,
+        (V, _) => Kind::Velocity,
+        (B, P) => Kind::Rotated { sign: 1 },
+        (B, C) => Kind::Rotated { sign: -1 },
+        (F, _) => Kind::Frame,
+        _ => Kind::Unknown,
+    };
+    let mut numbers = [0; 7];
+    numbers.copy_from_slice(&row[6..]);
+    let before = Place { datum: row[2], epoch: row[3] };
+    Step { kind, before, after: Place { datum: row[4], epoch: row[5] }, numbers }
+}

@@ -1,0 +1,206 @@
+//! bench [--programs FOLDER]: the product's times beside the baseline's, same input, same run.
+//!
+//! Buffers are made once and not cleared between calls on either side. Ends with 1 where a ratio is over
+//! the bar.
+
+use harness::gen::{chains::Chains, full};
+use harness::measure::{both, Pair};
+use harness::programs::Programs;
+use harness::rng::Rng;
+use harness::{arguments, product};
+use std::hint::black_box;
+use std::process::ExitCode;
+
+const BAR: f64 = 1.5;
+const FULL: usize = 65_536;
+const CALLS: usize = 1000;
+
+#[derive(Default)]
+struct Report {
+    worst: f64,
+    at: String,
+}
+
+impl Report {
+    fn line(&mut self, name: &str, unit: &str, pair: &Pair) {
+        let (product, baseline, ratio) = (pair.product, pair.baseline, pair.ratio());
+        let over = if ratio > BAR { "  OVER THE BAR" } else { "" };
+        println!(
+            "{name:<44} product {product:>11.1}  baseline {baseline:>11.1} ns {unit:<6}  ratio {ratio:.2}{over}"
+        );
+        if ratio > self.worst {
+            self.worst = ratio;
+            self.at = name.to_string();
+        }
+    }
+}
+
+fn main() -> ExitCode {
+    let mut rng = Rng::new(arguments::number("--seed", 7));
+    let chains = Chains::default();
+    let mut report = Report::default();
+    sheets(&mut report, &mut rng, &chains);
+    linear(&mut rng, &chains);
+    plans(&mut report, &mut rng);
+    conversions(&mut report, &mut rng, &chains);
+    angles(&mut report, &mut rng);
+    if let Some(folder) = arguments::value("--programs") {
+        processes(&mut report, &mut rng, &chains, std::path::Path::new(&folder));
+    }
+    println!("bench: worst ratio {:.2} ({}), bar {BAR}", report.worst, report.at);
+    if report.worst > BAR {
+        ExitCode::FAILURE
+    } else {
+        ExitCode::SUCCESS
+    }
+}
+
+type Call = fn(&[u8], &mut [u8]) -> i64;
+type Append = fn(&[u8], &mut Vec<u8>);
+
+/// A whole input, per line.
+fn text(report: &mut Report, name: &str, input: &[u8], call: Call, append: Append) {
+    let lines = input.iter().filter(|b| **b == b'\n').count().max(1);
+    let mut out = vec![0; product::room(input)];
+    let mut other = Vec::with_capacity(out.len());
+    let ours = || {
+        black_box(call(black_box(input), &mut out));
+    };
+    let theirs = || {
+        other.clear();
+        append(black_box(input), black_box(&mut other));
+    };
+    let pair = both(ours, theirs, lines, 301);
+    report.line(&format!("{name} ({lines} lines)"), "a line", &pair);
+}
+
+fn sheets(report: &mut Report, rng: &mut Rng, chains: &Chains) {
+    let mut sheet = |name: &str, input: Vec<u8>| {
+        text(report, &format!("sheet, {name}"), &input, product::sheet, baseline::sheet::sheet)
+    };
+    sheet("eight B steps", full::sheet(rng, chains, "BBBBBBBB", FULL));
+    sheet("eight B steps, half", full::sheet(rng, chains, "BBBBBBBB", FULL / 2));
+    sheet("eight B steps, quarter", full::sheet(rng, chains, "BBBBBBBB", FULL / 4));
+    sheet("eight T steps", full::sheet(rng, chains, "TTTTTTTT", FULL));
+    sheet("eight V steps", full::sheet(rng, chains, "VVVVVVVV", FULL));
+    sheet("F and B in turn", full::sheet(rng, chains, "FBFBFBFB", FULL));
+    sheet("one B step", full::sheet(rng, chains, "B", FULL));
+    sheet("refusals", full::refusals(rng, chains, FULL));
+    sheet("bare line feeds", vec![b'\n'; FULL]);
+    sheet("no line feed", vec![b'S'; FULL]);
+}
+
+fn plans(report: &mut Report, rng: &mut Rng) {
+    let mut plan = |name: &str, input: Vec<u8>| {
+        text(report, &format!("plan, {name}"), &input, product::plan, baseline::plan::plan)
+    };
+    plan("full", full::plan(rng, FULL));
+    plan("bare line feeds", vec![b'\n'; FULL]);
+}
+
+/// One full sheet beside four of a quarter, so that both come to as many lines: the ratio is 1 where time
+/// is linear in the lines.
+fn linear(rng: &mut Rng, chains: &Chains) {
+    let mut sheets = |count: usize| -> Vec<Vec<u8>> {
+        (0..count).map(|_| full::sheet(rng, chains, "BBBBBBBB", FULL / count)).collect()
+    };
+    let inputs = [sheets(1), sheets(2), sheets(4)];
+    let mut out = vec![0; 11 * FULL + 7];
+    let mut other = Vec::with_capacity(out.len());
+    let mut ours = |inputs: &[Vec<u8>]| {
+        for input in inputs {
+            black_box(product::sheet(input, &mut out));
+        }
+    };
+    let mut theirs = |inputs: &[Vec<u8>]| {
+        for input in inputs {
+            other.clear();
+            baseline::sheet::sheet(input, black_box(&mut other));
+        }
+    };
+    for (parts, name) in [(1, "two of a half"), (2, "four of a quarter")] {
+        let pair = both(|| ours(&inputs[0]), || theirs(&inputs[0]), 1, 101);
+        let part = both(|| ours(&inputs[parts]), || theirs(&inputs[parts]), 1, 101);
+        let (product, baseline) = (pair.product / part.product, pair.baseline / part.baseline);
+        println!("  a full sheet takes {product:.2} times {name} (product), {baseline:.2} (baseline)");
+    }
+}
+
+/// Single calls on each of the items.
+fn calls<T>(report: &mut Report, name: &str, items: &[T], mut ours: impl FnMut(&T), theirs: impl Fn(&T)) {
+    let pair = both(|| items.iter().for_each(&mut ours), || items.iter().for_each(&theirs), items.len(), 401);
+    report.line(name, "a call", &pair);
+}
+
+fn conversions(report: &mut Report, rng: &mut Rng, chains: &Chains) {
+    let rows = full::rows(rng, chains, "BBBBBBBB");
+    let chain: Vec<i64> = rows.concat();
+    let mut points = |datum: i64, epoch: i64| -> Vec<[i64; 6]> {
+        let point = |[x, y, z]: [i64; 3]| [1, datum, epoch, x, y, z];
+        (0..CALLS).map(|_| point(full::inside(rng))).collect()
+    };
+    let (start, end) = (points(rows[0][2], rows[0][3]), points(rows[7][4], rows[7][5]));
+    let mut out = [0; 6];
+    calls(
+        report,
+        "forward, eight B steps",
+        &start,
+        |point| _ = black_box(product::forward(&chain, point, &mut out)),
+        |point| _ = black_box(baseline::numbers::forward(&chain, point)),
+    );
+    calls(
+        report,
+        "inverse, eight B steps",
+        &end,
+        |point| _ = black_box(product::inverse(&chain, point, &mut out)),
+        |point| _ = black_box(baseline::numbers::inverse(&chain, point)),
+    );
+}
+
+fn angles(report: &mut Report, rng: &mut Rng) {
+    let grid: Vec<[i64; 7]> = (0..CALLS).map(|_| full::cassini(rng)).collect();
+    let geodetic: Vec<[i64; 4]> = (0..CALLS).map(|_| full::geodetic(rng)).collect();
+    let origin = |n: &[i64; 7]| baseline::angle::Origin::new([n[0], n[1], n[2], n[3], n[4]]);
+    let (mut metres, mut whole, mut cartesian) = ([0.0; 2], [0; 2], [0.0; 3]);
+    calls(
+        report,
+        "Cassini point",
+        &grid,
+        |n| _ = black_box(product::cassini(n, &mut metres)),
+        |n| _ = black_box(origin(n).and_then(|o| o.cassini(n[5], n[6]))),
+    );
+    calls(
+        report,
+        "Cassini point, millimetres",
+        &grid,
+        |n| _ = black_box(product::cassini_millimetres(n, &mut whole)),
+        |n| _ = black_box(origin(n).and_then(|o| o.cassini_millimetres(n[5], n[6]))),
+    );
+    calls(
+        report,
+        "geodetic to Cartesian",
+        &geodetic,
+        |n| _ = black_box(product::cartesian(n, &mut cartesian)),
+        |n| _ = black_box(baseline::angle::cartesian(n[0], n[1], n[2], n[3])),
+    );
+}
+
+/// The built programs from start to end.
+fn processes(report: &mut Report, rng: &mut Rng, chains: &Chains, folder: &std::path::Path) {
+    let baseline = Programs::beside("baseline").expect("the path of this program");
+    let product = Programs::new("product", folder.join("sheet"), folder.join("plan"));
+    let sheet = full::sheet(rng, chains, "BBBBBBBB", FULL);
+    let plan = full::plan(rng, FULL);
+    let run = |programs: &Programs, is_sheet: bool, input: &[u8]| {
+        let program = if is_sheet { &programs.sheet } else { &programs.plan };
+        programs.run(program, input, usize::MAX).expect("the program runs");
+    };
+    for (name, is_sheet, input) in [
+        ("program, full sheet of eight B steps", true, &sheet),
+        ("program, full plan", false, &plan),
+        ("program, empty sheet", true, &Vec::new()),
+    ] {
+        let pair = both(|| run(&product, is_sheet, input), || run(&baseline, is_sheet, input), 1, 301);
+        report.line(name, "a run", &pair);
+    }
+}

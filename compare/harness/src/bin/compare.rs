@@ -1,0 +1,108 @@
+//! compare --short | --long [--seed N] [--programs FOLDER]
+//!
+//! The baseline, and with the feature `product` the product, against the independent program. Ends with
+//! 1 at the first difference, after printing the input.
+
+use harness::arguments;
+use harness::checks::{angles, conversions, later, roundings, texts, trips};
+use harness::compare::{Comparison, Outcome};
+use harness::programs::Programs;
+use harness::subject::{Baseline, Subject};
+use std::process::ExitCode;
+use std::time::Instant;
+
+struct Sizes {
+    conversions: u64,
+    trips: u64,
+    roundings: u64,
+    angles: u64,
+    pairs: u64,
+    texts: u64,
+    processes: u64,
+}
+
+const SHORT: Sizes = Sizes {
+    conversions: 300_000,
+    trips: 200_000,
+    roundings: 1_000_000,
+    angles: 200_000,
+    pairs: 100_000,
+    texts: 12_000,
+    processes: 200,
+};
+
+const LONG: Sizes = Sizes {
+    conversions: 10_000_000,
+    trips: 10_000_000,
+    roundings: 20_000_000,
+    angles: 2_000_000,
+    pairs: 2_000_000,
+    texts: 300_000,
+    processes: 4_000,
+};
+
+fn main() -> ExitCode {
+    let sizes = if arguments::has("--long") { LONG } else { SHORT };
+    let seed = arguments::number("--seed", 0x5717_ec1a);
+    let mut comparison = Comparison::new(seed, suspects(), programs());
+    let names: Vec<&str> = comparison.suspects.iter().map(|s| s.name()).collect();
+    println!("seed {seed:#x}; independent program against: {}", names.join(", "));
+    if let Err(mismatch) = run(&mut comparison, &sizes) {
+        println!("MISMATCH: {}", mismatch.0);
+        return ExitCode::FAILURE;
+    }
+    println!("answers and refusals (number:count)\n{}", comparison.tally);
+    let missing = comparison.tally.missing();
+    if !missing.is_empty() {
+        println!("NEVER REACHED: {}", missing.join("; "));
+        return ExitCode::FAILURE;
+    }
+    println!("compare: no difference, every reachable number reached");
+    ExitCode::SUCCESS
+}
+
+fn suspects() -> Vec<Box<dyn Subject>> {
+    vec![
+        #[cfg(feature = "product")]
+        Box::new(harness::product::Product),
+        Box::new(Baseline),
+    ]
+}
+
+/// The baseline's programs, and those in the folder named, which are the product's.
+fn programs() -> Vec<Programs> {
+    let mut programs = vec![Programs::beside("baseline").expect("the path of this program")];
+    if let Some(folder) = arguments::value("--programs") {
+        let folder = std::path::PathBuf::from(folder);
+        programs.push(Programs::new("product program", folder.join("sheet"), folder.join("plan")));
+    }
+    programs
+}
+
+fn run(c: &mut Comparison, sizes: &Sizes) -> Outcome {
+    timed(&format!("{} sheets and as many plans", sizes.texts), || {
+        texts::run(c, sizes.texts, sizes.processes)
+    })?;
+    timed(&format!("{} conversions each way", sizes.conversions), || conversions::run(c, sizes.conversions))?;
+    timed(&format!("{} round trips that came home", sizes.trips), || round_trips(c, sizes.trips))?;
+    timed(&format!("{} roundings", sizes.roundings), || roundings::run(c, sizes.roundings))?;
+    timed(&format!("{} geodetic and as many Cassini points", sizes.angles), || angles::run(c, sizes.angles))?;
+    timed(&format!("{} pairs for the later of two", sizes.pairs), || later::run(c, sizes.pairs))?;
+    #[cfg(feature = "product")]
+    timed("wrong lengths", || harness::checks::lengths::run(c, sizes.pairs / 100))?;
+    Ok(())
+}
+
+fn round_trips(c: &mut Comparison, count: u64) -> Outcome {
+    let trips = trips::run(c, count)?;
+    let largest = trips.largest;
+    println!("  {} more were refused; largest difference by B and F steps: {largest:?}", trips.refused);
+    Ok(())
+}
+
+fn timed(what: &str, part: impl FnOnce() -> Outcome) -> Outcome {
+    let start = Instant::now();
+    part()?;
+    println!("{what}: {:.1} s", start.elapsed().as_secs_f64());
+    Ok(())
+}

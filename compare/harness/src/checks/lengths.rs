@@ -1,0 +1,89 @@
+//! Slices of the wrong length, through the C interface alone: 255 (-255 for sheets and plans), and
+//! nothing written.
+
+use crate::compare::{Comparison, Mismatch, Outcome};
+use crate::product::{self, FLOAT_MARK, MARK};
+
+pub fn run(c: &mut Comparison, count: u64) -> Outcome {
+    for _ in 0..count {
+        conversions(c)?;
+        others(c)?;
+        texts(c)?;
+    }
+    Ok(())
+}
+
+/// 255 exactly where a length is wrong; then every place is as it was.
+fn decide<T: PartialEq>(what: &str, number: i64, wrong: bool, out: &[T], mark: T) -> Outcome {
+    let untouched = out.iter().all(|place| *place == mark);
+    if (number == 255) == wrong && (!wrong || untouched) {
+        return Ok(());
+    }
+    Err(Mismatch(format!("{what}: returned {number}, wrong length: {wrong}, untouched: {untouched}")))
+}
+
+fn conversions(c: &mut Comparison) -> Outcome {
+    let steps = c.rng.index(10);
+    let mut chain = c.chains.good(&mut c.rng, steps).numbers();
+    if c.rng.once_in(2) {
+        chain.truncate(c.rng.index(chain.len() + 1));
+    }
+    let mut length = |right: usize| if c.rng.once_in(2) { right } else { c.rng.index(right + 3) };
+    let point = vec![1; length(6)];
+    let mut out = vec![MARK; length(6)];
+    let wrong = !chain.len().is_multiple_of(13) || point.len() != 6 || out.len() != 6;
+    let what = format!("lengths {} {} {}", chain.len(), point.len(), out.len());
+    let number = product::forward(&chain, &point, &mut out);
+    decide(&format!("forward {what}"), number, wrong, &out, MARK)?;
+    let mut out = vec![MARK; out.len()];
+    let number = product::inverse(&chain, &point, &mut out);
+    decide(&format!("inverse {what}"), number, wrong, &out, MARK)
+}
+
+fn others(c: &mut Comparison) -> Outcome {
+    let length = c.rng.index(9);
+    // The length comes before what the call itself would refuse.
+    let code = c.rng.pick(&[1, 9]);
+    let angles = [code, 1_440_000_000, 36_720_000_000, 0];
+    let grid = [code, 1_440_000_000, 36_720_000_000, 0, 0, 1_440_000_000, 36_720_000_000];
+    let what = |name: &str| format!("{name} with room for {length}");
+    let mut floats = vec![FLOAT_MARK; length];
+    let number = product::cartesian(&angles, &mut floats);
+    decide(&what("cartesian"), number, length != 3, &floats, FLOAT_MARK)?;
+    let mut floats = vec![FLOAT_MARK; length];
+    let number = product::cassini(&grid, &mut floats);
+    decide(&what("cassini"), number, length != 2, &floats, FLOAT_MARK)?;
+    let mut whole = vec![MARK; length];
+    let number = product::cartesian_units(&angles, &mut whole);
+    decide(&what("cartesian units"), number, length != 3, &whole, MARK)?;
+    let mut whole = vec![MARK; length];
+    let number = product::cassini_millimetres(&grid, &mut whole);
+    decide(&what("cassini millimetres"), number, length != 2, &whole, MARK)?;
+    let mut whole = vec![MARK; length];
+    let number = product::round(1.5, c.rng.pick(&[0, 6]), &mut whole);
+    decide(&what("round"), number, length != 1, &whole, MARK)?;
+    let mut whole = vec![MARK; length];
+    let line: &[u8] = c.rng.pick(&[b"P\tA\t1\t6\t2000000\t0\t0\t0\n", b""]);
+    let number = product::later(line, line, &mut whole);
+    decide(&what("later"), number, length != 1, &whole, MARK)
+}
+
+/// One byte too few is -255; just enough, or more, is not.
+fn texts(c: &mut Comparison) -> Outcome {
+    let input = vec![b'\n'; c.rng.small(70_000) as usize];
+    let room = product::room(&input);
+    let length = match c.rng.below(4) {
+        0 => room,
+        1 => room - 1,
+        2 => room + c.rng.index(20),
+        _ => c.rng.index(room),
+    };
+    for (name, call) in [("sheet", product::sheet as fn(&[u8], &mut [u8]) -> i64), ("plan", product::plan)] {
+        let mut out = vec![0xa5; length];
+        let number = call(&input, &mut out);
+        let number = if number == -255 { 255 } else { number.min(254) };
+        let what = format!("{name} of {} bytes with room for {length}", input.len());
+        decide(&what, number, length < room, &out, 0xa5)?;
+    }
+    Ok(())
+}

@@ -1,0 +1,10 @@
+//! The parts of a comparison. Each counts what the independent program answered.
+
+pub mod angles;
+pub mod conversions;
+pub mod later;
+#[cfg(feature = "product")]
+pub mod lengths;
+pub mod roundings;
+pub mod texts;
+pub mod trips;

@@ -1,0 +1,78 @@
+//! Demand 3: the point along the whole chain and what came out back by it, and the other way round.
+
+use crate::compare::{Comparison, Mismatch};
+use crate::gen::chains::Chain;
+use crate::gen::points;
+use crate::subject::Subject;
+use paper::numbers::steps;
+
+/// The largest difference seen, by the number of Bursa-Wolf and frame steps.
+#[derive(Default, Debug)]
+pub struct Trips {
+    pub done: u64,
+    pub refused: u64,
+    pub largest: [i64; 9],
+}
+
+/// Runs until so many trips came home: half of them along first, half back first.
+pub fn run(c: &mut Comparison, count: u64) -> Result<Trips, Mismatch> {
+    let mut trips = Trips::default();
+    while trips.done < count {
+        let back_first = trips.done % 2 == 1;
+        let (chain, point) = input(c, back_first);
+        let rows = chain.numbers();
+        let allowed = chain.count("BF");
+        let mut off = None;
+        for subject in c.all() {
+            off = trip(subject, &rows, &point, back_first, allowed)?;
+        }
+        match off {
+            None => trips.refused += 1,
+            Some(off) => {
+                trips.done += 1;
+                let largest = &mut trips.largest[allowed as usize];
+                *largest = off.max(*largest);
+            }
+        }
+    }
+    Ok(trips)
+}
+
+fn input(c: &mut Comparison, back_first: bool) -> (Chain, [i64; 6]) {
+    let length = c.rng.index(9);
+    let chain = c.chains.good(&mut c.rng, length);
+    let steps = steps(&chain.numbers()).expect("whole rows");
+    let position = match c.rng.below(8) {
+        0 | 1 if back_first => points::led_back(&mut c.rng, &chain, &steps),
+        0 | 1 => points::led_along(&mut c.rng, &chain, &steps),
+        _ => points::position(&mut c.rng),
+    };
+    let place = if back_first { chain.end } else { chain.begin };
+    let point = points::point(&mut c.rng, place, position);
+    (chain, point)
+}
+
+/// How far the point came home from where it was, or nothing where a conversion was refused.
+fn trip(
+    subject: &dyn Subject,
+    rows: &[i64],
+    point: &[i64; 6],
+    back_first: bool,
+    allowed: i64,
+) -> Result<Option<i64>, Mismatch> {
+    let home = if back_first {
+        subject.inverse(rows, point).and_then(|away| subject.forward(rows, &away))
+    } else {
+        subject.forward(rows, point).and_then(|away| subject.inverse(rows, &away))
+    };
+    let Ok(home) = home else { return Ok(None) };
+    let off = (3..6).map(|i| (home[i] - point[i]).abs()).max().unwrap_or(0);
+    if home[..3] == point[..3] && off <= allowed {
+        return Ok(Some(off));
+    }
+    let order = if back_first { "back first" } else { "along first" };
+    let name = subject.name();
+    Err(Mismatch(format!(
+        "round trip, {order}: chain {rows:?} point {point:?}\n  {name} came home to {home:?}, allowed {allowed}"
+    )))
+}

@@ -1,0 +1,104 @@
+//! Full inputs for measuring: every line of one sort.
+
+use super::chains::{Chains, Row};
+use super::{angles, lines, numbers, points};
+use crate::rng::Rng;
+
+/// A sheet of steps of those kinds and, up to the size, points that go through.
+pub fn sheet(rng: &mut Rng, chains: &Chains, kinds: &str, size: usize) -> Vec<u8> {
+    let rows = rows(rng, chains, kinds);
+    let place = [rows[0][2], rows[0][3]];
+    let steps: Vec<u8> = rows.iter().flat_map(lines::step).collect();
+    filled(steps, size, || {
+        let position = inside(rng);
+        let numbers = points::point(rng, place, position);
+        lines::point(&lines::id(rng), &numbers)
+    })
+}
+
+/// Steps of those kinds, joined.
+pub fn rows(rng: &mut Rng, chains: &Chains, kinds: &str) -> Vec<Row> {
+    let mut rows: Vec<Row> = Vec::new();
+    let mut from = [rng.between(5, 9), numbers::epoch(rng)];
+    for (place, kind) in kinds.bytes().enumerate() {
+        let next = kinds.as_bytes().get(place + 1);
+        let row = loop {
+            let row = chains.row(rng, kind, from);
+            let after = row[4];
+            if (kind == b'F' || (5..=9).contains(&after)) && !(kind == b'F' && next == Some(&b'F')) {
+                break row;
+            }
+        };
+        from = [row[4], row[5]];
+        rows.push(row);
+    }
+    rows
+}
+
+/// Far enough from the faces for any eight steps.
+pub fn inside(rng: &mut Rng) -> [i64; 3] {
+    numbers::AREA.map(|(low, high)| rng.between(low + 2_000_000_000, high - 2_000_000_000))
+}
+
+/// Lines refused for their form, for their numbers, for datum and epoch, for the start and for the area.
+pub fn refusals(rng: &mut Rng, chains: &Chains, size: usize) -> Vec<u8> {
+    let rows = rows(rng, chains, "BBBBBBBB");
+    let place = [rows[0][2], rows[0][3]];
+    let steps: Vec<u8> = rows.iter().flat_map(lines::step).collect();
+    let mut count = 0;
+    filled(steps, size, || {
+        count += 1;
+        let position = inside(rng);
+        let mut point = points::point(rng, place, position);
+        match count % 5 {
+            0 => point[2] = 0,
+            1 => point[3] = 700_000_000_000,
+            2 => point[5] = -1,
+            3 => point[1] = 3 + (point[1] - 2) % 8,
+            _ => return lines::point(b"a1", &point),
+        }
+        lines::point(&lines::id(rng), &point)
+    })
+}
+
+const ORIGIN: [i64; 5] = [1, 1_440_000_000, 36_720_000_000, 50_000, -25_000];
+
+/// An origin and points within reach of it.
+pub fn plan(rng: &mut Rng, size: usize) -> Vec<u8> {
+    filled(lines::origin(&ORIGIN), size, || {
+        let numbers = cassini_point(rng);
+        lines::geodetic(&lines::id(rng), &numbers)
+    })
+}
+
+fn cassini_point(rng: &mut Rng) -> [i64; 2] {
+    let latitude = rng.between(numbers::LATITUDE.0, numbers::LATITUDE.1);
+    [latitude, ORIGIN[2] + rng.between(-1_000_000_000, 1_440_000_000)]
+}
+
+/// The origin and a point within reach of it, as one call takes them.
+pub fn cassini(rng: &mut Rng) -> [i64; 7] {
+    let [code, latitude, longitude, easting, northing] = ORIGIN;
+    let [a, b] = cassini_point(rng);
+    [code, latitude, longitude, easting, northing, a, b]
+}
+
+/// A geodetic point in range, with its ellipsoid and height.
+pub fn geodetic(rng: &mut Rng) -> [i64; 4] {
+    loop {
+        let numbers = angles::geodetic(rng);
+        if paper::angle::cartesian(numbers[0], numbers[1], numbers[2], numbers[3]).is_ok() {
+            return numbers;
+        }
+    }
+}
+
+fn filled(mut text: Vec<u8>, size: usize, mut line: impl FnMut() -> Vec<u8>) -> Vec<u8> {
+    loop {
+        let next = line();
+        if text.len() + next.len() > size {
+            return text;
+        }
+        text.extend(next);
+    }
+}

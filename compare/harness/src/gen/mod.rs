@@ -1,0 +1,14 @@
+//! Inputs, made from a seed: good ones, ones at the ends of ranges, and damaged ones.
+
+pub mod angles;
+pub mod chains;
+pub mod floats;
+pub mod full;
+pub mod halves;
+pub mod lines;
+pub mod numbers;
+pub mod pairs;
+pub mod plans;
+pub mod points;
+pub mod sheets;
+pub mod texts;

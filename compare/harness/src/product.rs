@@ -1,0 +1,225 @@
+//! The product through its C interface. Each call watches the bytes around and in what it lends: on a
+//! refusal nothing may be written, and never anything past the lent slice.
+
+use crate::subject::{Answer, Subject, STRANGE, WROTE};
+#[cfg(feature = "standin")]
+use standin as _;
+
+mod c {
+    extern "C" {
+        pub fn swivelcrane_forward(
+            chain: *const i64,
+            chain_len: usize,
+            point: *const i64,
+            point_len: usize,
+            out: *mut i64,
+            out_len: usize,
+        ) -> i64;
+        pub fn swivelcrane_inverse(
+            chain: *const i64,
+            chain_len: usize,
+            point: *const i64,
+            point_len: usize,
+            out: *mut i64,
+            out_len: usize,
+        ) -> i64;
+        pub fn swivelcrane_cartesian(
+            ellipsoid: i64,
+            latitude: i64,
+            longitude: i64,
+            height: i64,
+            out: *mut f64,
+            out_len: usize,
+        ) -> i64;
+        pub fn swivelcrane_cartesian_units(
+            ellipsoid: i64,
+            latitude: i64,
+            longitude: i64,
+            height: i64,
+            out: *mut i64,
+            out_len: usize,
+        ) -> i64;
+        pub fn swivelcrane_cassini(
+            ellipsoid: i64,
+            origin_latitude: i64,
+            origin_longitude: i64,
+            false_easting: i64,
+            false_northing: i64,
+            latitude: i64,
+            longitude: i64,
+            out: *mut f64,
+            out_len: usize,
+        ) -> i64;
+        pub fn swivelcrane_cassini_millimetres(
+            ellipsoid: i64,
+            origin_latitude: i64,
+            origin_longitude: i64,
+            false_easting: i64,
+            false_northing: i64,
+            latitude: i64,
+            longitude: i64,
+            out: *mut i64,
+            out_len: usize,
+        ) -> i64;
+        pub fn swivelcrane_round(x: f64, places: u32, out: *mut i64, out_len: usize) -> i64;
+        pub fn swivelcrane_later(
+            first: *const u8,
+            first_len: usize,
+            second: *const u8,
+            second_len: usize,
+            which: *mut i64,
+            which_len: usize,
+        ) -> i64;
+        pub fn swivelcrane_sheet(input: *const u8, input_len: usize, out: *mut u8, out_len: usize) -> i64;
+        pub fn swivelcrane_plan(input: *const u8, input_len: usize, out: *mut u8, out_len: usize) -> i64;
+    }
+}
+
+pub fn forward(chain: &[i64], point: &[i64], out: &mut [i64]) -> i64 {
+    // Safety, here and below: pointers and lengths of live slices.
+    unsafe {
+        c::swivelcrane_forward(
+            chain.as_ptr(),
+            chain.len(),
+            point.as_ptr(),
+            point.len(),
+            out.as_mut_ptr(),
+            out.len(),
+        )
+    }
+}
+
+pub fn inverse(chain: &[i64], point: &[i64], out: &mut [i64]) -> i64 {
+    unsafe {
+        c::swivelcrane_inverse(
+            chain.as_ptr(),
+            chain.len(),
+            point.as_ptr(),
+            point.len(),
+            out.as_mut_ptr(),
+            out.len(),
+        )
+    }
+}
+
+pub fn cartesian(n: &[i64; 4], out: &mut [f64]) -> i64 {
+    unsafe { c::swivelcrane_cartesian(n[0], n[1], n[2], n[3], out.as_mut_ptr(), out.len()) }
+}
+
+pub fn cartesian_units(n: &[i64; 4], out: &mut [i64]) -> i64 {
+    unsafe { c::swivelcrane_cartesian_units(n[0], n[1], n[2], n[3], out.as_mut_ptr(), out.len()) }
+}
+
+pub fn cassini(n: &[i64; 7], out: &mut [f64]) -> i64 {
+    let [e, oa, ob, fe, fn_, a, b] = *n;
+    unsafe { c::swivelcrane_cassini(e, oa, ob, fe, fn_, a, b, out.as_mut_ptr(), out.len()) }
+}
+
+pub fn cassini_millimetres(n: &[i64; 7], out: &mut [i64]) -> i64 {
+    let [e, oa, ob, fe, fn_, a, b] = *n;
+    unsafe { c::swivelcrane_cassini_millimetres(e, oa, ob, fe, fn_, a, b, out.as_mut_ptr(), out.len()) }
+}
+
+pub fn round(x: f64, places: u32, out: &mut [i64]) -> i64 {
+    unsafe { c::swivelcrane_round(x, places, out.as_mut_ptr(), out.len()) }
+}
+
+pub fn later(first: &[u8], second: &[u8], which: &mut [i64]) -> i64 {
+    unsafe {
+        c::swivelcrane_later(
+            first.as_ptr(),
+            first.len(),
+            second.as_ptr(),
+            second.len(),
+            which.as_mut_ptr(),
+            which.len(),
+        )
+    }
+}
+
+pub fn sheet(input: &[u8], out: &mut [u8]) -> i64 {
+    unsafe { c::swivelcrane_sheet(input.as_ptr(), input.len(), out.as_mut_ptr(), out.len()) }
+}
+
+pub fn plan(input: &[u8], out: &mut [u8]) -> i64 {
+    unsafe { c::swivelcrane_plan(input.as_ptr(), input.len(), out.as_mut_ptr(), out.len()) }
+}
+
+/// The room that a sheet or plan asks for.
+pub fn room(input: &[u8]) -> usize {
+    11 * input.len().min(65_536) + 7
+}
+
+pub const MARK: i64 = 0x5a5a_a5a5_1234_4321;
+pub const FLOAT_MARK: f64 = -1.25e300;
+
+/// Lends N places in the midst of eight marked ones.
+fn lend<T: Copy + PartialEq, const N: usize>(mark: T, call: impl FnOnce(&mut [T]) -> i64) -> Answer<[T; N]> {
+    let mut places = [mark; 8];
+    let number = call(&mut places[1..=N]);
+    let touched = |part: &[T]| part.iter().any(|place| *place != mark);
+    if touched(&places[..1]) || touched(&places[N + 1..]) {
+        return Err(WROTE);
+    }
+    match number {
+        0 => Ok(std::array::from_fn(|i| places[1 + i])),
+        _ if touched(&places) => Err(WROTE),
+        1..=17 | 255 => Err(number as u8),
+        _ => Err(STRANGE),
+    }
+}
+
+/// The output, or a text that no program gives.
+fn print(input: &[u8], call: fn(&[u8], &mut [u8]) -> i64) -> Vec<u8> {
+    let room = room(input);
+    let mut out = vec![0xa5; room + 16];
+    let length = call(input, &mut out[..room]);
+    if out[room..].iter().any(|byte| *byte != 0xa5) {
+        return b"wrote past the end of the lent output".to_vec();
+    }
+    match usize::try_from(length) {
+        Ok(length) if length <= room => {
+            out.truncate(length);
+            out
+        }
+        _ => format!("returned {length}").into_bytes(),
+    }
+}
+
+pub struct Product;
+
+impl Subject for Product {
+    fn name(&self) -> &'static str {
+        "product"
+    }
+    fn forward(&self, chain: &[i64], point: &[i64; 6]) -> Answer<[i64; 6]> {
+        lend(MARK, |out| forward(chain, point, out))
+    }
+    fn inverse(&self, chain: &[i64], point: &[i64; 6]) -> Answer<[i64; 6]> {
+        lend(MARK, |out| inverse(chain, point, out))
+    }
+    fn cartesian(&self, n: &[i64; 4]) -> Answer<[f64; 3]> {
+        lend(FLOAT_MARK, |out| cartesian(n, out))
+    }
+    fn cartesian_units(&self, n: &[i64; 4]) -> Answer<[i64; 3]> {
+        lend(MARK, |out| cartesian_units(n, out))
+    }
+    fn cassini(&self, n: &[i64; 7]) -> Answer<[f64; 2]> {
+        lend(FLOAT_MARK, |out| cassini(n, out))
+    }
+    fn cassini_millimetres(&self, n: &[i64; 7]) -> Answer<[i64; 2]> {
+        lend(MARK, |out| cassini_millimetres(n, out))
+    }
+    fn round(&self, x: f64, places: u32) -> Answer<i64> {
+        lend(MARK, |out| round(x, places, out)).map(|[whole]| whole)
+    }
+    fn later(&self, first: &[u8], second: &[u8]) -> Answer<i64> {
+        lend(MARK, |which| later(first, second, which)).map(|[which]| which)
+    }
+    fn sheet(&self, input: &[u8]) -> Vec<u8> {
+        print(input, sheet)
+    }
+    fn plan(&self, input: &[u8]) -> Vec<u8> {
+        print(input, plan)
+    }
+}

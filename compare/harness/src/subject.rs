@@ -1,0 +1,115 @@
+//! The programs that are compared, under one trait.
+
+use paper::angle::Origin;
+use paper::later::Which;
+
+/// The value or the refusal number; 255 is the wrong length. Floats are compared by their bits.
+pub type Answer<T> = Result<T, u8>;
+
+/// Not numbers of the paper: what a call did that no answer allows.
+pub const WROTE: u8 = 254;
+pub const STRANGE: u8 = 253;
+
+pub trait Subject {
+    fn name(&self) -> &'static str;
+    fn forward(&self, chain: &[i64], point: &[i64; 6]) -> Answer<[i64; 6]>;
+    fn inverse(&self, chain: &[i64], point: &[i64; 6]) -> Answer<[i64; 6]>;
+    fn cartesian(&self, numbers: &[i64; 4]) -> Answer<[f64; 3]>;
+    fn cartesian_units(&self, numbers: &[i64; 4]) -> Answer<[i64; 3]>;
+    fn cassini(&self, numbers: &[i64; 7]) -> Answer<[f64; 2]>;
+    fn cassini_millimetres(&self, numbers: &[i64; 7]) -> Answer<[i64; 2]>;
+    fn round(&self, x: f64, places: u32) -> Answer<i64>;
+    fn later(&self, first: &[u8], second: &[u8]) -> Answer<i64>;
+    fn sheet(&self, input: &[u8]) -> Vec<u8>;
+    fn plan(&self, input: &[u8]) -> Vec<u8>;
+}
+
+/// The independent program.
+pub struct Paper;
+
+fn origin(n: &[i64; 7]) -> Origin {
+    Origin { ellipsoid: n[0], latitude: n[1], longitude: n[2], false_easting: n[3], false_northing: n[4] }
+}
+
+impl Subject for Paper {
+    fn name(&self) -> &'static str {
+        "independent"
+    }
+    fn forward(&self, chain: &[i64], point: &[i64; 6]) -> Answer<[i64; 6]> {
+        paper::numbers::forward(chain, point)
+    }
+    fn inverse(&self, chain: &[i64], point: &[i64; 6]) -> Answer<[i64; 6]> {
+        paper::numbers::inverse(chain, point)
+    }
+    fn cartesian(&self, n: &[i64; 4]) -> Answer<[f64; 3]> {
+        paper::angle::cartesian(n[0], n[1], n[2], n[3])
+    }
+    fn cartesian_units(&self, n: &[i64; 4]) -> Answer<[i64; 3]> {
+        paper::angle::cartesian_units(n[0], n[1], n[2], n[3])
+    }
+    fn cassini(&self, n: &[i64; 7]) -> Answer<[f64; 2]> {
+        paper::angle::cassini(&origin(n), n[5], n[6])
+    }
+    fn cassini_millimetres(&self, n: &[i64; 7]) -> Answer<[i64; 2]> {
+        paper::angle::cassini_millimetres(&origin(n), n[5], n[6])
+    }
+    fn round(&self, x: f64, places: u32) -> Answer<i64> {
+        paper::decimal::round(x, places)
+    }
+    fn later(&self, first: &[u8], second: &[u8]) -> Answer<i64> {
+        paper::later::later(first, second).map(|which| if which == Which::First { 1 } else { 2 })
+    }
+    fn sheet(&self, input: &[u8]) -> Vec<u8> {
+        paper::sheet::sheet(input)
+    }
+    fn plan(&self, input: &[u8]) -> Vec<u8> {
+        paper::plan::plan(input)
+    }
+}
+
+/// The plain i64 program.
+pub struct Baseline;
+
+fn ready(n: &[i64; 7]) -> Answer<baseline::angle::Origin> {
+    baseline::angle::Origin::new([n[0], n[1], n[2], n[3], n[4]])
+}
+
+impl Subject for Baseline {
+    fn name(&self) -> &'static str {
+        "baseline"
+    }
+    fn forward(&self, chain: &[i64], point: &[i64; 6]) -> Answer<[i64; 6]> {
+        baseline::numbers::forward(chain, point)
+    }
+    fn inverse(&self, chain: &[i64], point: &[i64; 6]) -> Answer<[i64; 6]> {
+        baseline::numbers::inverse(chain, point)
+    }
+    fn cartesian(&self, n: &[i64; 4]) -> Answer<[f64; 3]> {
+        baseline::angle::cartesian(n[0], n[1], n[2], n[3])
+    }
+    fn cartesian_units(&self, n: &[i64; 4]) -> Answer<[i64; 3]> {
+        baseline::angle::cartesian_units(n[0], n[1], n[2], n[3])
+    }
+    fn cassini(&self, n: &[i64; 7]) -> Answer<[f64; 2]> {
+        ready(n)?.cassini(n[5], n[6])
+    }
+    fn cassini_millimetres(&self, n: &[i64; 7]) -> Answer<[i64; 2]> {
+        ready(n)?.cassini_millimetres(n[5], n[6])
+    }
+    fn round(&self, x: f64, places: u32) -> Answer<i64> {
+        baseline::round::decimals(x, places)
+    }
+    fn later(&self, first: &[u8], second: &[u8]) -> Answer<i64> {
+        baseline::later::later(first, second)
+    }
+    fn sheet(&self, input: &[u8]) -> Vec<u8> {
+        let mut out = Vec::new();
+        baseline::sheet::sheet(input, &mut out);
+        out
+    }
+    fn plan(&self, input: &[u8]) -> Vec<u8> {
+        let mut out = Vec::new();
+        baseline::plan::plan(input, &mut out);
+        out
+    }
+}

@@ -1,0 +1,3 @@
+fn main() -> std::io::Result<()> {
+    paper::program::main(paper::sheet::sheet)
+}

@@ -1,0 +1,21 @@
+//! The rules of document 01 written once more, as plainly as they stand there.
+//!
+//! This program shares no code, table or constant with the product. It is for reading beside the paper
+//! and for comparing: nothing in it is done for speed. Steps are worked out in exact fractions over
+//! i128, angles in f64 in the printed order, and the f64 rounding in exact whole numbers.
+
+pub mod angle;
+pub mod chain;
+pub mod decimal;
+pub mod ellipsoid;
+pub mod fraction;
+pub mod later;
+pub mod lines;
+pub mod numbers;
+pub mod plan;
+pub mod program;
+pub mod ranges;
+pub mod refusal;
+pub mod series;
+pub mod sheet;
+pub mod step;

@@ -1,0 +1,64 @@
+//! The rules behind the calls on numbers: 13 numbers a step, 6 a point.
+//!
+//! Step: kind and convention as ASCII, datum and epoch before, datum and epoch after, seven numbers.
+//! Point: issue, datum, epoch, X, Y, Z.
+
+use crate::chain::{self, Point};
+use crate::refusal::Refusal;
+use crate::step::{Convention, Kind, Realization, Step};
+
+pub const STEP: usize = 13;
+pub const POINT: usize = 6;
+/// Not a refusal: a slice of the wrong length.
+pub const WRONG_LENGTH: Refusal = 255;
+
+pub fn forward(chain: &[i64], point: &[i64]) -> Result<[i64; POINT], Refusal> {
+    convert(chain::forward, chain, point)
+}
+
+pub fn inverse(chain: &[i64], point: &[i64]) -> Result<[i64; POINT], Refusal> {
+    convert(chain::inverse, chain, point)
+}
+
+type Conversion = fn(&[Step], Point) -> Result<Point, Refusal>;
+
+fn convert(conversion: Conversion, chain: &[i64], point: &[i64]) -> Result<[i64; POINT], Refusal> {
+    let steps = steps(chain).ok_or(WRONG_LENGTH)?;
+    let [issue, datum, epoch, x, y, z] = point.try_into().map_err(|_| WRONG_LENGTH)?;
+    let from = Point { issue, at: Realization { datum, epoch }, position: [x, y, z] };
+    let to = conversion(&steps, from)?;
+    let [x, y, z] = to.position;
+    Ok([to.issue, to.at.datum, to.at.epoch, x, y, z])
+}
+
+pub fn steps(chain: &[i64]) -> Option<Vec<Step>> {
+    let whole = chain.len().is_multiple_of(STEP);
+    whole.then(|| chain.chunks(STEP).map(step).collect())
+}
+
+fn step(row: &[i64]) -> Step {
+    Step {
+        kind: kind(row),
+        before: Realization { datum: row[2], epoch: row[3] },
+        after: Realization { datum: row[4], epoch: row[5] },
+    }
+}
+
+fn kind(row: &[i64]) -> Kind {
+    let letter = |place: usize| u8::try_from(row[place]).unwrap_or(0);
+    let three = |from: usize| [row[from], row[from + 1], row[from + 2]];
+    let convention = match letter(1) {
+        b'P' => Some(Convention::PositionVector),
+        b'C' => Some(Convention::CoordinateFrame),
+        _ => None,
+    };
+    match (letter(0), convention) {
+        (b'T', _) => Kind::Shift(three(6)),
+        (b'V', _) => Kind::Velocity(three(6)),
+        (b'B', Some(convention)) => {
+            Kind::BursaWolf { convention, shift: three(6), rotation: three(9), scale: row[12] }
+        }
+        (b'F', _) => Kind::Frame,
+        _ => Kind::Unknown,
+    }
+}

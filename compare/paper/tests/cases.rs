@@ -1,0 +1,116 @@
+//! Document 01, "Proved and run": the ten cases, the run, and what the rounding rule must not be.
+
+use paper::angle::cartesian;
+use paper::numbers::{forward, inverse};
+
+/// A step of 13 numbers from its letter, its convention and the rest.
+fn step(kind: char, convention: char, places: [i64; 4], numbers: &[i64]) -> Vec<i64> {
+    let mut row = vec![kind as i64, convention as i64];
+    row.extend(places);
+    row.extend(numbers);
+    row.resize(13, 0);
+    row
+}
+
+fn shown(answer: Result<[i64; 6], u8>) -> [i64; 3] {
+    let [_, _, _, x, y, z] = answer.expect("not refused");
+    [x, y, z]
+}
+
+fn velocity(v: i64, thousandths: i64) -> i64 {
+    let chain = step('V', ' ', [6, 2_000_000, 6, 2_000_000 + thousandths], &[v, 0, 0]);
+    let x = -200_000_000_000;
+    shown(forward(&chain, &[1, 6, 2_000_000, x, 600_000_000_000, 50_000_000_000]))[0] - x
+}
+
+#[test]
+fn case_1_shift() {
+    let chain = step('T', ' ', [6, 2_000_000, 6, 2_006_586], &[-15832, -4363, -9706]);
+    let answer = forward(&chain, &[1, 6, 2_000_000, -113105165410, 623631179950, 71174811140]);
+    assert_eq!(answer, Ok([1, 6, 2_006_586, -113105181242, 623631175587, 71174801434]));
+}
+
+#[test]
+fn case_2_velocity() {
+    let chain = step('V', ' ', [7, 2_010_000, 7, 2_020_000], &[-1874, -169, -502]);
+    let answer = forward(&chain, &[3, 7, 2_010_000, -113105187354, 623631174081, 71174801667]);
+    assert_eq!(answer, Ok([3, 7, 2_020_000, -113105206094, 623631172391, 71174796647]));
+}
+
+#[test]
+fn cases_3_to_5_halves() {
+    assert_eq!(velocity(1, 500), 1);
+    assert_eq!(velocity(-1, 500), -1);
+    assert_eq!(velocity(1, 499), 0);
+}
+
+#[test]
+fn cases_6_and_7_frame() {
+    let chain = step('F', ' ', [9, 2_010_000, 10, 2_010_000], &[]);
+    let from = [1, 9, 2_010_000, -113105187200, 623631173600, 71174802510];
+    let to = forward(&chain, &from).expect("not refused");
+    assert_eq!(to, [1, 10, 2_010_000, -113105187362, 623631173422, 71174802271]);
+    assert_eq!(inverse(&chain, &to), Ok(from));
+}
+
+#[test]
+fn cases_8_to_10_bursa_wolf() {
+    let from = [1, 3, 2_000_000, -200000000000, 600000000000, 50000000000];
+    let numbers = [0, 0, 0, 0, 0, 100_000, 0];
+    let chain = step('B', 'P', [3, 2_000_000, 4, 2_000_000], &numbers);
+    let to = forward(&chain, &from).expect("not refused");
+    assert_eq!(to[3..], [-200002908884, 599999030372, 50000000000]);
+    assert_eq!(inverse(&chain, &to), Ok(from));
+    let chain = step('B', 'C', [3, 2_000_000, 4, 2_000_000], &numbers);
+    assert_eq!(shown(forward(&chain, &from)), [-199997091116, 600000969628, 50000000000]);
+}
+
+/// The part is one fraction: 6 - 5.5 is a half and goes up, while 6 + round(-5.5) would be 0.
+#[test]
+fn the_whole_part_is_rounded_once() {
+    let chain = step('B', 'P', [3, 2_000_000, 4, 2_000_000], &[6, 0, 0, 0, 0, 0, 5]);
+    let from = [1, 3, 2_000_000, -110_000_000_000, 600_000_000_000, 0];
+    assert_eq!(shown(forward(&chain, &from)), [-109_999_999_999, 600_000_000_030, 0]);
+}
+
+#[test]
+fn the_run_at_arau() {
+    let metres = cartesian(1, 2322056909, 36100705076, 1807800).expect("not refused");
+    let printed = [-1131051.654, 6236311.800, 711748.112];
+    for (ours, theirs) in metres.iter().zip(printed) {
+        assert!((ours - theirs).abs() < 0.001, "{ours} {theirs}");
+    }
+}
+
+/// 6 before everything; then the first bad step's first fault; 9 not for the empty chain.
+#[test]
+fn orders_by_value() {
+    let point = [1, 6, 2_000_000, -200_000_000_000, 600_000_000_000, 0];
+    let bad = step('?', ' ', [0, 5, 3, 0], &[]);
+    assert_eq!(forward(&bad.repeat(9), &point), Err(6));
+    assert_eq!(forward(&bad, &[0; 6]), Err(2));
+    let three = step('T', ' ', [6, 0, 6, 2_000_000], &[]);
+    let two = step('T', ' ', [6, 2_000_000, 6, 2_000_000], &[100_000_001]);
+    assert_eq!(forward(&[three.clone(), two.clone()].concat(), &point), Err(3));
+    assert_eq!(forward(&[two, three].concat(), &point), Err(2));
+    assert_eq!(forward(&step('V', ' ', [1, 0, 1, 0], &[]), &point), Err(4));
+    let away = step('T', ' ', [7, 2_000_000, 8, 2_000_000], &[]);
+    assert_eq!(forward(&away.repeat(2), &point), Err(5));
+    assert_eq!(forward(&away, &point), Err(9));
+    assert_eq!(inverse(&away, &point), Err(9));
+    assert_eq!(forward(&[], &point), Ok(point));
+    assert_eq!(forward(&[], &[1, 6, 2_000_000, -200_000_000_000, 600_000_000_000, -1]), Err(10));
+    assert_eq!(forward(&[], &[1, 6, 2_000_000, 0, 640_000_000_001, 0]), Err(2));
+    assert_eq!(forward(&[], &[1, 6, 0, 0, 0, 0]), Err(3));
+    assert_eq!(forward(&[1; 12], &point), Err(255));
+    assert_eq!(forward(&[], &[1; 5]), Err(255));
+}
+
+#[test]
+fn left_the_area_after_a_step() {
+    let out = step('T', ' ', [6, 2_000_000, 6, 2_000_000], &[0, 0, -1]);
+    let home = step('T', ' ', [6, 2_000_000, 6, 2_000_000], &[0, 0, 1]);
+    let point = [1, 6, 2_000_000, -200_000_000_000, 600_000_000_000, 0];
+    assert_eq!(forward(&[out.clone(), home.clone()].concat(), &point), Err(11));
+    assert_eq!(forward(&[home, out].concat(), &point), Ok(point));
+}

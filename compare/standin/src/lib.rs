@@ -1,0 +1,142 @@
+//! The product's C interface over the baseline. With it the comparison, the benchmark and the fuzzer can
+//! be built and tried where the product's archive is not at hand. It is never linked beside the product.
+
+use baseline::angle::{self, Origin};
+use std::slice;
+
+const WRONG_LENGTH: i64 = 255;
+
+/// Writes the answer where there is one and the room is right; the number otherwise.
+///
+/// # Safety
+/// `out` and `out_len` are a live slice, as of every function below.
+unsafe fn give<T: Copy, const N: usize>(answer: Result<[T; N], u8>, out: *mut T, out_len: usize) -> i64 {
+    if out_len != N {
+        return WRONG_LENGTH;
+    }
+    match answer {
+        Ok(values) => {
+            slice::from_raw_parts_mut(out, N).copy_from_slice(&values);
+            0
+        }
+        Err(number) => i64::from(number),
+    }
+}
+
+macro_rules! conversion {
+    ($name:ident, $call:path) => {
+        /// # Safety
+        /// Each pointer and length are a live slice.
+        #[no_mangle]
+        pub unsafe extern "C" fn $name(
+            chain: *const i64,
+            chain_len: usize,
+            point: *const i64,
+            point_len: usize,
+            out: *mut i64,
+            out_len: usize,
+        ) -> i64 {
+            let chain = slice::from_raw_parts(chain, chain_len);
+            let point = slice::from_raw_parts(point, point_len);
+            give($call(chain, point), out, out_len)
+        }
+    };
+}
+
+conversion!(swivelcrane_forward, baseline::numbers::forward);
+conversion!(swivelcrane_inverse, baseline::numbers::inverse);
+
+macro_rules! cartesian {
+    ($name:ident, $call:path, $number:ty) => {
+        /// # Safety
+        /// The pointer and length are a live slice.
+        #[no_mangle]
+        pub unsafe extern "C" fn $name(
+            ellipsoid: i64,
+            latitude: i64,
+            longitude: i64,
+            height: i64,
+            out: *mut $number,
+            out_len: usize,
+        ) -> i64 {
+            give($call(ellipsoid, latitude, longitude, height), out, out_len)
+        }
+    };
+}
+
+cartesian!(swivelcrane_cartesian, angle::cartesian, f64);
+cartesian!(swivelcrane_cartesian_units, angle::cartesian_units, i64);
+
+macro_rules! cassini {
+    ($name:ident, $call:path, $number:ty) => {
+        /// # Safety
+        /// The pointer and length are a live slice.
+        #[no_mangle]
+        pub unsafe extern "C" fn $name(
+            ellipsoid: i64,
+            origin_latitude: i64,
+            origin_longitude: i64,
+            false_easting: i64,
+            false_northing: i64,
+            latitude: i64,
+            longitude: i64,
+            out: *mut $number,
+            out_len: usize,
+        ) -> i64 {
+            let numbers = [ellipsoid, origin_latitude, origin_longitude, false_easting, false_northing];
+            let answer = Origin::new(numbers).and_then(|origin| $call(&origin, latitude, longitude));
+            give(answer, out, out_len)
+        }
+    };
+}
+
+cassini!(swivelcrane_cassini, Origin::cassini, f64);
+cassini!(swivelcrane_cassini_millimetres, Origin::cassini_millimetres, i64);
+
+/// # Safety
+/// The pointer and length are a live slice.
+#[no_mangle]
+pub unsafe extern "C" fn swivelcrane_round(x: f64, places: u32, out: *mut i64, out_len: usize) -> i64 {
+    give(baseline::round::decimals(x, places).map(|whole| [whole]), out, out_len)
+}
+
+/// # Safety
+/// Each pointer and length are a live slice.
+#[no_mangle]
+pub unsafe extern "C" fn swivelcrane_later(
+    first: *const u8,
+    first_len: usize,
+    second: *const u8,
+    second_len: usize,
+    which: *mut i64,
+    which_len: usize,
+) -> i64 {
+    let first = slice::from_raw_parts(first, first_len);
+    let second = slice::from_raw_parts(second, second_len);
+    give(baseline::later::later(first, second).map(|which| [which]), which, which_len)
+}
+
+macro_rules! text {
+    ($name:ident, $call:path) => {
+        /// # Safety
+        /// Each pointer and length are a live slice.
+        #[no_mangle]
+        pub unsafe extern "C" fn $name(
+            input: *const u8,
+            input_len: usize,
+            out: *mut u8,
+            out_len: usize,
+        ) -> i64 {
+            if out_len < 11 * input_len.min(65_536) + 7 {
+                return -WRONG_LENGTH;
+            }
+            let mut text = Vec::new();
+            $call(slice::from_raw_parts(input, input_len), &mut text);
+            slice::from_raw_parts_mut(out, text.len()).copy_from_slice(&text);
+            text.len() as i64
+        }
+    };
+}
+
+text!(swivelcrane_sheet, baseline::sheet::sheet);
+text!(swivelcrane_plan, baseline::plan::plan);

@@ -1,0 +1,45 @@
+-- `chain::steps::bursa_wolf_ready` meets its contract. Assumes nothing.
+use mathlib.Core.Path.{sym, _∙_, ap, subst⁻¹}
+use Prim.Native.Nat.{_≤_}
+use lib.IntN.{ℤ, natAbs}
+use Rattle.rounding.specs.Machine.{told, rd, to₁}
+use Rattle.chain.specs.declared.steps.Turn.{Turn}
+use Rattle.chain.specs.Faults.{kindRange}
+use Rattle.chain.specs.Parts.{signed, radians}
+use Rattle.chain.specs.Ready.{Prepares}
+use Rattle.chain.proofs.Sizes.{step-ok, bursa-wolf-ok}
+use Rattle.chain.proofs.Prepared.{turn-same, turn-prepares}
+use Rattle.chain.specs.declared.steps.Ready.the-variants.{Turned}
+use Rattle.chain.proofs.Sizes.{BursaWolfOk}
+use Rattle.chain.proofs.steps.bursa_wolf_ready.Statement.{statement}
+use Rattle.chain.proofs.steps.bursa_wolf_ready.Tie as tie
+
+-- the step's numbers in their ranges
+ranges : (s : tie.Start) → BursaWolfOk (s .args .t)
+ranges s = bursa-wolf-ok (s .args .t) (sym (ap kindRange (s .pre .1)) ∙ step-ok (s .args .step) (s .pre .0) .range)
+
+turned-requires : tie.Need-turned-requires
+turned-requires c κs = let s = c .before in to₁ (λ (r : ℤ). natAbs r ≤ 1000000) (told {z = s .args .t .rx} (c .struct-told .given .1 .1 .1 .1 .0 .1)) (ranges s .rx)
+
+turned-requires-2 : tie.Need-turned-requires-2
+turned-requires-2 c κs = let s = c .before .before .before in to₁ (λ (r : ℤ). natAbs r ≤ 1000000) (told {z = s .args .t .ry} (c .struct-told2 .given .1 .1 .1 .1 .1 .0 .1)) (ranges s .ry)
+
+turned-requires-3 : tie.Need-turned-requires-3
+turned-requires-3 c κs = let s = c .before .before .before .before .before in to₁ (λ (r : ℤ). natAbs r ≤ 1000000) (told {z = s .args .t .rz} (c .struct-told3 .given .1 .1 .1 .1 .1 .1 .0 .1)) (ranges s .rz)
+
+returns : tie.Need-returns
+returns c =
+    let s = c .before .before .before .before .before .before .before in
+    let t = c .before .before .before .before .before .before .struct-told .given in
+    let by : ℤ → ℤ = λ r. radians (signed (s .args .t .convention) r) in
+    let dx = told (t .1 .0 .1) in
+    let dy = told (t .1 .1 .0 .1) in
+    let dz = told (t .1 .1 .1 .0 .1) in
+    let rx = rd (record { sfits = c .before .before .before .before .before .turned .ok }) ∙ c .before .before .before .before .before .turned .ensures ∙ ap by (told (t .1 .1 .1 .1 .0 .1)) in
+    let ry = rd (record { sfits = c .before .before .before .turned2 .ok }) ∙ c .before .before .before .turned2 .ensures ∙ ap by (told (t .1 .1 .1 .1 .1 .0 .1)) in
+    let rz = rd (record { sfits = c .before .turned3 .ok }) ∙ c .before .turned3 .ensures ∙ ap by (told (t .1 .1 .1 .1 .1 .1 .0 .1)) in
+    let sc = told (t .1 .1 .1 .1 .1 .1 .1 .0 .1) in
+    subst⁻¹ (λ (x : Turn). Prepares (s .args .step) (Turned x)) (turn-same dx dy dz rx ry rz sc) (turn-prepares (s .args .step) (s .pre .0) (s .args .t) (s .pre .1))
+
+pub bursa-wolf-ready-spec : {M : Type 1} → statement M
+bursa-wolf-ready-spec = tie.close (tie.spec turned-requires turned-requires-2 turned-requires-3 returns)

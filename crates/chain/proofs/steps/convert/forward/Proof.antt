@@ -1,0 +1,74 @@
+-- `chain::steps::convert::forward` meets its contract: the chain decides first, then the point, then the walk. Assumes nothing.
+use mathlib.Core.Path.{_≡_, sym, _∙_, ap}
+use mathlib.Core.Bool.{not}
+use mathlib.Core.List.{List}
+use Rattle.refusal.specs.Order.{first}
+use Rattle.chain.specs.declared.Realization.{Realization}
+use Rattle.chain.specs.declared.Step.{Step}
+use Rattle.chain.proofs.Prepared.{position}
+use Rattle.chain.specs.declared.Answer.the-variants.{Refused}
+use Rattle.chain.specs.Faults.{chainTests, stepsOf}
+use Rattle.chain.specs.Convert.{Walk, walk, forwardStep, startOf, endOf, answerOf, forwardOf}
+use Rattle.chain.proofs.Accepted.{chain-holds, entry, entry-area, by-chain, by-point, by-walk}
+use Rattle.chain.proofs.steps.convert.forward.Statement.{statement}
+use Rattle.chain.proofs.steps.convert.forward.Tie as tie
+
+chain-fault-requires : tie.Need-chain-fault-requires
+chain-fault-requires c κs = tt
+
+module _ (s : tie.Start) where
+  abbrev steps : List Step
+  steps = stepsOf (s .args .chain)
+
+  abbrev wanted : Realization
+  wanted = startOf (s .args .point .realization) steps
+
+  abbrev reached : Realization
+  reached = endOf (s .args .point .realization) steps
+
+  abbrev walked : Walk
+  walked = walk forwardStep steps (s .args .point .position)
+
+returns : tie.Need-returns
+unfolding forwardOf
+returns c =
+    let s = c .before .before in
+    let f = c .before .chain-fault .ensures in
+    ap Refused f ∙ by-chain (s .args .chain) (s .args .point) (wanted s) (reached s) (walked s) (λ e. c .if1 .taken (f ∙ e))
+
+start-of-requires : tie.Need-start-of-requires
+start-of-requires c κs = tt
+
+entry-fault-requires : tie.Need-entry-fault-requires
+entry-fault-requires c κs = tt
+
+-- what the point was refused for, and that the chain was not
+module _ (c : tie.After-entry-fault) where
+  found : c .entry-fault .result ≡ entry (c .before .before .before .before .before .args .point) (wanted (c .before .before .before .before .before))
+  found = c .entry-fault .ensures ∙ ap (entry (c .before .before .before .before .before .args .point)) (c .before .start-of .ensures)
+
+  sound : first (chainTests (c .before .before .before .before .before .args .chain)) ≡ 0
+  sound = sym (c .before .before .before .before .chain-fault .ensures) ∙ c .before .before .before .if1 .left
+
+returns-2 : tie.Need-returns-2
+unfolding forwardOf
+returns-2 c =
+    let s = c .before .before .before .before .before .before in
+    let f = found (c .before) in
+    ap Refused f ∙ by-point (s .args .chain) (s .args .point) (wanted s) (reached s) (walked s) (sound (c .before)) (λ e. c .if2 .taken (f ∙ e))
+
+end-of-requires : tie.Need-end-of-requires
+end-of-requires c κs = chain-holds (c .before .before .before .before .before .before .args .chain) (sym (c .before .before .before .before .before .chain-fault .ensures) ∙ c .before .before .before .before .if1 .left) .0
+
+forward-walk-requires : tie.Need-forward-walk-requires
+forward-walk-requires c κs = (sound (c .before .before), entry-area (c .before .before .before .before .before .before .before .args .point) (wanted (c .before .before .before .before .before .before .before)) (sym (found (c .before .before)) ∙ c .before .if2 .left))
+
+returns-3 : tie.Need-returns-3
+unfolding forwardOf
+returns-3 c =
+    let s = c .before .before .before .before .before .before .before .before in
+    c .forward-walk .ensures ∙ ap (λ (r : Realization). answerOf (s .args .point) r (walked s)) (c .before .end-of .ensures)
+    ∙ by-walk (s .args .chain) (s .args .point) (wanted s) (reached s) (walked s) (sound (c .before .before .before)) (sym (found (c .before .before .before)) ∙ c .before .before .if2 .left)
+
+pub forward-spec : {M : Type 1} → statement M
+forward-spec = tie.close (tie.spec chain-fault-requires returns start-of-requires entry-fault-requires returns-2 end-of-requires forward-walk-requires returns-3)

@@ -1,0 +1,26 @@
+use mathlib.Core.Path.{_≡_, _∙_, ap, ap₂}
+use mathlib.Core.Bool.{_&&_}
+use lib.IntN.{ℤ}
+use Rattle.rounding.specs.Machine.{told, of₃}
+use Rattle.chain.specs.Ranges.{upTo}
+use Rattle.chain.specs.Prepared.{readyRange}
+use borrow.Author.Needs.{needs}
+use Rattle.chain.proofs.steps.kept.scale_in_range.Statement.{statement}
+use Rattle.chain.proofs.steps.kept.scale_in_range.Tie as tie
+use Rattle.chain.proofs.steps.kept.scale_in_range.Reads as reads
+use Rattle.chain.proofs.steps.kept.scale_in_range.Lts as lts
+use Rattle.chain.proofs.ranges.three_within.Reads as three-within-reads
+use Rattle.chain.proofs.ranges.within.Reads as within-reads
+
+three-within-requires : tie.Need-three-within-requires
+three-within-requires c κs = search needs
+
+within-requires : tie.Need-within-requires
+within-requires c κs = search needs
+
+returns : tie.Need-returns
+unfolding readyRange
+returns c = let t = c .before .before .before .before .before .struct-told .given in ap₂ _&&_ (c .before .before .three-within .ensures ∙ of₃ (λ (x y z : ℤ). upTo 1971000000000000000 x && upTo 1971000000000000000 y && upTo 1971000000000000000 z) (told (t .0 .1)) (told (t .1 .0 .1)) (told (t .1 .1 .0 .1))) (c .within .ensures ∙ ap (upTo 1202000) (told (t .1 .1 .1 .0 .1)))
+
+pub scale-in-range-spec : {M : Type 1} → statement M
+scale-in-range-spec = tie.close (tie.spec three-within-requires within-requires returns)

@@ -1,0 +1,138 @@
+// Conversion by a chain, by value, for every chain and every point.
+ghost use mathlib.Core.Path.{_≡_};
+ghost use mathlib.Core.Bool.{true};
+ghost use mathlib.Core.List.{reverse};
+ghost use Prim.Native.Nat.{_≤_};
+ghost use Rattle.refusal.specs.Order.{first};
+ghost use Rattle.chain.specs.Faults.{stepFault, inArea, chainTests, stepsOf};
+ghost use Rattle.chain.specs.Convert.{forwardStep, inverseStep, walk, startOf, endOf, movedTo, answerOf, forwardOf, inverseOf};
+use crate::Answer;
+use crate::Chain;
+use crate::Point;
+use crate::Position;
+use crate::Realization;
+use crate::Step;
+use crate::checks;
+use crate::ranges;
+use crate::steps;
+
+fn forward_step(step: Step, p: Position) -> Position
+    requires { ⌜ (stepFault step ≡ 0) × (inArea p ≡ true) ⌝ }
+    ensures { λ q. ⌜ q ≡ forwardStep step p ⌝ }
+{
+    steps::forward_ready(steps::prepare(step), p)
+}
+
+fn inverse_step(step: Step, q: Position) -> Position
+    requires { ⌜ (stepFault step ≡ 0) × (inArea q ≡ true) ⌝ }
+    ensures { λ p. ⌜ p ≡ inverseStep step q ⌝ }
+{
+    steps::inverse_ready(steps::prepare(step), q)
+}
+
+// The point at another realization and position: id and issue pass through.
+pub(crate) fn moved_to(point: Point, r: Realization, p: Position) -> Point
+    ensures { λ q. ⌜ q ≡ movedTo point r p ⌝ }
+{
+    let id = point.id;
+    Point {
+        id: id,
+        issue: point.issue,
+        realization: r,
+        position: p,
+    }
+}
+
+// Forward over the steps, the first one first.
+fn forward_walk(chain: Chain, point: Point, reached: Realization) -> Answer
+    requires { ⌜ (first (chainTests chain) ≡ 0) × (inArea (point .position) ≡ true) ⌝ }
+    ensures { λ r. ⌜ r ≡ answerOf point reached (walk forwardStep (stepsOf chain) (point .position)) ⌝ }
+{
+    let n = chain.length;
+    let mut p = point.position;
+    let mut i = 0;
+    while i < n {
+        let step = chain.steps[i];
+        p = forward_step(step, p);
+        if !ranges::in_area(p) {
+            return Answer::Refused(refusal::LEFT);
+        }
+        i += 1;
+    }
+    Answer::Converted(moved_to(point, reached, p))
+}
+
+// Inverse over the steps, the last one first.
+fn inverse_walk(chain: Chain, point: Point, reached: Realization) -> Answer
+    requires { ⌜ (first (chainTests chain) ≡ 0) × (inArea (point .position) ≡ true) ⌝ }
+    ensures { λ r. ⌜ r ≡ answerOf point reached (walk inverseStep (reverse (stepsOf chain)) (point .position)) ⌝ }
+{
+    let mut p = point.position;
+    let mut i = chain.length;
+    while 0 < i {
+        i -= 1;
+        let step = chain.steps[i];
+        p = inverse_step(step, p);
+        if !ranges::in_area(p) {
+            return Answer::Refused(refusal::LEFT);
+        }
+    }
+    Answer::Converted(moved_to(point, reached, p))
+}
+
+// Where a chain starts; for the empty chain, where the point is.
+fn start_of(chain: Chain, r: Realization) -> Realization
+    ensures { λ t. ⌜ t ≡ startOf r (stepsOf chain) ⌝ }
+{
+    if chain.length == 0 {
+        return r;
+    }
+    let s = chain.steps[0];
+    s.before
+}
+
+// Where a chain ends; for the empty chain, where the point is.
+fn end_of(chain: Chain, r: Realization) -> Realization
+    requires { ⌜ chain .length ≤ 8 ⌝ }
+    ensures { λ t. ⌜ t ≡ endOf r (stepsOf chain) ⌝ }
+{
+    let n = chain.length;
+    if n == 0 {
+        return r;
+    }
+    let last = n - 1;
+    let s = chain.steps[last];
+    s.after
+}
+
+// A point forward by a chain (document 01: along): to the chain's end, or refused.
+pub fn forward(chain: Chain, point: Point) -> Answer
+    ensures { λ r. ⌜ r ≡ forwardOf chain point ⌝ }
+{
+    let c = checks::chain_fault(chain);
+    if c != 0 {
+        return Answer::Refused(c);
+    }
+    let r = point.realization;
+    let f = checks::entry_fault(point, start_of(chain, r));
+    if f != 0 {
+        return Answer::Refused(f);
+    }
+    forward_walk(chain, point, end_of(chain, r))
+}
+
+// A point inverse by a chain (document 01: back): to the chain's start, or refused.
+pub fn inverse(chain: Chain, point: Point) -> Answer
+    ensures { λ r. ⌜ r ≡ inverseOf chain point ⌝ }
+{
+    let c = checks::chain_fault(chain);
+    if c != 0 {
+        return Answer::Refused(c);
+    }
+    let r = point.realization;
+    let f = checks::entry_fault(point, end_of(chain, r));
+    if f != 0 {
+        return Answer::Refused(f);
+    }
+    inverse_walk(chain, point, start_of(chain, r))
+}

@@ -1,0 +1,172 @@
+-- The laws of lines and of a program's run over them. Assumes nothing.
+use Prim.Native.Nat.{ℕ, zero, suc, _+_, _-_, _*_, _≤_, _<_}
+use mathlib.Core.Path.{_≡_, refl, sym, ap, _∙_}
+use mathlib.Core.List.{List, [], _∷_, _++_}
+use mathlib.Core.Bool.{Bool, true, false}
+use mathlib.Core.Option.{Option, none, some}
+use lib.Dec.{eqb}
+use native.Mathlib.Nat.{add-zero}
+use lib.ListN.{length, getD, take, drop, set, length-append, length-drop, length-take, drop-of-length-le}
+use lib.Seq.{sets, length-sets, set-out, drop-cons, drop-drop}
+use native.Mathlib.Decide.{decLe}
+use Rattle.line.specs.declared.Fault.{Fault}
+use Rattle.line.specs.Lines.{fault, answered}
+use Rattle.line.specs.Text.{Wrote}
+use native.Mathlib.Numerals.{add-one}
+use native.Mathlib.Omega.{arith}
+use borrow.Author.Tests.{eq-eqb, ne-eqb, eqb-true}
+use Rattle.refusal.specs.Order.{pick}
+use Rattle.listing.specs.Lines.{feed, push, lines, firstLength, lineEnd}
+use Rattle.listing.specs.Fold.{Rules, run}
+
+-- ---- the first line's length, by its first byte
+pub length-feed : (s : List ℕ) (i : ℕ) → i < length s → getD s i 0 ≡ feed → firstLength (drop i s) ≡ 1
+unfolding firstLength
+length-feed s i h e = rw (drop-cons s i 0 h, eq-eqb (getD s i 0) feed e)
+
+pub length-more : (s : List ℕ) (i : ℕ) → i < length s → (getD s i 0 ≡ feed → ⊥) → firstLength (drop i s) ≡ suc (firstLength (drop (i + 1) s))
+unfolding firstLength
+length-more s i h e = rw (drop-cons s i 0 h, ne-eqb (getD s i 0) feed e, add-one)
+
+pub length-none : (s : List ℕ) (i : ℕ) → length s ≤ i → firstLength (drop i s) ≡ 0
+unfolding firstLength
+length-none s i h = rw (drop-of-length-le s h)
+
+-- ---- the first line, and the others
+first-line : (s : List ℕ) → 0 < length s → lines s ≡ take (firstLength s) s ∷ lines (drop (firstLength s) s)
+unfolding lines firstLength
+first-line [] h = absurd (omega arith)
+first-line (b ∷ []) h = go (eqb b feed)
+  where
+    go : (t : Bool) → pick t ((b ∷ []) ∷ []) ((b ∷ []) ∷ []) ≡ take (pick t 1 1) (b ∷ []) ∷ lines (drop (pick t 1 1) (b ∷ []))
+    go true = refl
+    go false = refl
+first-line (b ∷ c ∷ s) h = go (eqb b feed) (first-line (c ∷ s) (omega arith))
+  where
+    go : (t : Bool) → lines (c ∷ s) ≡ take (firstLength (c ∷ s)) (c ∷ s) ∷ lines (drop (firstLength (c ∷ s)) (c ∷ s)) → pick t ((b ∷ []) ∷ lines (c ∷ s)) (push b (lines (c ∷ s))) ≡ take (pick t 1 (suc (firstLength (c ∷ s)))) (b ∷ c ∷ s) ∷ lines (drop (pick t 1 (suc (firstLength (c ∷ s)))) (b ∷ c ∷ s))
+    go true ih = refl
+    go false ih = ap (push b) ih
+
+first-some : (s : List ℕ) → 0 < length s → 0 < firstLength s
+unfolding firstLength
+first-some [] h = absurd (omega arith)
+first-some (b ∷ s) h = go (eqb b feed)
+  where
+    go : (t : Bool) → 0 < pick t 1 (suc (firstLength s))
+    go true = omega arith
+    go false = omega arith
+
+first-fits : (s : List ℕ) → firstLength s ≤ length s
+unfolding firstLength
+first-fits [] = omega arith
+first-fits (b ∷ s) = go (eqb b feed) (first-fits s)
+  where
+    go : (t : Bool) → firstLength s ≤ length s → pick t 1 (suc (firstLength s)) ≤ suc (length s)
+    go true h = omega arith
+    go false h = omega arith
+
+-- ---- the line that begins at p and ends before e
+module _ (s : List ℕ) (p e : ℕ) (q : e ≡ lineEnd s p) (h : p < length s) where
+  at-p : e ≡ p + firstLength (drop p s)
+  unfolding lineEnd
+  at-p = q
+
+  left : 0 < length (drop p s)
+  left = simp length-drop (omega arith)
+
+  -- it is not empty, and ends within the input
+  pub line-goes-on : p < e
+  line-goes-on = omega (arith, at-p, first-some (drop p s) left)
+
+  pub line-fits : e ≤ length s
+  line-fits = omega (arith, at-p, first-fits (drop p s), length-drop p s)
+
+  pub line-length : length (take (e - p) (drop p s)) ≡ e - p
+  line-length = rw (length-take, length-drop) (omega (arith, line-fits))
+
+  -- and the others begin at e
+  pub line-step : lines (drop p s) ≡ take (e - p) (drop p s) ∷ lines (drop e s)
+  line-step =
+      let w : e - p ≡ firstLength (drop p s) = omega (arith, at-p) in
+      first-line (drop p s) left ∙ rw (w, at-p, ← drop-drop (firstLength (drop p s)) p s)
+
+-- how many bytes the lines have together: as many as the input
+abbrev pub total : List (List ℕ) → ℕ
+total [] = 0
+total (l ∷ ls) = length l + total ls
+
+total-push : (b : ℕ) (ls : List (List ℕ)) → total (push b ls) ≡ suc (total ls)
+total-push b [] = refl
+total-push b (l ∷ ls) = omega arith
+
+pub total-lines : (s : List ℕ) → total (lines s) ≡ length s
+unfolding lines
+total-lines [] = refl
+total-lines (b ∷ s) = go (eqb b feed) (total-lines s)
+  where
+    go : (t : Bool) → total (lines s) ≡ length s → total (pick t ((b ∷ []) ∷ lines s) (push b (lines s))) ≡ suc (length s)
+    go true h = omega arith
+    go false h = omega (arith, total-push b (lines s))
+
+-- ---- texts written one after the other
+sets-append : (a b out : List ℕ) (o : ℕ) → sets out o (a ++ b) ≡ sets (sets out o a) (o + length a) b
+sets-append [] b out o = rw add-zero
+sets-append (x ∷ a) b out o = sets-append a b (set out o x) (suc o) ∙ let e : suc o + length a ≡ o + suc (length a) = omega arith in rw e
+
+sets-out : (vs l : List ℕ) (i : ℕ) → length l ≤ i → sets l i vs ≡ l
+sets-out [] l i h = refl
+sets-out (x ∷ vs) l i h = rw (set-out l i x h) (sets-out vs l (suc i) (omega arith))
+
+pub wrote-none : (l : List ℕ) (at : ℕ) → Wrote l at [] l at
+wrote-none l at = record { place = omega arith; list = refl }
+
+pub wrote-then : {l m k : List ℕ} {at r t : ℕ} {vs ws : List ℕ} → Wrote l at vs m r → Wrote m r ws k t → Wrote l at (vs ++ ws) k t
+wrote-then {l} {m} {k} {at} {r} {t} {vs} {ws} a b = record {
+  place = omega (arith, a .place, b .place, same, length-append vs ws);
+  list = b .list ∙ next (decLe (at + length vs) (length l)) ∙ sym (sets-append vs ws l at);
+}
+  where
+    same : length m ≡ length l
+    same = ap length (a .list) ∙ length-sets l at vs
+
+    next : Dec (at + length vs ≤ length l) → sets m r ws ≡ sets (sets l at vs) (at + length vs) ws
+    next (yes h) = let e : r ≡ at + length vs = omega (arith, a .place) in rw (a .list, e)
+    next (no h) =
+        let g : length m ≤ r = omega (arith, a .place, same) in
+        let f : length (sets l at vs) ≤ at + length vs = omega (arith, length-sets l at vs) in
+        sets-out ws m r g ∙ a .list ∙ sym (sets-out ws (sets l at vs) (at + length vs) f)
+
+-- ---- a program's loop: once what is left is written, the whole is
+pub Left : {S : Type 0} → Rules S → S → List ℕ → List ℕ → S → ℕ → List ℕ → ℕ → Type 0
+Left r st₀ s out₀ st p out o = (m : List ℕ) (t : ℕ) → Wrote out o (run r st (lines (drop p s))) m t → Wrote out₀ 0 (run r st₀ (lines s)) m t
+
+module _ {S : Type 0} (r : Rules S) (st₀ : S) (s out₀ : List ℕ) where
+  pub left-all : Left r st₀ s out₀ st₀ 0 out₀ 0
+  unfolding Left
+  left-all m t w = w
+
+  pub left-turn : (p e : ℕ) (st : S) (out out' : List ℕ) (o o' : ℕ) → e ≡ lineEnd s p → p < length s → Wrote out o (r .answer st (take (e - p) (drop p s))) out' o' → Left r st₀ s out₀ st p out o → Left r st₀ s out₀ (r .next st (take (e - p) (drop p s))) e out' o'
+  unfolding run Left
+  left-turn p e st out out' o o' q h w l m t v = l m t (rw (line-step s p e q h) (wrote-then w v))
+
+  pub left-none : (p : ℕ) (st : S) (out : List ℕ) (o : ℕ) → length s ≤ p → Left r st₀ s out₀ st p out o → Wrote out₀ 0 (run r st₀ (lines s)) out o
+  unfolding run lines Left
+  left-none p st out o h l = l out o (rw (drop-of-length-le s h) (wrote-none out o))
+
+-- ---- what is printed is at most k times as long as what is read, where each line's answer is, under what holds of the state
+pub run-short : {S : Type 0} (r : Rules S) (k : ℕ) (Holds : S → List (List ℕ) → Type 0) → ((st : S) (l : List ℕ) (ls : List (List ℕ)) → Holds st (l ∷ ls) → (length (r .answer st l) ≤ k * length l) × Holds (r .next st l) ls) → (st : S) (ls : List (List ℕ)) → Holds st ls → length (run r st ls) ≤ k * total ls
+unfolding run
+run-short r k Holds each st [] h = omega arith
+run-short r k Holds each st (l ∷ ls) h =
+    let a = each st l ls h in
+    let b = run-short r k Holds each (r .next st l) ls (a .1) in
+    omega (arith, length-append (r .answer st l) (run r (r .next st l) ls))
+
+-- ---- a reader that gives a record has found no fault
+pub no-fault : {A R : Type 0} (faultOf : A → ℕ) (good : A → R) (refused : Fault → R) (o : Option A) (a : A) → ((x y : A) → good x ≡ good y → x ≡ y) → ((f : Fault) (x : A) → refused f ≡ good x → ⊥) → answered faultOf good refused o ≡ good a → faultOf a ≡ 0
+no-fault faultOf good refused none a inj never e = absurd (never _ a e)
+no-fault faultOf good refused (some b) a inj never e = go (eqb (faultOf b) 0) refl e
+  where
+    go : (t : Bool) → t ≡ eqb (faultOf b) 0 → pick t (good b) (refused (fault (faultOf b))) ≡ good a → faultOf a ≡ 0
+    go true t e = ap faultOf (sym (inj b a e)) ∙ eqb-true (faultOf b) 0 (sym t)
+    go false t e = absurd (never _ a e)

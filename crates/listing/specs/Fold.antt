@@ -1,0 +1,29 @@
+-- A program answers its input line by line, with a state carried from line to line: what it prints is the answers one after the other.
+use Prim.Native.Nat.{ℕ}
+use mathlib.Core.List.{List, [], _∷_, _++_}
+use lib.Dec.{eqb, ltb}
+use lib.ListN.{length, getD}
+use Rattle.refusal.specs.Numbers as refusal
+use Rattle.refusal.specs.Order.{pick}
+use Rattle.line.specs.Text.{refusalText}
+use Rattle.listing.specs.Lines.{lines}
+
+-- the rules of a program: what a line prints in a state, and the state after it
+pub record Rules (S : Type 0) : Type 0 where
+  pub answer : S → List ℕ → List ℕ
+  pub next : S → List ℕ → S
+
+unfoldable pub run : {S : Type 0} → Rules S → S → List (List ℕ) → List ℕ
+run r s [] = []
+run r s (l ∷ ls) = r .answer s l ++ run r (r .next s l) ls
+
+-- a whole input, of at most so many bytes; more prints only R, 0, 15
+abbrev pub most : ℕ
+most = 65536
+
+unfoldable pub printed : {S : Type 0} → Rules S → S → List ℕ → List ℕ
+printed r s input = pick (ltb most (length input)) (refusalText 0 refusal.long) (run r s (lines input))
+
+-- a program reads lines of two letters, told by their first byte
+abbrev pub byLetter : {A : Type 0} → ℕ → ℕ → List ℕ → A → A → A → A
+byLetter one other line a b neither = pick (eqb (getD line 0 0) one) a (pick (eqb (getD line 0 0) other) b neither)

@@ -1,0 +1,17 @@
+use mathlib.Core.Path.{refl}
+use Rattle.plan_rules.specs.State.{afterIn}
+use borrow.Author.Needs.{needs}
+use Rattle.plan_rules.proofs.answer.after.Statement.{statement}
+use Rattle.plan_rules.proofs.answer.after.Tie as tie
+use Rattle.plan_rules.proofs.answer.after.Reads as reads
+use Rattle.plan_rules.proofs.answer.after.Lts as lts
+
+add-t3 : tie.Need-add-t3
+add-t3 c = search needs
+
+returns : tie.Need-returns
+unfolding afterIn
+returns c = refl
+
+pub after-spec : {M : Type 1} → statement M
+after-spec = tie.close (tie.spec add-t3 returns)

@@ -1,0 +1,18 @@
+use borrow.Author.Tests.{eq-eqb, ne-eqb}
+use borrow.Author.Needs.{needs}
+use Rattle.plan_rules.proofs.answer.ordered.Statement.{statement}
+use Rattle.plan_rules.proofs.answer.ordered.Tie as tie
+use Rattle.plan_rules.proofs.answer.ordered.Reads as reads
+use Rattle.plan_rules.proofs.answer.ordered.Lts as lts
+
+returns : tie.Need-returns
+returns c = rw (eq-eqb (c .before .args .number) 1 (c .if1 .taken))
+
+returns-2 : tie.Need-returns-2
+returns-2 c = rw (ne-eqb (c .before .before .args .number) 1 (c .before .if1 .left), c .if2 .taken)
+
+returns-3 : tie.Need-returns-3
+returns-3 c = rw (ne-eqb (c .before .before .args .number) 1 (c .before .if1 .left), c .if2 .left)
+
+pub ordered-spec : {M : Type 1} → statement M
+ordered-spec = tie.close (tie.spec returns returns-2 returns-3)

@@ -1,0 +1,57 @@
+-- How the code carries a sheet: a small state by value, and the accepted steps made ready as numbers that are lent beside it.
+use mathlib.Core.Path.{_≡_}
+use mathlib.Core.Bool.{Bool, true, false, not, _||_}
+use mathlib.Core.List.{List, [], _∷_}
+use Prim.Native.Nat.{ℕ, _+_}
+use lib.Dec.{eqb, leb}
+use lib.IntN.{ℤ}
+use lib.ListN.{length}
+use Rattle.refusal.specs.Numbers as refusal
+use Rattle.refusal.specs.Order.{pick, first, _gives_}
+use Rattle.chain.specs.declared.Realization.{Realization}
+use Rattle.chain.specs.declared.Step.{Step}
+use Rattle.chain.specs.Faults.{sameRealization, chainTests}
+use Rattle.chain.specs.Ready.{chainOf, Held, Ends}
+use Rattle.line.specs.Text.{Wrote}
+use Rattle.sheet_rules.specs.declared.State.{State}
+use Rattle.sheet_rules.specs.declared.Answered.{Answered}
+use Rattle.sheet_rules.specs.Sheet.{Sheet}
+
+-- the state and the numbers hold the sheet
+pub record Holds (st : State) (numbers : List ℤ) (s : Sheet) : Type 0 where
+  pub line : st .line ≡ s .line
+  pub refused : st .refused ≡ s .refused
+  pub closed : st .closed ≡ s .closed
+  pub count : st .length ≡ length (s .steps)
+  pub ends : Ends (st .start) (st .end) (s .steps)
+  pub held : Held numbers (s .steps)
+  pub room : length numbers ≡ 64
+  pub sound : first (chainTests (chainOf (s .steps))) ≡ 0
+
+-- what a line gave: its text written, and the sheet after it held
+pub record Gave (text : List ℕ) (next : Sheet) (out : List ℕ) (at : ℕ) (out' : List ℕ) (numbers : List ℤ) (r : Answered) : Type 0 where
+  pub wrote : Wrote out at text out' (r .at)
+  pub holds : Holds (r .state) numbers next
+
+-- what the state says of a step: 8, 7, 5, 6
+unfoldable pub refusalIn : State → Realization → ℕ
+refusalIn st before =
+    first ((st .refused gives refusal.earlier)
+    ∷ (st .closed gives refusal.place)
+    ∷ (not (eqb (st .length) 0 || sameRealization (st .end) before) gives refusal.join)
+    ∷ (leb 8 (st .length) gives refusal.ninth)
+    ∷ [])
+
+-- the state after a line that adds no step, and after one that does
+unfoldable pub afterIn : State → Bool → Bool → State
+afterIn st refused closed = record { line = st .line + 1; length = st .length; start = st .start; end = st .end; refused = refused; closed = closed }
+
+unfoldable pub withIn : State → Step → State
+withIn st s = record {
+  line = st .line + 1;
+  length = st .length + 1;
+  start = pick (eqb (st .length) 0) (s .before) (st .start);
+  end = s .after;
+  refused = st .refused;
+  closed = st .closed;
+}

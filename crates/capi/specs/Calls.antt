@@ -26,6 +26,9 @@ use Rattle.angle.specs.declared.GridMillimetres.{GridMillimetres}
 use Rattle.angle.specs.declared.GridMillimetres.the-variants as millimetres
 use Rattle.angle.specs.Cartesian.{cartesianOf, cartesianUnitsOf}
 use Rattle.angle.specs.Cassini.{cassiniOf, cassiniMillimetresOf}
+use Rattle.line.specs.declared.Verdict.{Verdict}
+use Rattle.line.specs.declared.Verdict.the-variants as verdict
+use Rattle.line.specs.Later.{laterOf}
 use Rattle.capi.specs.Outcome.{Outcome, refused, gives, ifSized}
 use Rattle.capi.specs.Chains.{chainFrom, pointFrom, pointNumbers, wholeSteps}
 
@@ -85,3 +88,12 @@ ofRounded (rounded.Refused n) = refused n
 
 unfoldable pub roundCall : Float → ℕ → List ℤ → Outcome ℤ
 roundCall x places out = ifSized (eqb (length out) 1) (ofRounded (roundedOf x places))
+
+-- ---- the later of two point lines: 1 for the first, 2 for the second
+abbrev pub ofVerdict : Verdict → Outcome ℤ
+ofVerdict verdict.First = gives (pos 1 ∷ [])
+ofVerdict verdict.Second = gives (pos 2 ∷ [])
+ofVerdict (verdict.Refused n) = refused n
+
+unfoldable pub laterCall : List ℕ → List ℕ → List ℤ → Outcome ℤ
+laterCall one other which = ifSized (eqb (length which) 1) (ofVerdict (laterOf one other))

@@ -15,7 +15,7 @@ use Rattle.chain.specs.declared.Kind.{Kind}
 use Rattle.chain.specs.declared.Kind.the-variants.{Shift, Velocity, BursaWolf, Frame}
 use Rattle.chain.specs.declared.Step.{Step}
 use Rattle.chain.specs.declared.Chain.{Chain}
-use Rattle.capi.specs.Letters.{letterB, letterC, letterF, letterP, letterT, letterV}
+use Rattle.line.specs.Bytes.{letterB, letterC, letterF, letterP, letterT, letterV}
 
 -- the number at a place, and whether it is that letter's
 abbrev pub number : List ℤ → ℕ → ℤ

@@ -4,6 +4,7 @@ pub mod conversion;
 mod decode;
 pub mod geodetic;
 pub mod grid;
+pub mod later;
 pub mod rounded;
 mod status;
 

@@ -64,7 +64,8 @@ fn by_issue(a: PointLine, b: PointLine, equal: bool) -> Verdict
     }
 }
 
-fn verdict_on(first: &[u8], second: &[u8]) -> Verdict
+// Which of two lent point lines is the later one, or the refusal number: what later_of_two hands back, for callers who hold the lines.
+pub fn verdict_on(first: &[u8], second: &[u8]) -> Verdict
     ensures { λ r. ⌜ r ≡ laterOf (now (first .entry)) (now (second .entry)) ⌝ }
 {
     let a = read_point(first);

@@ -13,6 +13,7 @@ mod step_line;
 mod write;
 
 pub use compare::later_of_two;
+pub use compare::verdict_on;
 pub use geodetic_line::read_geodetic;
 pub use origin_line::read_origin;
 pub use point_line::read_point;

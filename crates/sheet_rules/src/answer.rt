@@ -88,7 +88,14 @@ fn with_step(state: State, step: Step) -> State
 }
 
 // Prints R, the line's number and the refusal number.
-fn refuse(state: State, number: u8, refused: bool, closed: bool, out: &mut [u8], at: usize) -> Answered
+fn refuse(
+    state: State,
+    number: u8,
+    refused: bool,
+    closed: bool,
+    out: &mut [u8],
+    at: usize,
+) -> Answered
     requires { ⌜ state .line < 1000000 ⌝ }
     ensures { λ r. ⌜ (Wrote (now (out .entry)) at (refusalText (state .line) number) (now (out .exit)) (r .at)) × (r .state ≡ afterIn state refused closed) ⌝ }
 {
@@ -101,7 +108,13 @@ fn refuse(state: State, number: u8, refused: bool, closed: bool, out: &mut [u8],
 }
 
 // A step whose line is good by itself: accepted, it prints nothing.
-fn take_step(state: State, step: Step, numbers: &mut [i64; 64], out: &mut [u8], at: usize) -> Answered
+fn take_step(
+    state: State,
+    step: Step,
+    numbers: &mut [i64; 64],
+    out: &mut [u8],
+    at: usize,
+) -> Answered
     requires { ⌜ (state .line < 1000000) × (stepFault step ≡ 0) ⌝ }
     ensures { λ r. ⌜ ((s : Sheet) → Holds state (now (numbers .entry)) s → Gave (stepAnswer s (step-line.Step step)) (afterStep s (step-line.Step step)) (now (out .entry)) at (now (out .exit)) (now (numbers .exit)) r) ⌝ }
 {
@@ -120,7 +133,13 @@ fn take_step(state: State, step: Step, numbers: &mut [i64; 64], out: &mut [u8], 
 }
 
 // A line that begins with S.
-fn answer_step(state: State, numbers: &mut [i64; 64], text: &[u8], out: &mut [u8], at: usize) -> Answered
+fn answer_step(
+    state: State,
+    numbers: &mut [i64; 64],
+    text: &[u8],
+    out: &mut [u8],
+    at: usize,
+) -> Answered
     requires { ⌜ state .line < 1000000 ⌝ }
     ensures { λ r. ⌜ ((s : Sheet) → Holds state (now (numbers .entry)) s → Gave (stepAnswer s (readStep (now (text .entry)))) (afterStep s (readStep (now (text .entry)))) (now (out .entry)) at (now (out .exit)) (now (numbers .exit)) r) ⌝ }
 {
@@ -131,7 +150,13 @@ fn answer_step(state: State, numbers: &mut [i64; 64], text: &[u8], out: &mut [u8
 }
 
 // A point whose line is good by itself.
-fn convert_point(state: State, numbers: &[i64; 64], point: Point, out: &mut [u8], at: usize) -> Answered
+fn convert_point(
+    state: State,
+    numbers: &[i64; 64],
+    point: Point,
+    out: &mut [u8],
+    at: usize,
+) -> Answered
     requires { ⌜ (state .line < 1000000) × (pointFault point ≡ 0) ⌝ }
     ensures { λ r. ⌜ ((s : Sheet) → Holds state (now (numbers .entry)) s → Gave (pointAnswer s (point-line.Point point)) (afterPoint s (point-line.Point point)) (now (out .entry)) at (now (out .exit)) (now (numbers .entry)) r) ⌝ }
 {
@@ -154,7 +179,13 @@ fn convert_point(state: State, numbers: &[i64; 64], point: Point, out: &mut [u8]
 }
 
 // A line that begins with P.
-fn answer_point(state: State, numbers: &[i64; 64], text: &[u8], out: &mut [u8], at: usize) -> Answered
+fn answer_point(
+    state: State,
+    numbers: &[i64; 64],
+    text: &[u8],
+    out: &mut [u8],
+    at: usize,
+) -> Answered
     requires { ⌜ state .line < 1000000 ⌝ }
     ensures { λ r. ⌜ ((s : Sheet) → Holds state (now (numbers .entry)) s → Gave (pointAnswer s (readPoint (now (text .entry)))) (afterPoint s (readPoint (now (text .entry)))) (now (out .entry)) at (now (out .exit)) (now (numbers .entry)) r) ⌝ }
 {
@@ -169,7 +200,13 @@ fn answer_point(state: State, numbers: &[i64; 64], text: &[u8], out: &mut [u8], 
 }
 
 // Any line but the empty piece.
-pub(crate) fn answer_line(state: State, numbers: &mut [i64; 64], text: &[u8], out: &mut [u8], at: usize) -> Answered
+pub(crate) fn answer_line(
+    state: State,
+    numbers: &mut [i64; 64],
+    text: &[u8],
+    out: &mut [u8],
+    at: usize,
+) -> Answered
     requires { ⌜ (state .line < 1000000) × (0 < length (now text)) ⌝ }
     ensures { λ r. ⌜ ((s : Sheet) → Holds state (now (numbers .entry)) s → Gave (answerOf s (now (text .entry))) (nextOf s (now (text .entry))) (now (out .entry)) at (now (out .exit)) (now (numbers .exit)) r) ⌝ }
 {

@@ -5,13 +5,12 @@ use mathlib.Core.List.{List, [], _∷_, _++_}
 use mathlib.Core.Bool.{Bool, true, false}
 use mathlib.Core.Option.{Option, none, some}
 use lib.Dec.{eqb}
-use native.Mathlib.Nat.{add-zero}
-use lib.ListN.{length, getD, take, drop, set, length-append, length-drop, length-take, drop-of-length-le}
-use lib.Seq.{sets, length-sets, set-out, drop-cons, drop-drop}
-use native.Mathlib.Decide.{decLe}
+use lib.ListN.{length, getD, take, drop, length-append, length-drop, length-take, drop-of-length-le}
+use lib.Seq.{drop-cons, drop-drop}
 use Rattle.line.specs.declared.Fault.{Fault}
 use Rattle.line.specs.Lines.{fault, answered}
 use Rattle.line.specs.Text.{Wrote}
+use Rattle.line.proofs.Texts.{«then», nothing}
 use native.Mathlib.Numerals.{add-one}
 use native.Mathlib.Omega.{arith}
 use borrow.Author.Tests.{eq-eqb, ne-eqb, eqb-true}
@@ -108,34 +107,6 @@ total-lines (b ∷ s) = go (eqb b feed) (total-lines s)
     go true h = omega arith
     go false h = omega (arith, total-push b (lines s))
 
--- ---- texts written one after the other
-sets-append : (a b out : List ℕ) (o : ℕ) → sets out o (a ++ b) ≡ sets (sets out o a) (o + length a) b
-sets-append [] b out o = rw add-zero
-sets-append (x ∷ a) b out o = sets-append a b (set out o x) (suc o) ∙ let e : suc o + length a ≡ o + suc (length a) = omega arith in rw e
-
-sets-out : (vs l : List ℕ) (i : ℕ) → length l ≤ i → sets l i vs ≡ l
-sets-out [] l i h = refl
-sets-out (x ∷ vs) l i h = rw (set-out l i x h) (sets-out vs l (suc i) (omega arith))
-
-pub wrote-none : (l : List ℕ) (at : ℕ) → Wrote l at [] l at
-wrote-none l at = record { place = omega arith; list = refl }
-
-pub wrote-then : {l m k : List ℕ} {at r t : ℕ} {vs ws : List ℕ} → Wrote l at vs m r → Wrote m r ws k t → Wrote l at (vs ++ ws) k t
-wrote-then {l} {m} {k} {at} {r} {t} {vs} {ws} a b = record {
-  place = omega (arith, a .place, b .place, same, length-append vs ws);
-  list = b .list ∙ next (decLe (at + length vs) (length l)) ∙ sym (sets-append vs ws l at);
-}
-  where
-    same : length m ≡ length l
-    same = ap length (a .list) ∙ length-sets l at vs
-
-    next : Dec (at + length vs ≤ length l) → sets m r ws ≡ sets (sets l at vs) (at + length vs) ws
-    next (yes h) = let e : r ≡ at + length vs = omega (arith, a .place) in rw (a .list, e)
-    next (no h) =
-        let g : length m ≤ r = omega (arith, a .place, same) in
-        let f : length (sets l at vs) ≤ at + length vs = omega (arith, length-sets l at vs) in
-        sets-out ws m r g ∙ a .list ∙ sym (sets-out ws (sets l at vs) (at + length vs) f)
-
 -- ---- a program's loop: once what is left is written, the whole is
 pub Left : {S : Type 0} → Rules S → S → List ℕ → List ℕ → S → ℕ → List ℕ → ℕ → Type 0
 Left r st₀ s out₀ st p out o = (m : List ℕ) (t : ℕ) → Wrote out o (run r st (lines (drop p s))) m t → Wrote out₀ 0 (run r st₀ (lines s)) m t
@@ -147,11 +118,11 @@ module _ {S : Type 0} (r : Rules S) (st₀ : S) (s out₀ : List ℕ) where
 
   pub left-turn : (p e : ℕ) (st : S) (out out' : List ℕ) (o o' : ℕ) → e ≡ lineEnd s p → p < length s → Wrote out o (r .answer st (take (e - p) (drop p s))) out' o' → Left r st₀ s out₀ st p out o → Left r st₀ s out₀ (r .next st (take (e - p) (drop p s))) e out' o'
   unfolding run Left
-  left-turn p e st out out' o o' q h w l m t v = l m t (rw (line-step s p e q h) (wrote-then w v))
+  left-turn p e st out out' o o' q h w l m t v = l m t (rw (line-step s p e q h) («then» w v))
 
   pub left-none : (p : ℕ) (st : S) (out : List ℕ) (o : ℕ) → length s ≤ p → Left r st₀ s out₀ st p out o → Wrote out₀ 0 (run r st₀ (lines s)) out o
   unfolding run lines Left
-  left-none p st out o h l = l out o (rw (drop-of-length-le s h) (wrote-none out o))
+  left-none p st out o h l = l out o (rw (drop-of-length-le s h) (nothing out o))
 
 -- ---- what is printed is at most k times as long as what is read, where each line's answer is, under what holds of the state
 pub run-short : {S : Type 0} (r : Rules S) (k : ℕ) (Holds : S → List (List ℕ) → Type 0) → ((st : S) (l : List ℕ) (ls : List (List ℕ)) → Holds st (l ∷ ls) → (length (r .answer st l) ≤ k * length l) × Holds (r .next st l) ls) → (st : S) (ls : List (List ℕ)) → Holds st ls → length (run r st ls) ≤ k * total ls

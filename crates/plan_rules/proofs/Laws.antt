@@ -19,7 +19,8 @@ use Rattle.line.specs.Fields.{said}
 use Rattle.line.specs.Forms.{originForm}
 use Rattle.line.specs.Lines.{readOrigin}
 use Rattle.line.specs.Text.{Wrote, refusalText}
-use Rattle.listing.proofs.Laws.{wrote-none, no-fault, Left}
+use Rattle.line.proofs.Texts.{nothing}
+use Rattle.listing.proofs.Laws.{no-fault, Left}
 use Rattle.plan_rules.specs.declared.State.{State}
 use Rattle.plan_rules.specs.declared.Answered.{Answered}
 use Rattle.plan_rules.specs.Plan.{Plan, fresh, rules, nextOf, noOrigin}
@@ -90,7 +91,7 @@ gave-refusal {st} {p} h x e n out out' at r w er = gave-text h x e (refusalText 
 -- an accepted origin
 pub gave-origin : {st : State} {p : Plan} → Holds st p → (o : OriginNumbers) (m : Origin) → originFault o ≡ 0 → m ≡ originMade o → (out : List ℕ) (at : ℕ) → Gave [] (withOrigin p (some o)) out at out (record { state = record { line = st .line + 1; made = true; origin = m }; at = at })
 gave-origin h o m f e out at = record {
-  wrote = wrote-none out at;
+  wrote = nothing out at;
   holds = record { line = ap (λ (n : ℕ). n + 1) (h .line); origin = (refl, e, f) };
 }
 

@@ -8,7 +8,6 @@ use borrow.Author.Tests.{eq-eqb, ne-eqb, leb-false}
 use lib.Dec.{eqb, ltb, leb}
 use lib.IntN.{ℤ}
 use lib.ListN.{length, getD, length-append}
-use lib.Seq.{sets, length-sets}
 use Rattle.refusal.specs.Numbers as refusal
 use Rattle.refusal.specs.Order.{pick, first, _gives_}
 use Rattle.chain.specs.declared.Realization.{Realization}
@@ -16,9 +15,8 @@ use Rattle.chain.specs.declared.Step.{Step}
 use Rattle.chain.specs.declared.Point.{Point}
 use Rattle.chain.specs.Faults.{sameRealization, pointFault, stepFault}
 use Rattle.chain.specs.Convert.{startOf, endOf, forwardOf}
-use Rattle.chain.specs.Ready.{numbers, readyStep, madeReady, forwardReadyOf, chainOf, Ends}
-use Rattle.chain.proofs.ReadyLaws.{same-self, held-none, held-more, sound-more}
-use Rattle.chain.proofs.ReadyLaws as ready-laws
+use Rattle.chain.specs.Prepared.{MadeReady, forwardReadyOf, chainOf, Ends}
+use Rattle.chain.proofs.Keeping.{same-self, some, held-none, held-more, made-length, sound-more, prepared-forward}
 use Rattle.line.specs.declared.StepLine.the-variants as step-line
 use Rattle.line.specs.declared.PointLine.the-variants as point-line
 use Rattle.line.specs.declared.StepLine.{StepLine}
@@ -27,7 +25,8 @@ use Rattle.line.specs.Fields.{said}
 use Rattle.line.specs.Forms.{pointForm, stepForm}
 use Rattle.line.specs.Lines.{readPoint, readStep}
 use Rattle.line.specs.Text.{Wrote, refusalText}
-use Rattle.listing.proofs.Laws.{wrote-none, no-fault, Left}
+use Rattle.line.proofs.Texts.{nothing}
+use Rattle.listing.proofs.Laws.{no-fault, Left}
 use Rattle.sheet_rules.specs.declared.State.{State}
 use Rattle.sheet_rules.specs.declared.Answered.{Answered}
 use Rattle.sheet_rules.specs.Sheet.{Sheet, fresh, rules, nextOf, passed, afterPoint, joins, stepRefusal, stepAnswer, afterStep, withStep, withoutStep}
@@ -37,7 +36,7 @@ use Rattle.sheet_rules.specs.State.{Holds, Gave, refusalIn, afterIn, wit
 joined : (ss : List Step) (start end from : Realization) → Ends start end ss → (eqb (length ss) 0 || sameRealization end from) ≡ sameRealization (endOf from ss) from
 unfolding endOf
 joined [] start end from e = sym (same-self from)
-joined (s ∷ ss) start end from e = let b = ready-laws.some s ss in rw (b, e .ends)
+joined (s ∷ ss) start end from e = let b = some s ss in rw (b, e .ends)
 
 pub same-refusal : {st : State} {l : List ℤ} {s : Sheet} → Holds st l s → (t : Step) → refusalIn st (t .before) ≡ stepRefusal s t
 unfolding refusalIn
@@ -64,31 +63,23 @@ opened st from e =
 start-more : (ss : List Step) (start : Realization) (t : Step) → start ≡ startOf start ss → pick (eqb (length ss) 0) (t .before) start ≡ startOf (pick (eqb (length ss) 0) (t .before) start) (ss ++ (t ∷ []))
 unfolding startOf
 start-more [] start t e = refl
-start-more (s ∷ ss) start t e = let b = ready-laws.some s ss in rw b e
+start-more (s ∷ ss) start t e = let b = some s ss in rw b e
 
 end-more : (ss : List Step) (r : Realization) (t : Step) → t .after ≡ endOf r (ss ++ (t ∷ []))
 unfolding endOf
 end-more [] r t = refl
 end-more (s ∷ ss) r t = end-more ss (s .after) t
 
-ready-length : (l : List ℤ) (i : ℕ) (t : Step) → length (madeReady l i t) ≡ length l
-unfolding madeReady
-ready-length l i t = either (ltb i 8 && eqb (stepFault t) 0)
-  where
-    either : (b : Bool) → length (pick b (sets l (8 * i) (numbers (readyStep t))) l) ≡ length l
-    either true = length-sets l (8 * i) (numbers (readyStep t))
-    either false = refl
-
-pub hold-with : {st : State} {l : List ℤ} {s : Sheet} → Holds st l s → (t : Step) → stepFault t ≡ 0 → Open st (t .before) → Holds (withIn st t) (madeReady l (st .length) t) (withStep s t)
+pub hold-with : {st : State} {l : List ℤ} {s : Sheet} → Holds st l s → (t : Step) → stepFault t ≡ 0 → Open st (t .before) → (m : List ℤ) → MadeReady l (st .length) t m → Holds (withIn st t) m (withStep s t)
 unfolding withIn
-hold-with {st} {l} {s} h t f o = record {
+hold-with {st} {l} {s} h t f o m made = record {
   line = ap (λ (n : ℕ). n + 1) (h .line);
   refused = h .refused;
   closed = h .closed;
   count = omega (arith, h .count, length-append (s .steps) (t ∷ []));
   ends = record { starts = rw (h .count) (start-more (s .steps) (st .start) t (h .ends .starts)); ends = end-more (s .steps) (t .after) t };
-  held = rw (h .count) (held-more l (s .steps) t (h .held) (h .room) (omega (arith, h .count, o .few)) f);
-  room = ready-length l (st .length) t ∙ h .room;
+  held = held-more l m (s .steps) t (h .held) (h .room) (omega (arith, h .count, o .few)) f (rw (h .count) at made);
+  room = made-length l m (st .length) t made ∙ h .room;
   sound = sound-more (s .steps) t (h .sound) (omega (arith, h .count, o .few)) f (sym (joined (s .steps) (st .start) (st .end) (t .before) (h .ends)) ∙ ap (λ (n : ℕ). eqb n 0 || sameRealization (st .end) (t .before)) (sym (h .count)) ∙ o .joins);
 }
 
@@ -108,17 +99,17 @@ hold-after h a b c d e f = record {
 
 -- ---- what each kind of line gives
 at-none : (out : List ℕ) (at r : ℕ) → r ≡ at → Wrote out at [] out r
-at-none out at r e = rw e (wrote-none out at)
+at-none out at r e = rw e (nothing out at)
 
 module _ {st : State} {l : List ℤ} {s : Sheet} (h : Holds st l s) (t : Step) (n : ℕ) (e : n ≡ refusalIn st (t .before)) where
   is : n ≡ stepRefusal s t
   is = e ∙ same-refusal h t
 
   -- an accepted step
-  pub gave-step : n ≡ 0 → stepFault t ≡ 0 → (out : List ℕ) (at : ℕ) (m : List ℤ) (r : Answered) → m ≡ madeReady l (st .length) t → r .state ≡ withIn st t → r .at ≡ at → Gave (stepAnswer s (step-line.Step t)) (afterStep s (step-line.Step t)) out at out m r
-  gave-step z f out at m r em er ea =
+  pub gave-step : n ≡ 0 → stepFault t ≡ 0 → (out : List ℕ) (at : ℕ) (m : List ℤ) (r : Answered) → MadeReady l (st .length) t m → r .state ≡ withIn st t → r .at ≡ at → Gave (stepAnswer s (step-line.Step t)) (afterStep s (step-line.Step t)) out at out m r
+  gave-step z f out at m r made er ea =
       let q : eqb (stepRefusal s t) 0 ≡ true = eq-eqb (stepRefusal s t) 0 (sym is ∙ z) in
-      rw q (record { wrote = at-none out at (r .at) ea; holds = rw (em, er) (hold-with h t f (opened st (t .before) (sym e ∙ z))) })
+      rw q (record { wrote = at-none out at (r .at) ea; holds = rw er (hold-with h t f (opened st (t .before) (sym e ∙ z)) m made) })
 
   -- a refused one
   pub gave-no-step : (n ≡ 0 → ⊥) → (out out' : List ℕ) (at : ℕ) (r : Answered) → Wrote out at (refusalText (st .line) n) out' (r .at) → r .state ≡ afterIn st true (st .closed) → Gave (stepAnswer s (step-line.Step t)) (afterStep s (step-line.Step t)) out at out' l r
@@ -145,7 +136,7 @@ point-sound line p e = no-fault pointFault point-line.Point point-line.Refused (
 
 -- ---- a point of a sheet that holds, and the sheet that nothing is read of
 pub converts : {st : State} {l : List ℤ} {s : Sheet} → Holds st l s → (p : Point) → pointFault p ≡ 0 → forwardReadyOf l (st .length) (st .start) (st .end) p ≡ forwardOf (chainOf (s .steps)) p
-converts {st} {l} {s} h p f = rw (h .count) (ready-laws.ready-forward l p (st .start) (st .end) (s .steps) (h .held) (h .ends) (h .sound) f)
+converts {st} {l} {s} h p f = rw (h .count) (prepared-forward l p (st .start) (st .end) (s .steps) (h .held) (h .ends) (h .sound) f)
 
 pub hold-fresh : (r : Realization) (l : List ℤ) → length l ≡ 64 → Holds (record { line = 1; length = 0; start = r; end = r; refused = false; closed = false }) l fresh
 unfolding startOf endOf

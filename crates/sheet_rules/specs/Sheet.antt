@@ -12,7 +12,7 @@ use Rattle.chain.specs.declared.Answer.{Answer}
 use Rattle.chain.specs.declared.Answer.the-variants as answer
 use Rattle.chain.specs.Faults.{sameRealization}
 use Rattle.chain.specs.Convert.{endOf, forwardOf}
-use Rattle.chain.specs.Ready.{chainOf}
+use Rattle.chain.specs.Prepared.{chainOf}
 use Rattle.line.specs.declared.Fault.{Fault}
 use Rattle.line.specs.declared.PointLine.{PointLine}
 use Rattle.line.specs.declared.PointLine.the-variants as point-line

@@ -11,7 +11,7 @@ use Rattle.refusal.specs.Order.{pick, first, _gives_}
 use Rattle.chain.specs.declared.Realization.{Realization}
 use Rattle.chain.specs.declared.Step.{Step}
 use Rattle.chain.specs.Faults.{sameRealization, chainTests}
-use Rattle.chain.specs.Ready.{chainOf, Held, Ends}
+use Rattle.chain.specs.Prepared.{chainOf, Held, Ends}
 use Rattle.line.specs.Text.{Wrote}
 use Rattle.sheet_rules.specs.declared.State.{State}
 use Rattle.sheet_rules.specs.declared.Answered.{Answered}

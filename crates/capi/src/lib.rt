@@ -5,6 +5,7 @@ mod decode;
 pub mod geodetic;
 pub mod grid;
 pub mod later;
+pub mod printing;
 pub mod rounded;
 mod status;
 

@@ -1,7 +1,7 @@
 -- `capi::geodetic::swivelcrane_cartesian_units` meets its contract: the length, and then what the library answers. Assumes nothing.
 use borrow.Author.Tests.{eq-eqb, ne-eqb}
 use borrow.Author.Needs.{needs}
-use mathlib.Core.Path.{_≡_, sym, _∙_, ap}
+use mathlib.Core.Path.{sym, _∙_, ap}
 use Rattle.capi.specs.Calls.{ofUnits, unitsCall}
 use Rattle.capi.proofs.Laws.{by, wrong}
 use Rattle.rounding.specs.Machine.{rd, told, of₄}

@@ -4,13 +4,8 @@ use mathlib.Core.Path.{_∙_, ap}
 use Rattle.capi.specs.Calls.{ofRounded}
 use Rattle.capi.proofs.Laws.{declined, numbers}
 use Rattle.rounding.specs.Machine.{told}
-use mathlib.Core.Path.{_≡_, refl, sym, _∙_, ap, subst⁻¹}
-use mathlib.Core.List.{List, [], _∷_}
-use lib.IntN.{ℤ}
-use mir.Syntax.{w64}
-use mir.Val.{toZ, ofZ}
+use mathlib.Core.Path.{_∙_, ap}
 use Rattle.rounding.specs.Machine.{told}
-use Rattle.capi.specs.Outcome.{gives}
 use Rattle.capi.specs.Calls.{ofRounded}
 use Rattle.capi.proofs.Laws.{declined, given}
 use Rattle.capi.proofs.rounded.give.Statement.{statement}

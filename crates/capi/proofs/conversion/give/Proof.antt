@@ -1,0 +1,69 @@
+-- `capi::conversion::give` meets its contract: a refusal writes nothing, and what is given is stored from the first element on. Assumes nothing.
+use borrow.Author.Needs.{needs}
+use mathlib.Core.Path.{_∙_, ap}
+use native.Mathlib.Omega.{arith}
+use lib.ListN.{length-set}
+use Rattle.rounding.specs.Machine.{told}
+use Rattle.capi.specs.Calls.{ofAnswer}
+use Rattle.capi.proofs.Laws.{declined, numbers}
+use Rattle.capi.specs.Chains.{pointNumbers}
+use Rattle.capi.proofs.conversion.give.Statement.{statement}
+use Rattle.capi.proofs.conversion.give.Tie as tie
+
+enum-known-answer : tie.Need-enum-known-answer
+enum-known-answer c = search needs
+
+status-requires : tie.Need-status-requires
+status-requires c κs = search needs
+
+enum-known-answer-2 : tie.Need-enum-known-answer-2
+enum-known-answer-2 c = search needs
+
+slice-set-from-issue : tie.Need-slice-set-from-issue
+slice-set-from-issue c = search needs
+
+slice-set-from-datum : tie.Need-slice-set-from-datum
+slice-set-from-datum c = search needs
+
+slice-set-from-epoch : tie.Need-slice-set-from-epoch
+slice-set-from-epoch c = search needs
+
+slice-set-from-x : tie.Need-slice-set-from-x
+slice-set-from-x c = search needs
+
+slice-set-from-y : tie.Need-slice-set-from-y
+slice-set-from-y c = simp length-set (omega arith)
+
+slice-set-from-z : tie.Need-slice-set-from-z
+slice-set-from-z c = simp length-set (omega arith)
+
+returns : tie.Need-returns
+returns c = declined (ap ofAnswer (c .before .before .answer .given .1)) (told (c .status .ok) ∙ c .status .ensures)
+
+same-length : tie.Need-same-length
+same-length c = simp length-set
+
+returns-2 : tie.Need-returns-2
+unfolding pointNumbers
+returns-2 c =
+    let p = c .struct-told6 .given in
+    let r = p .1 .1 .0 .1 .1 in
+    let x = p .1 .1 .1 .0 .1 .1 in
+    numbers (ap ofAnswer (c .before .before .before .before .before .before .before .answer2 .given .1)) (p .1 .0 .1, (r .0 .1, (r .1 .0 .1, (x .0 .1, (x .1 .0 .1, (x .1 .1 .0 .1, tt)))))) (c .before .before .before .before .before .before .before .before .before .pre)
+
+pub give-spec : {M : Type 1} → statement M
+give-spec =
+    tie.close
+    (tie.spec
+    enum-known-answer
+    status-requires
+    enum-known-answer-2
+    slice-set-from-issue
+    slice-set-from-datum
+    slice-set-from-epoch
+    slice-set-from-x
+    slice-set-from-y
+    slice-set-from-z
+    returns
+    same-length
+    returns-2)

@@ -1,0 +1,44 @@
+-- `capi::decode::bursa_wolf_from` meets its contract: each number is read where it stands. Assumes nothing.
+use borrow.Author.Needs.{needs}
+use Rattle.capi.specs.Chains.{bursaWolfFrom}
+use Rattle.rounding.specs.Machine.{told}
+use Rattle.capi.proofs.decode.bursa_wolf_from.Statement.{statement}
+use Rattle.capi.proofs.decode.bursa_wolf_from.Tie as tie
+
+shared-slice-copy-out-t4 : tie.Need-shared-slice-copy-out-t4
+shared-slice-copy-out-t4 c = search needs
+
+shared-slice-copy-out-t6 : tie.Need-shared-slice-copy-out-t6
+shared-slice-copy-out-t6 c = search needs
+
+shared-slice-copy-out-t8 : tie.Need-shared-slice-copy-out-t8
+shared-slice-copy-out-t8 c = search needs
+
+shared-slice-copy-out-t10 : tie.Need-shared-slice-copy-out-t10
+shared-slice-copy-out-t10 c = search needs
+
+shared-slice-copy-out-t12 : tie.Need-shared-slice-copy-out-t12
+shared-slice-copy-out-t12 c = search needs
+
+shared-slice-copy-out-t14 : tie.Need-shared-slice-copy-out-t14
+shared-slice-copy-out-t14 c = search needs
+
+shared-slice-copy-out-t16 : tie.Need-shared-slice-copy-out-t16
+shared-slice-copy-out-t16 c = search needs
+
+returns : tie.Need-returns
+unfolding bursaWolfFrom
+returns c = rw (told (c .before .before .before .before .before .before .t4 .given), told (c .before .before .before .before .before .t6 .given), told (c .before .before .before .before .t8 .given), told (c .before .before .before .t10 .given), told (c .before .before .t12 .given), told (c .before .t14 .given), told (c .t16 .given))
+
+pub bursa-wolf-from-spec : {M : Type 1} → statement M
+bursa-wolf-from-spec =
+    tie.close
+    (tie.spec
+    shared-slice-copy-out-t4
+    shared-slice-copy-out-t6
+    shared-slice-copy-out-t8
+    shared-slice-copy-out-t10
+    shared-slice-copy-out-t12
+    shared-slice-copy-out-t14
+    shared-slice-copy-out-t16
+    returns)

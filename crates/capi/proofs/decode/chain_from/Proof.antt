@@ -1,0 +1,47 @@
+-- `capi::decode::chain_from` meets its contract: the eight places. Assumes nothing.
+use borrow.Author.Needs.{needs}
+use Rattle.capi.specs.Chains.{chainFrom}
+use Rattle.capi.proofs.decode.chain_from.Statement.{statement}
+use Rattle.capi.proofs.decode.chain_from.Tie as tie
+
+place-from-requires : tie.Need-place-from-requires
+place-from-requires c κs = search needs
+
+place-from-requires-2 : tie.Need-place-from-requires-2
+place-from-requires-2 c κs = search needs
+
+place-from-requires-3 : tie.Need-place-from-requires-3
+place-from-requires-3 c κs = search needs
+
+place-from-requires-4 : tie.Need-place-from-requires-4
+place-from-requires-4 c κs = search needs
+
+place-from-requires-5 : tie.Need-place-from-requires-5
+place-from-requires-5 c κs = search needs
+
+place-from-requires-6 : tie.Need-place-from-requires-6
+place-from-requires-6 c κs = search needs
+
+place-from-requires-7 : tie.Need-place-from-requires-7
+place-from-requires-7 c κs = search needs
+
+place-from-requires-8 : tie.Need-place-from-requires-8
+place-from-requires-8 c κs = search needs
+
+returns : tie.Need-returns
+unfolding chainFrom
+returns c = rw (c .before .before .before .before .before .before .before .place-from .ensures, c .before .before .before .before .before .before .place-from2 .ensures, c .before .before .before .before .before .place-from3 .ensures, c .before .before .before .before .place-from4 .ensures, c .before .before .before .place-from5 .ensures, c .before .before .place-from6 .ensures, c .before .place-from7 .ensures, c .place-from8 .ensures)
+
+pub chain-from-spec : {M : Type 1} → statement M
+chain-from-spec =
+    tie.close
+    (tie.spec
+    place-from-requires
+    place-from-requires-2
+    place-from-requires-3
+    place-from-requires-4
+    place-from-requires-5
+    place-from-requires-6
+    place-from-requires-7
+    place-from-requires-8
+    returns)

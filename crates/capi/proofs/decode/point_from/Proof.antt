@@ -1,0 +1,40 @@
+-- `capi::decode::point_from` meets its contract: each number is read where it stands. Assumes nothing.
+use borrow.Author.Needs.{needs}
+use Rattle.capi.specs.Chains.{pointFrom}
+use Rattle.rounding.specs.Machine.{told}
+use Rattle.capi.proofs.decode.point_from.Statement.{statement}
+use Rattle.capi.proofs.decode.point_from.Tie as tie
+
+shared-slice-copy-out-t4 : tie.Need-shared-slice-copy-out-t4
+shared-slice-copy-out-t4 c = search needs
+
+shared-slice-copy-out-t6 : tie.Need-shared-slice-copy-out-t6
+shared-slice-copy-out-t6 c = search needs
+
+shared-slice-copy-out-t8 : tie.Need-shared-slice-copy-out-t8
+shared-slice-copy-out-t8 c = search needs
+
+shared-slice-copy-out-t11 : tie.Need-shared-slice-copy-out-t11
+shared-slice-copy-out-t11 c = search needs
+
+shared-slice-copy-out-t13 : tie.Need-shared-slice-copy-out-t13
+shared-slice-copy-out-t13 c = search needs
+
+shared-slice-copy-out-t15 : tie.Need-shared-slice-copy-out-t15
+shared-slice-copy-out-t15 c = search needs
+
+returns : tie.Need-returns
+unfolding pointFrom
+returns c = rw (told (c .before .before .before .before .before .t4 .given), told (c .before .before .before .before .t6 .given), told (c .before .before .before .t8 .given), told (c .before .before .t11 .given), told (c .before .t13 .given), told (c .t15 .given))
+
+pub point-from-spec : {M : Type 1} → statement M
+point-from-spec =
+    tie.close
+    (tie.spec
+    shared-slice-copy-out-t4
+    shared-slice-copy-out-t6
+    shared-slice-copy-out-t8
+    shared-slice-copy-out-t11
+    shared-slice-copy-out-t13
+    shared-slice-copy-out-t15
+    returns)

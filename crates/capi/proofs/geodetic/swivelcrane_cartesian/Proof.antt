@@ -1,0 +1,34 @@
+-- `capi::geodetic::swivelcrane_cartesian` meets its contract: the length, and then what the library answers. Assumes nothing.
+use borrow.Author.Tests.{eq-eqb, ne-eqb}
+use borrow.Author.Needs.{needs}
+use mathlib.Core.Path.{sym, _∙_, ap}
+use Rattle.capi.specs.Calls.{ofCartesian, cartesianCall}
+use Rattle.capi.proofs.Laws.{by, wrong}
+use Rattle.rounding.specs.Machine.{rd, told, of₄}
+use Rattle.angle.specs.Cartesian.{cartesianOf}
+use Rattle.capi.proofs.geodetic.swivelcrane_cartesian.Statement.{statement}
+use Rattle.capi.proofs.geodetic.swivelcrane_cartesian.Tie as tie
+
+returns : tie.Need-returns
+unfolding cartesianCall
+returns c = wrong (rw (ne-eqb _ _ (c .if1 .taken)))
+
+cartesian-metres-requires : tie.Need-cartesian-metres-requires
+cartesian-metres-requires c κs = search needs
+
+give-metres-requires : tie.Need-give-metres-requires
+give-metres-requires c κs = search needs
+
+same-length : tie.Need-same-length
+same-length c = search needs
+
+returns-2 : tie.Need-returns-2
+unfolding cartesianCall
+returns-2 c = let s = c .before .before .before .before .before .before .before in
+    by (c .before .before .give-metres .ensures) (rw (eq-eqb _ _ (c .before .before .before .before .before .if1 .left)) (ap ofCartesian (sym (c .before .before .before .before .cartesian-metres .ensures ∙ of₄ cartesianOf (rd (s .fits .ellipsoid)) (rd (s .fits .latitude)) (rd (s .fits .longitude)) (rd (s .fits .height))))))
+    (told (c .before .before .give-metres .ok))
+
+pub swivelcrane-cartesian-spec : {M : Type 1} → statement M
+swivelcrane-cartesian-spec =
+    tie.close
+    (tie.spec returns cartesian-metres-requires give-metres-requires same-length returns-2)

@@ -1,0 +1,99 @@
+-- The calls of the C interface: what each answers, by the definitions of the libraries. An answer is an enum of a library: its refusals give their number,
+-- its other case gives its numbers in order.
+use Prim.Native.Nat.{ℕ}
+use mathlib.Core.Bool.{Bool, _&&_}
+use mathlib.Core.List.{List, [], _∷_}
+use lib.Dec.{eqb}
+use lib.IntN.{ℤ, pos}
+use lib.Ieee.{Float}
+use lib.ListN.{length}
+use Rattle.rounding.specs.declared.decimals.Rounded.{Rounded}
+use Rattle.rounding.specs.declared.decimals.Rounded.the-variants as rounded
+use Rattle.rounding.specs.Decimals.{roundedOf}
+use Rattle.chain.specs.declared.Point.{Point}
+use Rattle.chain.specs.declared.Chain.{Chain}
+use Rattle.chain.specs.declared.Answer.{Answer}
+use Rattle.chain.specs.declared.Answer.the-variants as answer
+use Rattle.chain.specs.Convert.{forwardOf, inverseOf}
+use Rattle.angle.specs.declared.OriginNumbers.{OriginNumbers}
+use Rattle.angle.specs.declared.Cartesian.{Cartesian}
+use Rattle.angle.specs.declared.Cartesian.the-variants as cartesian
+use Rattle.angle.specs.declared.CartesianUnits.{CartesianUnits}
+use Rattle.angle.specs.declared.CartesianUnits.the-variants as units
+use Rattle.angle.specs.declared.Grid.{Grid}
+use Rattle.angle.specs.declared.Grid.the-variants as grid
+use Rattle.angle.specs.declared.GridMillimetres.{GridMillimetres}
+use Rattle.angle.specs.declared.GridMillimetres.the-variants as millimetres
+use Rattle.angle.specs.Cartesian.{cartesianOf, cartesianUnitsOf}
+use Rattle.angle.specs.Cassini.{cassiniOf, cassiniMillimetresOf}
+use Rattle.line.specs.declared.Verdict.{Verdict}
+use Rattle.line.specs.declared.Verdict.the-variants as verdict
+use Rattle.line.specs.Later.{laterOf}
+use Rattle.capi.specs.Outcome.{Outcome, refused, gives, ifSized}
+use Rattle.capi.specs.Chains.{chainFrom, pointFrom, pointNumbers, wholeSteps}
+
+-- ---- conversions, forward and inverse: a point
+abbrev pub ofAnswer : Answer → Outcome ℤ
+ofAnswer (answer.Converted p) = gives (pointNumbers p)
+ofAnswer (answer.Refused n) = refused n
+
+unfoldable pub conversionCall : (Chain → Point → Answer) → List ℤ → List ℤ → List ℤ → Outcome ℤ
+conversionCall convert chain point out =
+    ifSized (wholeSteps (length chain) (length point) (length out)) (ofAnswer (convert (chainFrom chain) (pointFrom point)))
+
+-- ---- geodetic to Cartesian: X, Y, Z
+abbrev pub ofCartesian : Cartesian → Outcome Float
+ofCartesian (cartesian.Metres x y z) = gives (x ∷ y ∷ z ∷ [])
+ofCartesian (cartesian.Refused n) = refused n
+
+abbrev pub ofUnits : CartesianUnits → Outcome ℤ
+ofUnits (units.Units x y z) = gives (x ∷ y ∷ z ∷ [])
+ofUnits (units.Refused n) = refused n
+
+unfoldable pub cartesianCall : ℤ → ℤ → ℤ → ℤ → List Float → Outcome Float
+cartesianCall code latitude longitude height out = ifSized (eqb (length out) 3) (ofCartesian (cartesianOf code latitude longitude height))
+
+unfoldable pub unitsCall : ℤ → ℤ → ℤ → ℤ → List ℤ → Outcome ℤ
+unitsCall code latitude longitude height out = ifSized (eqb (length out) 3) (ofUnits (cartesianUnitsOf code latitude longitude height))
+
+-- ---- Cassini: easting, northing
+abbrev pub ofGrid : Grid → Outcome Float
+ofGrid (grid.Metres e n) = gives (e ∷ n ∷ [])
+ofGrid (grid.Refused n) = refused n
+
+abbrev pub ofMillimetres : GridMillimetres → Outcome ℤ
+ofMillimetres (millimetres.Millimetres e n) = gives (e ∷ n ∷ [])
+ofMillimetres (millimetres.Refused n) = refused n
+
+-- an origin by its numbers: ellipsoid, latitude, longitude, false easting, false northing
+abbrev pub originFrom : ℤ → ℤ → ℤ → ℤ → ℤ → OriginNumbers
+originFrom code latitude longitude e n = record {
+  ellipsoid = code;
+  latitude = latitude;
+  longitude = longitude;
+  «false_easting» = e;
+  «false_northing» = n;
+}
+
+unfoldable pub cassiniCall : OriginNumbers → ℤ → ℤ → List Float → Outcome Float
+cassiniCall o latitude longitude out = ifSized (eqb (length out) 2) (ofGrid (cassiniOf o latitude longitude))
+
+unfoldable pub millimetresCall : OriginNumbers → ℤ → ℤ → List ℤ → Outcome ℤ
+millimetresCall o latitude longitude out = ifSized (eqb (length out) 2) (ofMillimetres (cassiniMillimetresOf o latitude longitude))
+
+-- ---- rounding: one number
+abbrev pub ofRounded : Rounded → Outcome ℤ
+ofRounded (rounded.Whole n) = gives (n ∷ [])
+ofRounded (rounded.Refused n) = refused n
+
+unfoldable pub roundCall : Float → ℕ → List ℤ → Outcome ℤ
+roundCall x places out = ifSized (eqb (length out) 1) (ofRounded (roundedOf x places))
+
+-- ---- the later of two point lines: 1 for the first, 2 for the second
+abbrev pub ofVerdict : Verdict → Outcome ℤ
+ofVerdict verdict.First = gives (pos 1 ∷ [])
+ofVerdict verdict.Second = gives (pos 2 ∷ [])
+ofVerdict (verdict.Refused n) = refused n
+
+unfoldable pub laterCall : List ℕ → List ℕ → List ℤ → Outcome ℤ
+laterCall one other which = ifSized (eqb (length which) 1) (ofVerdict (laterOf one other))

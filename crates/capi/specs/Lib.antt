@@ -1,0 +1,4 @@
+pub mod Calls
+pub mod Chains
+pub mod Outcome
+pub mod Printing

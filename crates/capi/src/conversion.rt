@@ -1,0 +1,63 @@
+// Conversion of a point by a chain, forward and inverse.
+ghost use mathlib.Core.Path.{_≡_};
+ghost use lib.ListN.{length};
+ghost use Rattle.chain.specs.Convert.{forwardOf, inverseOf};
+ghost use Rattle.capi.specs.Outcome.{Answered};
+ghost use Rattle.capi.specs.Chains.{wholeSteps};
+ghost use Rattle.capi.specs.Calls.{ofAnswer, conversionCall};
+use crate::WRONG_LENGTH;
+use crate::decode::chain_from;
+use crate::decode::point_from;
+use crate::status::status;
+use chain::Answer;
+
+// Whether the chain has whole steps, the point its six numbers, and the output room for six.
+fn are_sized(chain: usize, point: usize, out: usize) -> bool
+    ensures { λ r. ⌜ r ≡ wholeSteps chain point out ⌝ }
+{
+    (chain % 13 == 0) & (point == 6) & (out == 6)
+}
+
+fn give(answer: Answer, out: &mut [i64]) -> i64
+    requires { ⌜ length (now out) ≡ 6 ⌝ }
+    ensures { λ r. ⌜ Answered (ofAnswer answer) (now (out .entry)) (now (out .exit)) r ⌝ }
+{
+    match answer {
+        Answer::Refused(n) => status(n),
+        Answer::Converted(p) => {
+            let issue = p.issue;
+            let datum = p.realization.datum;
+            let epoch = p.realization.epoch;
+            let x = p.position.x;
+            let y = p.position.y;
+            let z = p.position.z;
+            out[0] = issue;
+            out[1] = datum;
+            out[2] = epoch;
+            out[3] = x;
+            out[4] = y;
+            out[5] = z;
+            0
+        }
+    }
+}
+
+#[no_mangle]
+pub extern "C" fn swivelcrane_forward(chain: &[i64], point: &[i64], out: &mut [i64]) -> i64
+    ensures { λ r. ⌜ Answered (conversionCall forwardOf (now (chain .entry)) (now (point .entry)) (now (out .entry))) (now (out .entry)) (now (out .exit)) r ⌝ }
+{
+    if !are_sized(chain.len(), point.len(), out.len()) {
+        return WRONG_LENGTH;
+    }
+    give(chain::forward(chain_from(chain), point_from(point)), out)
+}
+
+#[no_mangle]
+pub extern "C" fn swivelcrane_inverse(chain: &[i64], point: &[i64], out: &mut [i64]) -> i64
+    ensures { λ r. ⌜ Answered (conversionCall inverseOf (now (chain .entry)) (now (point .entry)) (now (out .entry))) (now (out .entry)) (now (out .exit)) r ⌝ }
+{
+    if !are_sized(chain.len(), point.len(), out.len()) {
+        return WRONG_LENGTH;
+    }
+    give(chain::inverse(chain_from(chain), point_from(point)), out)
+}

@@ -1,0 +1,77 @@
+// Geodetic to Cartesian.
+ghost use mathlib.Core.Path.{_≡_};
+ghost use lib.ListN.{length};
+ghost use Rattle.capi.specs.Outcome.{Answered};
+ghost use Rattle.capi.specs.Calls.{ofCartesian, ofUnits, cartesianCall, unitsCall};
+use crate::WRONG_LENGTH;
+use crate::status::status;
+use angle::Cartesian;
+use angle::CartesianUnits;
+
+fn give_metres(answer: Cartesian, out: &mut [f64]) -> i64
+    requires { ⌜ length (now out) ≡ 3 ⌝ }
+    ensures { λ r. ⌜ Answered (ofCartesian answer) (now (out .entry)) (now (out .exit)) r ⌝ }
+{
+    match answer {
+        Cartesian::Refused(n) => status(n),
+        Cartesian::Metres(x, y, z) => {
+            out[0] = x;
+            out[1] = y;
+            out[2] = z;
+            0
+        }
+    }
+}
+
+fn give_units(answer: CartesianUnits, out: &mut [i64]) -> i64
+    requires { ⌜ length (now out) ≡ 3 ⌝ }
+    ensures { λ r. ⌜ Answered (ofUnits answer) (now (out .entry)) (now (out .exit)) r ⌝ }
+{
+    match answer {
+        CartesianUnits::Refused(n) => status(n),
+        CartesianUnits::Units(x, y, z) => {
+            out[0] = x;
+            out[1] = y;
+            out[2] = z;
+            0
+        }
+    }
+}
+
+#[no_mangle]
+pub extern "C" fn swivelcrane_cartesian(
+    ellipsoid: i64,
+    latitude: i64,
+    longitude: i64,
+    height: i64,
+    out: &mut [f64],
+) -> i64
+    ensures { λ r. ⌜ Answered (cartesianCall ellipsoid latitude longitude height (now (out .entry))) (now (out .entry)) (now (out .exit)) r ⌝ }
+{
+    if out.len() != 3 {
+        return WRONG_LENGTH;
+    }
+    give_metres(
+        angle::cartesian_metres(ellipsoid, latitude, longitude, height),
+        out,
+    )
+}
+
+#[no_mangle]
+pub extern "C" fn swivelcrane_cartesian_units(
+    ellipsoid: i64,
+    latitude: i64,
+    longitude: i64,
+    height: i64,
+    out: &mut [i64],
+) -> i64
+    ensures { λ r. ⌜ Answered (unitsCall ellipsoid latitude longitude height (now (out .entry))) (now (out .entry)) (now (out .exit)) r ⌝ }
+{
+    if out.len() != 3 {
+        return WRONG_LENGTH;
+    }
+    give_units(
+        angle::cartesian_units(ellipsoid, latitude, longitude, height),
+        out,
+    )
+}

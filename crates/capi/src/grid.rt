@@ -1,0 +1,90 @@
+// Cassini-Soldner eastings and northings.
+ghost use mathlib.Core.Path.{_≡_};
+ghost use lib.ListN.{length};
+ghost use Rattle.capi.specs.Outcome.{Answered};
+ghost use Rattle.capi.specs.Calls.{ofGrid, ofMillimetres, originFrom, cassiniCall, millimetresCall};
+use crate::WRONG_LENGTH;
+use crate::status::status;
+use angle::Grid;
+use angle::GridMillimetres;
+use angle::OriginNumbers;
+
+fn give_metres(answer: Grid, out: &mut [f64]) -> i64
+    requires { ⌜ length (now out) ≡ 2 ⌝ }
+    ensures { λ r. ⌜ Answered (ofGrid answer) (now (out .entry)) (now (out .exit)) r ⌝ }
+{
+    match answer {
+        Grid::Refused(n) => status(n),
+        Grid::Metres(east, north) => {
+            out[0] = east;
+            out[1] = north;
+            0
+        }
+    }
+}
+
+fn give_millimetres(answer: GridMillimetres, out: &mut [i64]) -> i64
+    requires { ⌜ length (now out) ≡ 2 ⌝ }
+    ensures { λ r. ⌜ Answered (ofMillimetres answer) (now (out .entry)) (now (out .exit)) r ⌝ }
+{
+    match answer {
+        GridMillimetres::Refused(n) => status(n),
+        GridMillimetres::Millimetres(east, north) => {
+            out[0] = east;
+            out[1] = north;
+            0
+        }
+    }
+}
+
+#[no_mangle]
+pub extern "C" fn swivelcrane_cassini(
+    ellipsoid: i64,
+    origin_latitude: i64,
+    origin_longitude: i64,
+    false_easting: i64,
+    false_northing: i64,
+    latitude: i64,
+    longitude: i64,
+    out: &mut [f64],
+) -> i64
+    ensures { λ r. ⌜ Answered (cassiniCall (originFrom ellipsoid «origin_latitude» «origin_longitude» «false_easting» «false_northing») latitude longitude (now (out .entry))) (now (out .entry)) (now (out .exit)) r ⌝ }
+{
+    if out.len() != 2 {
+        return WRONG_LENGTH;
+    }
+    let origin = OriginNumbers {
+        ellipsoid,
+        latitude: origin_latitude,
+        longitude: origin_longitude,
+        false_easting,
+        false_northing,
+    };
+    give_metres(angle::cassini(origin, latitude, longitude), out)
+}
+
+#[no_mangle]
+pub extern "C" fn swivelcrane_cassini_millimetres(
+    ellipsoid: i64,
+    origin_latitude: i64,
+    origin_longitude: i64,
+    false_easting: i64,
+    false_northing: i64,
+    latitude: i64,
+    longitude: i64,
+    out: &mut [i64],
+) -> i64
+    ensures { λ r. ⌜ Answered (millimetresCall (originFrom ellipsoid «origin_latitude» «origin_longitude» «false_easting» «false_northing») latitude longitude (now (out .entry))) (now (out .entry)) (now (out .exit)) r ⌝ }
+{
+    if out.len() != 2 {
+        return WRONG_LENGTH;
+    }
+    let origin = OriginNumbers {
+        ellipsoid,
+        latitude: origin_latitude,
+        longitude: origin_longitude,
+        false_easting,
+        false_northing,
+    };
+    give_millimetres(angle::cassini_millimetres(origin, latitude, longitude), out)
+}

@@ -1,0 +1,13 @@
+// Swivelcrane for C: the libraries' functions on numbers and slices. include/swivelcrane.h tells each call's units, lengths and answers.
+// Every call answers every input: 0 with its results written, or a refusal number, or WRONG_LENGTH, with nothing written.
+pub mod conversion;
+mod decode;
+pub mod geodetic;
+pub mod grid;
+pub mod later;
+pub mod printing;
+pub mod rounded;
+mod status;
+
+// An array that has not the number of elements that its call asks for. It comes before every refusal.
+const WRONG_LENGTH: i64 = 255;

@@ -5,6 +5,19 @@
 
 #include "swivelcrane.h"
 
+/* Prints a point's line, or its refusal; answers whether there is a point. */
+static int show(int64_t refusal, const int64_t *point) {
+    if (refusal != 0) {
+        printf("refused: %" PRId64 "\n", refusal);
+        return 0;
+    }
+    printf("P\tARAU");
+    for (size_t i = 0; i < SWIVELCRANE_POINT_NUMBERS; i++)
+        printf("\t%" PRId64, point[i]);
+    printf("\n");
+    return 1;
+}
+
 int main(void) {
     static const int64_t chain[4 * SWIVELCRANE_STEP_NUMBERS] = {
         'T', 0, 6,  2000000, 6,  2006586, -15832, -4363, -9706, 0, 0, 0, 0,
@@ -13,24 +26,10 @@ int main(void) {
         'V', 0, 10, 2010000, 10, 2020000, -1874,  -169,  -502,  0, 0, 0, 0,
     };
     static const int64_t arau[SWIVELCRANE_POINT_NUMBERS] = {1, 6, 2000000, -113105165410, 623631179950, 71174811140};
+    const size_t steps = 4 * SWIVELCRANE_STEP_NUMBERS, numbers = SWIVELCRANE_POINT_NUMBERS;
     int64_t there[SWIVELCRANE_POINT_NUMBERS], home[SWIVELCRANE_POINT_NUMBERS];
 
-    int64_t refusal = swivelcrane_forward(chain, 4 * SWIVELCRANE_STEP_NUMBERS, arau, SWIVELCRANE_POINT_NUMBERS, there,
-                                          SWIVELCRANE_POINT_NUMBERS);
-    if (refusal != 0) {
-        printf("refused: %" PRId64 "\n", refusal);
+    if (!show(swivelcrane_forward(chain, steps, arau, numbers, there, numbers), there))
         return 1;
-    }
-    printf("P\tARAU\t%" PRId64 "\t%" PRId64 "\t%" PRId64 "\t%" PRId64 "\t%" PRId64 "\t%" PRId64 "\n", there[0], there[1],
-           there[2], there[3], there[4], there[5]);
-
-    refusal = swivelcrane_inverse(chain, 4 * SWIVELCRANE_STEP_NUMBERS, there, SWIVELCRANE_POINT_NUMBERS, home,
-                                  SWIVELCRANE_POINT_NUMBERS);
-    if (refusal != 0) {
-        printf("refused: %" PRId64 "\n", refusal);
-        return 1;
-    }
-    printf("P\tARAU\t%" PRId64 "\t%" PRId64 "\t%" PRId64 "\t%" PRId64 "\t%" PRId64 "\t%" PRId64 "\n", home[0], home[1],
-           home[2], home[3], home[4], home[5]);
-    return 0;
+    return !show(swivelcrane_inverse(chain, steps, there, numbers, home, numbers), home);
 }

@@ -94,6 +94,9 @@ pub struct Chain {
     pub length: usize,
 }
 
+// A chain kept ready: eight numbers for each of eight steps. How they say a step is this crate's own.
+pub type Numbers = [i64; 64];
+
 // What a conversion answers: the point, or the refusal number.
 pub enum Answer {
     Converted(Point),

@@ -1,4 +1,4 @@
-// The answer to one line.
+// The answer to one line. The whole input is a module below this one, so that what these functions ask of their caller stays theirs.
 ghost use mathlib.Core.Path.{_≡_};
 ghost use mathlib.Core.Bool.{true, not};
 ghost use Prim.Native.Nat.{_<_, _+_};
@@ -21,6 +21,8 @@ use angle::OriginNumbers;
 use line::Geodetic;
 use line::GeodeticLine;
 use line::OriginLine;
+
+pub mod whole;
 
 // A refusal that a line gives by itself: its form comes first, then what the plan so far refuses, then the line's other numbers.
 fn ordered(number: u8, refused: bool, why: u8) -> u8
@@ -134,7 +136,7 @@ fn answer_geodetic(state: State, text: &[u8], out: &mut [u8], at: usize) -> Answ
 }
 
 // Any line but the empty piece.
-pub(crate) fn answer_line(state: State, text: &[u8], out: &mut [u8], at: usize) -> Answered
+fn answer_line(state: State, text: &[u8], out: &mut [u8], at: usize) -> Answered
     requires { ⌜ (state .line < 1000000) × (0 < length (now text)) ⌝ }
     ensures { λ r. ⌜ ((p : Plan) → Holds state p → Gave (answerOf p (now (text .entry))) (nextOf p (now (text .entry))) (now (out .entry)) at (now (out .exit)) r) ⌝ }
 {

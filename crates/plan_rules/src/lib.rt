@@ -1,8 +1,7 @@
 // A plan's rules: the answer to one line over a state, and a whole plan from bytes to bytes.
 mod answer;
-mod whole;
 
-pub use whole::plan;
+pub use answer::whole::plan;
 
 // What has been read so far.
 struct State {

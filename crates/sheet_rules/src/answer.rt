@@ -1,4 +1,4 @@
-// The answer to one line.
+// The answer to one line. The whole input is a module below this one, so that what these functions ask of their caller stays theirs.
 ghost use mathlib.Core.Path.{_≡_};
 ghost use mathlib.Core.Bool.{true};
 ghost use Prim.Native.Nat.{_<_};
@@ -15,11 +15,14 @@ ghost use Rattle.sheet_rules.specs.State.{Holds, Gave, refusalIn, afterI
 use crate::Answered;
 use crate::State;
 use chain::Answer;
+use chain::Numbers;
 use chain::Point;
 use chain::Realization;
 use chain::Step;
 use line::PointLine;
 use line::StepLine;
+
+pub mod whole;
 
 // What the sheet so far says of a step whose line is good by itself: 8, 7, 5, 6, or 0 for none.
 fn step_refusal(state: State, from: Realization) -> u8
@@ -108,13 +111,7 @@ fn refuse(
 }
 
 // A step whose line is good by itself: accepted, it prints nothing.
-fn take_step(
-    state: State,
-    step: Step,
-    numbers: &mut [i64; 64],
-    out: &mut [u8],
-    at: usize,
-) -> Answered
+fn take_step(state: State, step: Step, numbers: &mut Numbers, out: &mut [u8], at: usize) -> Answered
     requires { ⌜ (state .line < 1000000) × (stepFault step ≡ 0) ⌝ }
     ensures { λ r. ⌜ ((s : Sheet) → Holds state (now (numbers .entry)) s → Gave (stepAnswer s (step-line.Step step)) (afterStep s (step-line.Step step)) (now (out .entry)) at (now (out .exit)) (now (numbers .exit)) r) ⌝ }
 {
@@ -135,7 +132,7 @@ fn take_step(
 // A line that begins with S.
 fn answer_step(
     state: State,
-    numbers: &mut [i64; 64],
+    numbers: &mut Numbers,
     text: &[u8],
     out: &mut [u8],
     at: usize,
@@ -152,7 +149,7 @@ fn answer_step(
 // A point whose line is good by itself.
 fn convert_point(
     state: State,
-    numbers: &[i64; 64],
+    numbers: &Numbers,
     point: Point,
     out: &mut [u8],
     at: usize,
@@ -179,13 +176,7 @@ fn convert_point(
 }
 
 // A line that begins with P.
-fn answer_point(
-    state: State,
-    numbers: &[i64; 64],
-    text: &[u8],
-    out: &mut [u8],
-    at: usize,
-) -> Answered
+fn answer_point(state: State, numbers: &Numbers, text: &[u8], out: &mut [u8], at: usize) -> Answered
     requires { ⌜ state .line < 1000000 ⌝ }
     ensures { λ r. ⌜ ((s : Sheet) → Holds state (now (numbers .entry)) s → Gave (pointAnswer s (readPoint (now (text .entry)))) (afterPoint s (readPoint (now (text .entry)))) (now (out .entry)) at (now (out .exit)) (now (numbers .entry)) r) ⌝ }
 {
@@ -200,9 +191,9 @@ fn answer_point(
 }
 
 // Any line but the empty piece.
-pub(crate) fn answer_line(
+fn answer_line(
     state: State,
-    numbers: &mut [i64; 64],
+    numbers: &mut Numbers,
     text: &[u8],
     out: &mut [u8],
     at: usize,

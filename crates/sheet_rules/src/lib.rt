@@ -1,8 +1,7 @@
 // A sheet's rules: the answer to one line over a state, and a whole sheet from bytes to bytes.
 mod answer;
-mod whole;
 
-pub use whole::sheet;
+pub use answer::whole::sheet;
 
 // What has been read so far, but for the steps made ready, which are lent beside it so that no line copies them.
 struct State {

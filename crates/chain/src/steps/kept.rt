@@ -9,6 +9,7 @@ ghost use Rattle.refusal.specs.Order.{pick};
 ghost use Rattle.chain.specs.Faults.{inArea};
 ghost use Rattle.chain.specs.Prepared.{numbersOf, readyOf, readyAt, readyRange, readySteps, MadeReady, carried, forwardReadyOf};
 use crate::Answer;
+use crate::Numbers;
 use crate::Point;
 use crate::Position;
 use crate::Realization;
@@ -48,7 +49,7 @@ fn ready_of(form: i64, a: i64, b: i64, c: i64, d: i64, e: i64, f: i64, g: i64) -
 }
 
 // The step that is kept in a place.
-fn ready_at(numbers: &[i64; 64], index: usize) -> Ready
+fn ready_at(numbers: &Numbers, index: usize) -> Ready
     requires { ⌜ index < 8 ⌝ }
     ensures { λ r. ⌜ r ≡ readyAt (now (numbers .entry)) index ⌝ }
 {
@@ -98,7 +99,7 @@ fn ready_in_range(r: Ready) -> bool
 }
 
 // Forward over the steps that are kept, the first one first.
-fn carry(numbers: &[i64; 64], length: usize, point: Point, end: Realization) -> Answer
+fn carry(numbers: &Numbers, length: usize, point: Point, end: Realization) -> Answer
     requires { ⌜ (length ≤ 8) × (inArea (point .position) ≡ true) ⌝ }
     ensures { λ r. ⌜ r ≡ carried point end (readySteps (now (numbers .entry)) 0 length) (point .position) ⌝ }
 {
@@ -132,7 +133,7 @@ fn end_with(length: usize, here: Realization, end: Realization) -> Realization
 // converted point. `start` and `end` are the chain's, and are not looked at for the empty chain. Numbers that no step gives are refused with 2, a length over
 // 8 with 6.
 pub fn forward_ready(
-    numbers: &[i64; 64],
+    numbers: &Numbers,
     length: usize,
     start: Realization,
     end: Realization,
@@ -156,7 +157,7 @@ pub fn forward_ready(
 
 // Eight numbers into a place.
 fn put(
-    numbers: &mut [i64; 64],
+    numbers: &mut Numbers,
     index: usize,
     form: i64,
     a: i64,
@@ -181,7 +182,7 @@ fn put(
     numbers[at + 7] = g;
 }
 
-fn put_ready(r: Ready, numbers: &mut [i64; 64], index: usize)
+fn put_ready(r: Ready, numbers: &mut Numbers, index: usize)
     requires { ⌜ index < 8 ⌝ }
     ensures { λ _. ⌜ now (numbers .exit) ≡ sets (now (numbers .entry)) (8 * index) (numbersOf r) ⌝ }
 {
@@ -193,7 +194,7 @@ fn put_ready(r: Ready, numbers: &mut [i64; 64], index: usize)
 }
 
 // Keeps a step ready in a place, 0 to 7. A step with a fault of its own, or a place past the last, leaves the numbers as they were.
-pub fn make_ready(step: Step, numbers: &mut [i64; 64], index: usize)
+pub fn make_ready(step: Step, numbers: &mut Numbers, index: usize)
     ensures { λ _. ⌜ MadeReady (now (numbers .entry)) index step (now (numbers .exit)) ⌝ }
 {
     if 8 <= index {

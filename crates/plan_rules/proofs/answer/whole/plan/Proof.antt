@@ -9,14 +9,14 @@ use Rattle.plan_rules.specs.declared.State.{State}
 use Rattle.plan_rules.specs.Plan.{Plan, fresh, rules, nextOf, planOf}
 use Rattle.plan_rules.proofs.Laws.{Midway, next-line}
 use borrow.Author.Needs.{needs}
-use Rattle.plan_rules.proofs.whole.plan.Statement.{statement}
-use Rattle.plan_rules.proofs.whole.plan.Tie as tie
-use Rattle.plan_rules.proofs.whole.plan.Reads as reads
-use Rattle.plan_rules.proofs.whole.plan.Lts as lts
+use Rattle.plan_rules.proofs.answer.whole.plan.Statement.{statement}
+use Rattle.plan_rules.proofs.answer.whole.plan.Tie as tie
+use Rattle.plan_rules.proofs.answer.whole.plan.Reads as reads
+use Rattle.plan_rules.proofs.answer.whole.plan.Lts as lts
 use Rattle.line.proofs.write_refusal.Reads as write-refusal-reads
 use Rattle.listing.proofs.line_end.Reads as line-end-reads
 use Rattle.plan_rules.proofs.answer.answer_line.Reads as answer-line-reads
-use Rattle.plan_rules.proofs.whole.fresh.Reads as fresh-reads
+use Rattle.plan_rules.proofs.answer.whole.fresh.Reads as fresh-reads
 
 abbrev Inv-loop : tie.InvT-loop
 Inv-loop input out₀ state₀ at₀ place₀ out state at place = (place ≤ length input) × (state .line ≤ place + 1) × (length out ≡ length out₀) × Midway input out₀ out state at place

@@ -9,14 +9,14 @@ use Rattle.sheet_rules.specs.declared.State.{State}
 use Rattle.sheet_rules.specs.Sheet.{Sheet, fresh, rules, nextOf, sheetOf}
 use Rattle.sheet_rules.proofs.Laws.{Midway, next-line}
 use borrow.Author.Needs.{needs}
-use Rattle.sheet_rules.proofs.whole.sheet.Statement.{statement}
-use Rattle.sheet_rules.proofs.whole.sheet.Tie as tie
-use Rattle.sheet_rules.proofs.whole.sheet.Reads as reads
-use Rattle.sheet_rules.proofs.whole.sheet.Lts as lts
+use Rattle.sheet_rules.proofs.answer.whole.sheet.Statement.{statement}
+use Rattle.sheet_rules.proofs.answer.whole.sheet.Tie as tie
+use Rattle.sheet_rules.proofs.answer.whole.sheet.Reads as reads
+use Rattle.sheet_rules.proofs.answer.whole.sheet.Lts as lts
 use Rattle.line.proofs.write_refusal.Reads as write-refusal-reads
 use Rattle.listing.proofs.line_end.Reads as line-end-reads
 use Rattle.sheet_rules.proofs.answer.answer_line.Reads as answer-line-reads
-use Rattle.sheet_rules.proofs.whole.fresh.Reads as fresh-reads
+use Rattle.sheet_rules.proofs.answer.whole.fresh.Reads as fresh-reads
 
 abbrev Inv-loop : tie.InvT-loop
 Inv-loop input out₀ numbers₀ state₀ at₀ place₀ out numbers state at place = (place ≤ length input) × (state .line ≤ place + 1) × (length out ≡ length out₀) × Midway input out₀ out numbers state at place

@@ -1,0 +1,12 @@
+use Rattle.sheet_rules.proofs.Laws.{hold-fresh}
+use borrow.Author.Needs.{needs}
+use Rattle.sheet_rules.proofs.answer.whole.fresh.Statement.{statement}
+use Rattle.sheet_rules.proofs.answer.whole.fresh.Tie as tie
+use Rattle.sheet_rules.proofs.answer.whole.fresh.Reads as reads
+use Rattle.sheet_rules.proofs.answer.whole.fresh.Lts as lts
+
+returns : tie.Need-returns
+returns c = λ l e. hold-fresh _ l e
+
+pub fresh-spec : {M : Type 1} → statement M
+fresh-spec = tie.close (tie.spec returns)

@@ -1,7 +1,6 @@
 -- The calls of the C interface: what each answers, by the definitions of the libraries. An answer is an enum of a library: its refusals give their number,
 -- its other case gives its numbers in order.
 use Prim.Native.Nat.{ℕ}
-use mathlib.Core.Bool.{Bool, _&&_}
 use mathlib.Core.List.{List, [], _∷_}
 use lib.Dec.{eqb}
 use lib.IntN.{ℤ, pos}
@@ -40,6 +39,12 @@ ofAnswer (answer.Refused n) = refused n
 unfoldable pub conversionCall : (Chain → Point → Answer) → List ℤ → List ℤ → List ℤ → Outcome ℤ
 conversionCall convert chain point out =
     ifSized (wholeSteps (length chain) (length point) (length out)) (ofAnswer (convert (chainFrom chain) (pointFrom point)))
+
+abbrev pub forwardCall : List ℤ → List ℤ → List ℤ → Outcome ℤ
+forwardCall = conversionCall forwardOf
+
+abbrev pub inverseCall : List ℤ → List ℤ → List ℤ → Outcome ℤ
+inverseCall = conversionCall inverseOf
 
 -- ---- geodetic to Cartesian: X, Y, Z
 abbrev pub ofCartesian : Cartesian → Outcome Float

@@ -1,10 +1,9 @@
 // Conversion of a point by a chain, forward and inverse.
 ghost use mathlib.Core.Path.{_≡_};
 ghost use lib.ListN.{length};
-ghost use Rattle.chain.specs.Convert.{forwardOf, inverseOf};
 ghost use Rattle.capi.specs.Outcome.{Answered};
 ghost use Rattle.capi.specs.Chains.{wholeSteps};
-ghost use Rattle.capi.specs.Calls.{ofAnswer, conversionCall};
+ghost use Rattle.capi.specs.Calls.{ofAnswer, forwardCall, inverseCall};
 use crate::WRONG_LENGTH;
 use crate::decode::chain_from;
 use crate::decode::point_from;
@@ -18,6 +17,7 @@ fn are_sized(chain: usize, point: usize, out: usize) -> bool
     (chain % 13 == 0) & (point == 6) & (out == 6)
 }
 
+// Writes a converted point, or answers the refusal.
 fn give(answer: Answer, out: &mut [i64]) -> i64
     requires { ⌜ length (now out) ≡ 6 ⌝ }
     ensures { λ r. ⌜ Answered (ofAnswer answer) (now (out .entry)) (now (out .exit)) r ⌝ }
@@ -42,9 +42,10 @@ fn give(answer: Answer, out: &mut [i64]) -> i64
     }
 }
 
+// A point forward by a chain (document 01: along).
 #[no_mangle]
 pub extern "C" fn swivelcrane_forward(chain: &[i64], point: &[i64], out: &mut [i64]) -> i64
-    ensures { λ r. ⌜ Answered (conversionCall forwardOf (now (chain .entry)) (now (point .entry)) (now (out .entry))) (now (out .entry)) (now (out .exit)) r ⌝ }
+    ensures { λ r. ⌜ Answered (forwardCall (now (chain .entry)) (now (point .entry)) (now (out .entry))) (now (out .entry)) (now (out .exit)) r ⌝ }
 {
     if !are_sized(chain.len(), point.len(), out.len()) {
         return WRONG_LENGTH;
@@ -52,9 +53,10 @@ pub extern "C" fn swivelcrane_forward(chain: &[i64], point: &[i64], out: &mut [i
     give(chain::forward(chain_from(chain), point_from(point)), out)
 }
 
+// A point inverse by a chain (document 01: back).
 #[no_mangle]
 pub extern "C" fn swivelcrane_inverse(chain: &[i64], point: &[i64], out: &mut [i64]) -> i64
-    ensures { λ r. ⌜ Answered (conversionCall inverseOf (now (chain .entry)) (now (point .entry)) (now (out .entry))) (now (out .entry)) (now (out .exit)) r ⌝ }
+    ensures { λ r. ⌜ Answered (inverseCall (now (chain .entry)) (now (point .entry)) (now (out .entry))) (now (out .entry)) (now (out .exit)) r ⌝ }
 {
     if !are_sized(chain.len(), point.len(), out.len()) {
         return WRONG_LENGTH;

@@ -19,7 +19,20 @@ use chain::Velocity;
 const STEP: usize = 13;
 // Past the range of a shift: a step of no known kind is refused for it.
 const PAST: i64 = 100000001;
+// The letters of the kinds, and of the conventions of a Bursa-Wolf step.
+const SHIFT: i64 = b'T' as i64;
 
+const VELOCITY: i64 = b'V' as i64;
+
+const BURSA_WOLF: i64 = b'B' as i64;
+
+const FRAME: i64 = b'F' as i64;
+
+const POSITION_VECTOR: i64 = b'P' as i64;
+
+const COORDINATE_FRAME: i64 = b'C' as i64;
+
+// A point of six numbers: issue, datum, epoch, X, Y, Z. Its id stays with the caller.
 pub(crate) fn point_from(n: &[i64]) -> Point
     requires { ⌜ length (now n) ≡ 6 ⌝ }
     ensures { λ r. ⌜ r ≡ pointFrom (now (n .entry)) ⌝ }
@@ -39,6 +52,7 @@ pub(crate) fn point_from(n: &[i64]) -> Point
     }
 }
 
+// What stands for a kind or a convention that is not known.
 fn unknown() -> Kind
     ensures { λ r. ⌜ r ≡ Chains·unknown ⌝ }
 {
@@ -92,10 +106,10 @@ fn turned_from(n: &[i64]) -> Kind
     ensures { λ r. ⌜ r ≡ turnedFrom (now (n .entry)) ⌝ }
 {
     let convention = n[1];
-    if convention == 80 {
+    if convention == POSITION_VECTOR {
         return bursa_wolf_from(Convention::PositionVector, n);
     }
-    if convention == 67 {
+    if convention == COORDINATE_FRAME {
         return bursa_wolf_from(Convention::CoordinateFrame, n);
     }
     unknown()
@@ -106,21 +120,22 @@ fn kind_from(n: &[i64]) -> Kind
     ensures { λ r. ⌜ r ≡ kindFrom (now (n .entry)) ⌝ }
 {
     let kind = n[0];
-    if kind == 84 {
+    if kind == SHIFT {
         return shift_from(n);
     }
-    if kind == 86 {
+    if kind == VELOCITY {
         return velocity_from(n);
     }
-    if kind == 66 {
+    if kind == BURSA_WOLF {
         return turned_from(n);
     }
-    if kind == 70 {
+    if kind == FRAME {
         return Kind::Frame;
     }
     unknown()
 }
 
+// A step, from its 13 numbers: kind, convention, datum and epoch before and after, and the numbers of its kind.
 fn step_from(n: &[i64]) -> Step
     requires { ⌜ 13 ≤ length (now n) ⌝ }
     ensures { λ r. ⌜ r ≡ stepFrom (now (n .entry)) ⌝ }
@@ -139,6 +154,7 @@ fn step_from(n: &[i64]) -> Step
     }
 }
 
+// What stands at the places past a chain's steps.
 fn no_step() -> Step
     ensures { λ r. ⌜ r ≡ noStep ⌝ }
 {
@@ -162,6 +178,7 @@ fn place_from(n: &[i64], at: usize) -> Step
     no_step()
 }
 
+// A chain: its steps one after the other. Past the eighth they are counted and not read.
 pub(crate) fn chain_from(n: &[i64]) -> Chain
     ensures { λ r. ⌜ r ≡ chainFrom (now (n .entry)) ⌝ }
 {

@@ -8,6 +8,7 @@ use crate::status::status;
 use angle::Cartesian;
 use angle::CartesianUnits;
 
+// Writes X, Y and Z, or answers the refusal.
 fn give_metres(answer: Cartesian, out: &mut [f64]) -> i64
     requires { ⌜ length (now out) ≡ 3 ⌝ }
     ensures { λ r. ⌜ Answered (ofCartesian answer) (now (out .entry)) (now (out .exit)) r ⌝ }
@@ -23,6 +24,7 @@ fn give_metres(answer: Cartesian, out: &mut [f64]) -> i64
     }
 }
 
+// The same in whole units.
 fn give_units(answer: CartesianUnits, out: &mut [i64]) -> i64
     requires { ⌜ length (now out) ≡ 3 ⌝ }
     ensures { λ r. ⌜ Answered (ofUnits answer) (now (out .entry)) (now (out .exit)) r ⌝ }
@@ -38,6 +40,7 @@ fn give_units(answer: CartesianUnits, out: &mut [i64]) -> i64
     }
 }
 
+// X, Y and Z in metres.
 #[no_mangle]
 pub extern "C" fn swivelcrane_cartesian(
     ellipsoid: i64,
@@ -57,6 +60,7 @@ pub extern "C" fn swivelcrane_cartesian(
     )
 }
 
+// X, Y and Z in whole units of 0.00001 m.
 #[no_mangle]
 pub extern "C" fn swivelcrane_cartesian_units(
     ellipsoid: i64,

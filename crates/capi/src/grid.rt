@@ -9,6 +9,7 @@ use angle::Grid;
 use angle::GridMillimetres;
 use angle::OriginNumbers;
 
+// Writes easting and northing, or answers the refusal.
 fn give_metres(answer: Grid, out: &mut [f64]) -> i64
     requires { ⌜ length (now out) ≡ 2 ⌝ }
     ensures { λ r. ⌜ Answered (ofGrid answer) (now (out .entry)) (now (out .exit)) r ⌝ }
@@ -23,6 +24,7 @@ fn give_metres(answer: Grid, out: &mut [f64]) -> i64
     }
 }
 
+// The same in whole millimetres.
 fn give_millimetres(answer: GridMillimetres, out: &mut [i64]) -> i64
     requires { ⌜ length (now out) ≡ 2 ⌝ }
     ensures { λ r. ⌜ Answered (ofMillimetres answer) (now (out .entry)) (now (out .exit)) r ⌝ }
@@ -37,6 +39,7 @@ fn give_millimetres(answer: GridMillimetres, out: &mut [i64]) -> i64
     }
 }
 
+// Easting and northing in metres.
 #[no_mangle]
 pub extern "C" fn swivelcrane_cassini(
     ellipsoid: i64,
@@ -63,6 +66,7 @@ pub extern "C" fn swivelcrane_cassini(
     give_metres(angle::cassini(origin, latitude, longitude), out)
 }
 
+// Easting and northing in whole millimetres.
 #[no_mangle]
 pub extern "C" fn swivelcrane_cassini_millimetres(
     ellipsoid: i64,

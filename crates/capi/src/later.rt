@@ -7,6 +7,7 @@ use crate::WRONG_LENGTH;
 use crate::status::status;
 use line::Verdict;
 
+// Writes which line it is, or answers the refusal.
 fn give(verdict: Verdict, which: &mut [i64]) -> i64
     requires { ⌜ length (now which) ≡ 1 ⌝ }
     ensures { λ r. ⌜ Answered (ofVerdict verdict) (now (which .entry)) (now (which .exit)) r ⌝ }
@@ -24,6 +25,7 @@ fn give(verdict: Verdict, which: &mut [i64]) -> i64
     }
 }
 
+// 1 where the first of two lent point lines is the later one, 2 where the second is.
 #[no_mangle]
 pub extern "C" fn swivelcrane_later(first: &[u8], second: &[u8], which: &mut [i64]) -> i64
     ensures { λ r. ⌜ Answered (laterCall (now (first .entry)) (now (second .entry)) (now (which .entry))) (now (which .entry)) (now (which .exit)) r ⌝ }

@@ -16,6 +16,7 @@ fn room_for(n: usize) -> usize
     if n < MOST { 11 * n + 7 } else { 11 * MOST + 7 }
 }
 
+// What a whole sheet prints, at the start of `out`. The answer is the place past it, or NO_ROOM.
 #[no_mangle]
 pub extern "C" fn swivelcrane_sheet(input: &[u8], out: &mut [u8]) -> i64
     ensures { λ r. ⌜ Printed (sheetOf (now (input .entry))) (now (input .entry)) (now (out .entry)) (now (out .exit)) r ⌝ }
@@ -26,6 +27,7 @@ pub extern "C" fn swivelcrane_sheet(input: &[u8], out: &mut [u8]) -> i64
     sheet_rules::sheet(input, out) as i64
 }
 
+// What a whole plan prints, at the start of `out`. The answer is the place past it, or NO_ROOM.
 #[no_mangle]
 pub extern "C" fn swivelcrane_plan(input: &[u8], out: &mut [u8]) -> i64
     ensures { λ r. ⌜ Printed (planOf (now (input .entry))) (now (input .entry)) (now (out .entry)) (now (out .exit)) r ⌝ }

@@ -8,6 +8,7 @@ use crate::status::status;
 use rounding::Rounded;
 use rounding::round_places;
 
+// Writes the whole number, or answers the refusal.
 fn give(answer: Rounded, out: &mut [i64]) -> i64
     requires { ⌜ length (now out) ≡ 1 ⌝ }
     ensures { λ r. ⌜ Answered (ofRounded answer) (now (out .entry)) (now (out .exit)) r ⌝ }
@@ -21,6 +22,7 @@ fn give(answer: Rounded, out: &mut [i64]) -> i64
     }
 }
 
+// The whole number nearest to the exact value of x times ten to the places, a half away from zero.
 #[no_mangle]
 pub extern "C" fn swivelcrane_round(x: f64, places: u32, out: &mut [i64]) -> i64
     ensures { λ r. ⌜ Answered (roundCall x places (now (out .entry))) (now (out .entry)) (now (out .exit)) r ⌝ }

@@ -1,87 +1,33 @@
 -- A written line is read back.
-use Prim.Native.Nat.{ℕ, suc, _+_, _*_, _-_, _≤_}
+use Prim.Native.Nat.{ℕ, _+_, _-_, _≤_}
 use mathlib.Core.Path.{_≡_, refl, sym, ap, _∙_}
 use mathlib.Core.List.{List, [], _∷_, _++_, append-assoc}
-use mathlib.Core.Bool.{Bool, true, false}
-use mathlib.Core.Option.{none, some}
-use lib.Dec.{leb}
-use lib.IntN.{ℤ, pos, negsuc}
+use mathlib.Core.Option.{some}
+use lib.IntN.{ℤ}
 use lib.ListN.{length, length-append}
 use lib.Seq.{getD-append-seam, take-append-seam}
-use native.Mathlib.Decide.{ℕ-discrete}
 use native.Mathlib.Omega.{arith}
-use borrow.Author.Tests.{ne-eqb, eq-eqb}
-use Rattle.refusal.specs.Order.{pick}
-use Rattle.line.specs.Number.{isDigit, digits}
-use Rattle.line.specs.Text.{decimal, integer, nameText, lineText, pointText}
-use Rattle.chain.specs.declared.Id.{Id}
-use Rattle.line.specs.Name.{isNameByte, allNameBytes, packed, nameOf}
+use borrow.Author.Tests.{eq-eqb}
+use Rattle.line.specs.Text.{integer, nameText, lineText, pointText}
 use Rattle.line.specs.Fields.{body, fields, Form, filled, said}
 use Rattle.chain.specs.declared.Point.{Point}
 use Rattle.chain.specs.Faults.{pointFault}
 use Rattle.line.specs.declared.PointLine.the-variants as P
 use Rattle.line.specs.Forms.{pointForm}
 use Rattle.line.specs.Lines.{readPoint}
-use Rattle.line.proofs.Capped.{never}
 use Rattle.line.proofs.Lengths.{length-point}
 use Rattle.line.proofs.Walk as W
-use Rattle.line.proofs.WrittenNumbers.{written, number-back}
-use Rattle.line.proofs.WrittenNames.{all-tail, Named, name-back}
-
--- no tab in a field
-Clean : List ℕ → Type 0
-Clean [] = Unit {0}
-Clean (b ∷ f) = (b ≡ 9 → ⊥) × Clean f
-
-fields-clean : (f : List ℕ) → Clean f → fields f ≡ f ∷ []
-unfolding fields Clean
-fields-clean [] c = refl
-fields-clean (b ∷ f) c = rw (ne-eqb b 9 (c .0), fields-clean f (c .1))
-
-fields-tab : (f r : List ℕ) → Clean f → fields (f ++ (9 ∷ r)) ≡ f ∷ fields r
-unfolding fields Clean
-fields-tab [] r c = refl
-fields-tab (b ∷ f) r c = rw (ne-eqb b 9 (c .0), fields-tab f r (c .1))
-
-clean-digits : (a v : ℕ) (f : List ℕ) → digits a f ≡ some v → Clean f
-unfolding digits Clean
-clean-digits a v [] e = tt
-clean-digits a v (b ∷ f) e = go (ℕ-discrete b 9) (λ q. clean-digits (a * 10 + (b - 48)) v f q) (isDigit b) refl e
-  where
-    go : Dec (b ≡ 9) → (digits (a * 10 + (b - 48)) f ≡ some v → Clean f) → (t : Bool) → isDigit b ≡ t → pick t (digits (a * 10 + (b - 48)) f) none ≡ some v → (b ≡ 9 → ⊥) × Clean f
-    go (yes i) on true d q = absurd (never (ap isDigit (sym i) ∙ d))
-    go (no i) on true d q = (i, on q)
-    go i on false d q = let w : _≡_ {A = ℕ} 0 1 = cc in absurd (omega arith)
-
-clean-decimal : (n : ℕ) → Clean (decimal n)
-clean-decimal n = clean-digits 0 n (decimal n) (written n .says)
-
-clean-integer : (z : ℤ) → Clean (integer z)
-unfolding integer Clean
-clean-integer (pos n) = clean-decimal n
-clean-integer (negsuc n) = (λ e. omega arith, clean-decimal (suc n))
-
-clean-name : (s : List ℕ) → allNameBytes s ≡ true → Clean s
-unfolding Clean
-clean-name [] h = tt
-clean-name (b ∷ s) h =
-    let t = all-tail b s h in
-    (λ e. never (ap isNameByte (sym e) ∙ t .0), clean-name s (t .1))
-
-good-name : (s : List ℕ) (id : Id) → nameOf s ≡ some id → allNameBytes s ≡ true
-unfolding nameOf
-good-name s id e = go (leb 1 (length s)) (leb (length s) 16) (allNameBytes s) e
-  where
-    go : (t u v : Bool) → pick t (pick u (pick v (some (packed s)) none) none) none ≡ some id → v ≡ true
-    go true true true q = refl
-    go true true false q = cc
-    go true false v q = let w : _≡_ {A = ℕ} 0 1 = cc in absurd (omega arith)
-    go false u v q = let w : _≡_ {A = ℕ} 0 1 = cc in absurd (omega arith)
+use Rattle.line.proofs.Clean.{Clean, fields-clean, fields-tab, clean-number, clean-named}
+use Rattle.line.proofs.WrittenNumbers.{number-back}
+use Rattle.line.proofs.WrittenNames.{Named, name-back}
 
 -- fields parted by tabs
 joined : List ℕ → List (List ℕ) → List ℕ
 joined f [] = f
 joined f (g ∷ fs) = f ++ (9 ∷ joined g fs)
+
+clean-integer : (z : ℤ) → Clean (integer z)
+clean-integer z = clean-number (integer z) z (number-back z)
 
 AllClean : List (List ℕ) → Type 0
 AllClean [] = Unit {0}
@@ -126,7 +72,7 @@ module _ (p : Point) (none-found : pointFault p ≡ 0) (named : Named (p .id)) w
   clean-fields : AllClean after-letter
   unfolding AllClean
   clean-fields = (
-    clean-name (nameText (p .id)) (good-name (nameText (p .id)) (p .id) (name-back (p .id) named)),
+    clean-named (nameText (p .id)) (p .id) (name-back (p .id) named),
     (
       clean-integer (p .issue),
       (

@@ -44,10 +44,6 @@ far-pos n h = ap pos (omega arith)
 far-neg : (n : ℕ) → cap ≤ suc n → cappedZ (negsuc n) ≡ negℤ (pos cap)
 far-neg n h = let e : min (suc n) cap ≡ cap = omega arith in rw e
 
--- a bound that stands inside the cap
-Inside : ℤ → Type 0
-Inside k = natAbs k < cap
-
 above-same : (k z : ℤ) → natAbs k < cap → leZ k (cappedZ z) ≡ leZ k z
 above-same k (pos n) h = go (decLt n cap)
   where
@@ -111,7 +107,7 @@ sure-either {A} {carried} {s} {t} p q =
     go a false e f = q .kept a f
 
 -- ---- angle's ranges say when a number is outside
-lt-le : (a b : ℤ) → ltZ a b ≡ not (leZ b a)
+pub lt-le : (a b : ℤ) → ltZ a b ≡ not (leZ b a)
 lt-le (pos a) (pos b) = go (decLt a b)
   where
     go : Dec (a < b) → ltb a b ≡ not (leb b a)

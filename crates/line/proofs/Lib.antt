@@ -9,4 +9,6 @@ pub mod Compared
 pub mod Lengths
 pub mod WrittenNumbers
 pub mod WrittenNames
+pub mod Clean
+pub mod Alone
 pub mod Back

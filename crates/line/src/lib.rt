@@ -15,6 +15,8 @@ mod write;
 pub use compare::later_of_two;
 pub use compare::later_verdict;
 pub use geodetic_line::read_geodetic;
+pub use name::read_name;
+pub use number::read_number;
 pub use origin_line::read_origin;
 pub use point_line::read_point;
 pub use step_line::read_step;
@@ -25,6 +27,19 @@ pub use write::write_refusal;
 // Why a line is refused: a number of the refusal table.
 pub struct Fault {
     pub number: u8,
+}
+
+// One field's bytes as a number: below 10^13 in size; in plain form but beyond that, and so beyond every range; or of bad form.
+pub enum NumberField {
+    Number(i64),
+    Beyond,
+    Refused(Fault),
+}
+
+// One field's bytes as a point's name.
+pub enum NameField {
+    Name(chain::Id),
+    Refused(Fault),
 }
 
 // P: a control point.

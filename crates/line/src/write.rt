@@ -1,14 +1,12 @@
 // Lines into a lent slice, from a place on. What has no room is dropped, so no caller has to show that there is room; the answer is the
 // place past the line, the slice's end where the line is cut off there. A place past the end stays as it is and nothing is written.
+use crate::field::LINE_FEED;
+use crate::field::TAB;
 ghost use mathlib.Core.Path.{_≡_};
 ghost use mathlib.Core.List.{[], _∷_, _++_};
 ghost use Prim.Native.Nat.{ℕ, _+_, _≤_, _<_, _/_, _%_};
 ghost use lib.IntN.{natAbs};
 ghost use Rattle.line.specs.Text.{decimal, integer, letters, nameText, pointText, gridText, refusalText, Wrote, leading, six};
-
-const TAB: u8 = 9;
-
-const LINE_FEED: u8 = 10;
 
 const MINUS: u8 = 45;
 

@@ -2,6 +2,8 @@
 // hand from document 01. An accepted line prints what was read of it, a refused one its number.
 use libc::STDOUT_FILENO;
 use line::GeodeticLine;
+use line::NameField;
+use line::NumberField;
 use line::OriginLine;
 use line::PointLine;
 use line::StepLine;
@@ -28,6 +30,23 @@ fn grid(id: chain::Id, a: i64, b: i64) {
     let mut out = [0u8; 64];
     let n = line::write_grid(&mut out, 0, id, a, b);
     print(&out, n);
+}
+
+fn number_field(f: &[u8]) {
+    match line::read_number(f) {
+        NumberField::Number(z) => pair(z, 0),
+        NumberField::Beyond => {
+            io::write_all(STDOUT_FILENO, b"beyond\n");
+        }
+        NumberField::Refused(f) => number(f.number),
+    }
+}
+
+fn name_field(f: &[u8]) {
+    match line::read_name(f) {
+        NameField::Name(id) => grid(id, 0, 0),
+        NameField::Refused(f) => number(f.number),
+    }
 }
 
 fn point(l: &[u8]) {
@@ -303,6 +322,35 @@ fn later_lines() {
     later(b"", b"");
 }
 
+fn single_fields() {
+    number_field(b"0");
+    number_field(b"-5");
+    number_field(b"9999999999999");
+    number_field(b"-9999999999999");
+    number_field(b"10000000000000");
+    number_field(b"-10000000000000");
+    number_field(b"18446744073709551616");
+    number_field(b"-123456789012345678901234567890");
+    number_field(b"");
+    number_field(b"-");
+    number_field(b"00");
+    number_field(b"-0");
+    number_field(b"+1");
+    number_field(b"1\t");
+    number_field(b"1\n");
+    number_field(b"12a");
+    number_field(b"123456789012345678901234567890x");
+    name_field(b"A");
+    name_field(b"EIGHT-88");
+    name_field(b"NINE-NINE");
+    name_field(b"SIXTEEN-BYTES-16");
+    name_field(b"SEVENTEEN-BYTES-17");
+    name_field(b"");
+    name_field(b"a");
+    name_field(b"A\t");
+    name_field(b"A B");
+}
+
 fn main() {
     good_points();
     points_of_bad_form();
@@ -314,4 +362,5 @@ fn main() {
     origins();
     positions();
     later_lines();
+    single_fields();
 }

@@ -25,8 +25,9 @@ use Rattle.angle.specs.declared.Origin.{Origin}
 use Rattle.angle.specs.declared.OriginNumbers.{OriginNumbers}
 use Rattle.angle.specs.declared.Grid.{Grid}
 use Rattle.angle.specs.declared.Grid.the-variants.{Metres, Refused}
-use Rattle.angle.proofs.Orders as orders
-use Rattle.angle.proofs.Orders.{Passed, passed, both}
+use Rattle.refusal.proofs.Orders as orders
+use Rattle.angle.proofs.Unless.{unless-none}
+use Rattle.refusal.proofs.Orders.{Passed, passed, both}
 use Rattle.angle.proofs.Formulas.{n, eastF, northF}
 use Rattle.angle.proofs.Sizes.{from, most, Shaped, shaped, sine-latitude, cosine-latitude, radius-among, arc-among, metres-among}
 use Rattle.angle.proofs.Wholes.{natural, natural-upto, upto}
@@ -144,5 +145,5 @@ unfolding originFault cassiniOf
 at-origin o h =
     let p : Passed (originTests o) = passed (originTests o) tt h in
     let q : Passed (pointTests (o .longitude) (o .latitude) (o .longitude)) = (p .1 .1 .1 .0, (p .1 .1 .1 .1 .0, (near-itself (o .longitude), tt))) in
-    orders.unless-none _ Refused (cassiniAt (originMade o) (o .latitude) (o .longitude)) (orders.none (cassiniTests o (o .latitude) (o .longitude)) (both (originTests o) (pointTests (o .longitude) (o .latitude) (o .longitude)) p q))
+    unless-none _ Refused (cassiniAt (originMade o) (o .latitude) (o .longitude)) (orders.none (cassiniTests o (o .latitude) (o .longitude)) (both (originTests o) (pointTests (o .longitude) (o .latitude) (o .longitude)) p q))
     ∙ at o p

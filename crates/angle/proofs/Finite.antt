@@ -35,7 +35,7 @@ use Rattle.angle.specs.declared.CartesianUnits.the-variants.{Units}
 use Rattle.angle.specs.declared.Grid.{Grid}
 use Rattle.angle.specs.declared.Grid.the-variants as grid
 use Rattle.angle.specs.declared.GridMillimetres.the-variants.{Millimetres}
-use Rattle.angle.proofs.Orders.{Passed, passed}
+use Rattle.refusal.proofs.Orders.{Passed, passed}
 use Rattle.angle.proofs.Formulas.{sineF, cosineF, eastF, northF, axisF, polarF}
 use Rattle.angle.proofs.Sizes.{from, most, Shaped, shaped, radians-among, parts-among, sine-among, cosine-among, sine-latitude, cosine-latitude, radius-among, arc-among, metres-among}
 use Rattle.angle.proofs.Wholes.{Natural, natural, natural-upto, upto, sub-pos}

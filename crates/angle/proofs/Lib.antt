@@ -2,8 +2,8 @@ pub mod AtOrigin
 pub mod Finite
 pub mod Formulas
 pub mod Made
-pub mod Orders
 pub mod Sizes
 pub mod Tests
+pub mod Unless
 pub mod Vectors
 pub mod Wholes

@@ -14,7 +14,8 @@ use Rattle.angle.specs.declared.OriginAnswer.the-variants.{Made}
 use Rattle.angle.specs.declared.OriginAnswer.the-variants as answer
 use Rattle.angle.specs.declared.Grid.{Grid}
 use Rattle.angle.specs.declared.Grid.the-variants.{Refused}
-use Rattle.angle.proofs.Orders.{passed, stop, on, unless-some}
+use Rattle.refusal.proofs.Orders.{passed, stop, on}
+use Rattle.angle.proofs.Unless.{unless-some}
 
 -- a refusal has its number, and there is one; an origin that is made is the one that was asked, and there is no fault
 refused : (f n : ℕ) (x : Origin) → unless f answer.Refused (Made x) ≡ answer.Refused n → (f ≡ n) × (f ≡ 0 → ⊥)

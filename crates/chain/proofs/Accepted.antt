@@ -5,8 +5,9 @@ use mathlib.Core.List.{List, [], _∷_, _++_}
 use Prim.Native.Nat.{ℕ, zero, suc, _≤_}
 use native.Mathlib.Omega.{arith}
 use borrow.Author.Tests.{ltb-false}
-use lib.Dec.{ltb}
+use lib.Dec.{T, ltb}
 use Rattle.refusal.specs.Order.{Test, first, pick}
+use Rattle.refusal.proofs.Orders.{numbered, passed, step-passed, head-holds, stop, on, both-pass}
 use Rattle.chain.specs.declared.Position.{Position}
 use Rattle.chain.specs.declared.Realization.{Realization}
 use Rattle.chain.specs.declared.Point.{Point}
@@ -16,7 +17,6 @@ use Rattle.chain.specs.declared.Answer.{Answer}
 use Rattle.chain.specs.declared.Answer.the-variants.{Converted, Refused}
 use Rattle.chain.specs.Faults.{sameRealization, inArea, pointTests, stepTests, stepFault, joinTest, laterTests, stepsTests, chainTests, stepsOf}
 use Rattle.chain.specs.Convert.{Walk, at, outside, placeTests, conversionTests, movedTo, answerOf, unlessRefused, convert}
-use Rattle.chain.proofs.Tests.{Named, first-left, first-right, both-pass, head-holds}
 
 -- no step is refused by itself
 abbrev pub Sound : List Step → Type 0
@@ -24,36 +24,29 @@ Sound [] = Unit {0}
 Sound (s ∷ ss) = (stepFault s ≡ 0) × Sound ss
 
 -- ---- the chain's tests
-pub named-later : (s : Step) (ss : List Step) → Named (laterTests s ss)
-named-later s [] = tt
-named-later s (t ∷ ts) = (refl, (refl, (refl, (refl, named-later t ts))))
+numbered-later : (s : Step) (ss : List Step) → T (numbered (laterTests s ss))
+numbered-later s [] = tt
+numbered-later s (t ∷ ts) = numbered-later t ts
 
-pub named-steps : (ss : List Step) → Named (stepsTests ss)
-named-steps [] = tt
-named-steps (s ∷ ss) = (refl, (refl, (refl, named-later s ss)))
+pub numbered-steps : (ss : List Step) → T (numbered (stepsTests ss))
+numbered-steps [] = tt
+numbered-steps (s ∷ ss) = numbered-later s ss
 
 sound-later : (s : Step) (ss : List Step) → first (laterTests s ss) ≡ 0 → Sound ss
 unfolding stepFault
 sound-later s [] e = tt
 sound-later s (t ∷ ts) e =
-    let f = both-pass (stepTests t) (joinTest s t ∷ laterTests t ts) (refl, (refl, (refl, tt))) e in
+    let f = both-pass (stepTests t) (joinTest s t ∷ laterTests t ts) tt e in
     (f .0, sound-later t ts (head-holds (sameRealization (s .after) (t .before)) 4 (first (laterTests t ts)) (f .1) .1))
 
 pub sound-steps : (ss : List Step) → first (stepsTests ss) ≡ 0 → Sound ss
 unfolding stepFault
 sound-steps [] e = tt
-sound-steps (s ∷ ss) e = let f = both-pass (stepTests s) (laterTests s ss) (refl, (refl, (refl, tt))) e in (f .0, sound-later s ss (f .1))
-
-pub no-ninth : (b : Bool) (n x : ℕ) → pick b (suc n) x ≡ 0 → (b ≡ false) × (x ≡ 0)
-no-ninth true n x e = absurd (never e)
-  where
-    never : suc n ≡ 0 → ⊥
-    never e = omega arith
-no-ninth false n x e = (refl, e)
+sound-steps (s ∷ ss) e = let f = both-pass (stepTests s) (laterTests s ss) tt e in (f .0, sound-later s ss (f .1))
 
 pub chain-holds : (c : Chain) → first (chainTests c) ≡ 0 → (c .length ≤ 8) × Sound (stepsOf c)
 chain-holds c e =
-    let n = no-ninth (ltb 8 (c .length)) 5 (first (stepsTests (stepsOf c))) e in
+    let n = step-passed (ltb 8 (c .length)) 6 (first (stepsTests (stepsOf c))) tt e in
     (ltb-false 8 (c .length) (n .0), sound-steps (stepsOf c) (n .1))
 
 -- ---- all of a conversion's
@@ -65,9 +58,9 @@ pub record Accepted (c : Chain) (p : Point) (wanted : Realization) : Type 0 wher
 
 pub accepted : (c : Chain) (p : Point) (wanted : Realization) → first (conversionTests c p wanted) ≡ 0 → Accepted c p wanted
 accepted c p wanted e =
-    let f = both-pass (chainTests c) (pointTests p ++ placeTests p wanted) (refl, named-steps (stepsOf c)) e in
+    let f = both-pass (chainTests c) (pointTests p ++ placeTests p wanted) (numbered-steps (stepsOf c)) e in
     let n = chain-holds c (f .0) in
-    let g = both-pass (pointTests p) (placeTests p wanted) (refl, (refl, tt)) (f .1) in
+    let g = both-pass (pointTests p) (placeTests p wanted) tt (f .1) in
     let h = head-holds (sameRealization (p .realization) wanted) 8 _ (g .1) in
     record { short = n .0; sound = n .1; here = h .0; area = head-holds (inArea (p .position)) 9 0 (h .1) .0 }
 
@@ -77,7 +70,7 @@ entry p wanted = first (pointTests p ++ placeTests p wanted)
 
 pub entry-area : (p : Point) (wanted : Realization) → entry p wanted ≡ 0 → inArea (p .position) ≡ true
 entry-area p wanted e =
-    let g = both-pass (pointTests p) (placeTests p wanted) (refl, (refl, tt)) e in
+    let g = both-pass (pointTests p) (placeTests p wanted) tt e in
     head-holds (inArea (p .position)) 9 0 (head-holds (sameRealization (p .realization) wanted) 8 _ (g .1) .1) .0
 
 refused : (n : ℕ) (a : Answer) → (n ≡ 0 → ⊥) → Refused n ≡ unlessRefused n a
@@ -86,24 +79,27 @@ refused zero a h = absurd (h refl)
 refused (suc n) a h = refl
 
 module _ (c : Chain) (p : Point) (wanted reached : Realization) (w : Walk) where
-  named : Named (chainTests c)
-  named = (refl, named-steps (stepsOf c))
+  all-numbered : T (numbered (chainTests c))
+  all-numbered = numbered-steps (stepsOf c)
+
+  chain-passed : first (chainTests c) ≡ 0 → first (conversionTests c p wanted) ≡ entry p wanted
+  chain-passed e = on (chainTests c) (pointTests p ++ placeTests p wanted) (passed (chainTests c) all-numbered e)
 
   pub by-chain : (first (chainTests c) ≡ 0 → ⊥) → Refused (first (chainTests c)) ≡ convert c p wanted reached w
   unfolding convert
   by-chain h =
       refused (first (chainTests c)) (answerOf p reached w) h
-      ∙ ap (λ (n : ℕ). unlessRefused n (answerOf p reached w)) (first-left (chainTests c) (pointTests p ++ placeTests p wanted) named h)
+      ∙ ap (λ (n : ℕ). unlessRefused n (answerOf p reached w)) (sym (stop (chainTests c) (pointTests p ++ placeTests p wanted) h))
 
   pub by-point : first (chainTests c) ≡ 0 → (entry p wanted ≡ 0 → ⊥) → Refused (entry p wanted) ≡ convert c p wanted reached w
   unfolding convert
   by-point e h =
       refused (entry p wanted) (answerOf p reached w) h
-      ∙ ap (λ (n : ℕ). unlessRefused n (answerOf p reached w)) (first-right (chainTests c) (pointTests p ++ placeTests p wanted) named e)
+      ∙ ap (λ (n : ℕ). unlessRefused n (answerOf p reached w)) (sym (chain-passed e))
 
   pub by-walk : first (chainTests c) ≡ 0 → entry p wanted ≡ 0 → answerOf p reached w ≡ convert c p wanted reached w
   unfolding convert unlessRefused
-  by-walk e h = ap (λ (n : ℕ). unlessRefused n (answerOf p reached w)) (sym h ∙ first-right (chainTests c) (pointTests p ++ placeTests p wanted) named e)
+  by-walk e h = ap (λ (n : ℕ). unlessRefused n (answerOf p reached w)) (sym h ∙ sym (chain-passed e))
 
 -- ---- a converted point
 pub record Conversion (c : Chain) (p : Point) (wanted reached : Realization) (w : Walk) (q : Point) : Type 0 where

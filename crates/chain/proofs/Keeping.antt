@@ -15,6 +15,7 @@ use Rattle.refusal.specs.Numbers as refusal
 use Rattle.refusal.specs.Order.{_gives_, first, pick}
 use Rattle.rounding.specs.Zn.{v, k, neg, le, unabs}
 use Rattle.chain.specs.declared.Position.{Position}
+use Rattle.refusal.proofs.Orders.{orElse, first-append, both-pass, head-holds, step-passed}
 use Rattle.chain.specs.declared.Realization.{Realization}
 use Rattle.chain.specs.declared.Point.{Point}
 use Rattle.chain.specs.declared.Step.{Step}
@@ -29,8 +30,7 @@ use Rattle.chain.specs.Convert.{Walk, at, outside, onward, walk, forward
 use Rattle.chain.specs.Ready.{readyParts, ReadyOk, Prepares}
 use Rattle.chain.specs.Prepared.{numbersOf, readyOf, number, readyAt, readySteps, readyRange, Kept, Keeps, MadeReady, carried, readyTests, forwardReadyOf, chainOf, Readied, Held, Ends}
 use Rattle.chain.proofs.Within.{both, all, up-to}
-use Rattle.chain.proofs.Tests.{orElse, first-append, both-pass, head-holds}
-use Rattle.chain.proofs.Accepted.{named-steps, no-ninth}
+use Rattle.chain.proofs.Accepted.{numbered-steps}
 
 -- ---- eight numbers written in a list
 below : (vs l : List ℤ) (i k : ℕ) (d : ℤ) → k < i → getD (sets l i vs) k d ≡ getD l k d
@@ -186,16 +186,16 @@ module _ (l : List ℤ) (p : Point) (start end : Realization) where
   placed : (ss : List Step) (n : ℕ) (wanted : Realization) → first ((ltb 8 n gives refusal.ninth) ∷ stepsTests ss) ≡ 0 → pointFault p ≡ 0 → first (((ltb 8 n gives refusal.ninth) ∷ stepsTests ss) ++ (pointTests p ++ placeTests p wanted)) ≡ first (placeTests p wanted)
   unfolding pointFault
   placed ss n wanted good fault =
-      first-append ((ltb 8 n gives refusal.ninth) ∷ stepsTests ss) (pointTests p ++ placeTests p wanted) (refl, named-steps ss)
+      first-append ((ltb 8 n gives refusal.ninth) ∷ stepsTests ss) (pointTests p ++ placeTests p wanted) (numbered-steps ss)
       ∙ ap (λ (m : ℕ). orElse m (first (pointTests p ++ placeTests p wanted))) good
-      ∙ first-append (pointTests p) (placeTests p wanted) (refl, (refl, tt))
+      ∙ first-append (pointTests p) (placeTests p wanted) tt
       ∙ ap (λ (m : ℕ). orElse m (first (placeTests p wanted))) fault
 
   pub prepared-forward : (ss : List Step) → Held l ss → Ends start end ss → first (chainTests (chainOf ss)) ≡ 0 → pointFault p ≡ 0 → forwardReadyOf l (length ss) start end p ≡ forwardOf (chainOf ss) p
   unfolding forwardReadyOf forwardOf convert
   prepared-forward ss held e good fault =
       let g = rw (take-length ss) at good in
-      let n = no-ninth (ltb 8 (length ss)) 5 (first (stepsTests ss)) g in
+      let n = step-passed (ltb 8 (length ss)) 6 (first (stepsTests ss)) tt g in
       let w = startOf (p .realization) ss in
       let r = endOf (p .realization) ss in
       rw (take-length ss, reached ss e)
@@ -204,27 +204,27 @@ module _ (l : List ℤ) (p : Point) (start end : Realization) where
 -- ---- a sound chain with one sound step more that joins it
 later-more : (s : Step) (ss : List Step) (t : Step) → first (laterTests s ss) ≡ 0 → stepFault t ≡ 0 → sameRealization (endOf (s .after) ss) (t .before) ≡ true → first (laterTests s (ss ++ (t ∷ []))) ≡ 0
 unfolding stepFault endOf
-later-more s [] t e f j = first-append (stepTests t) (joinTest s t ∷ []) (refl, (refl, (refl, tt))) ∙ rw (f, j)
+later-more s [] t e f j = first-append (stepTests t) (joinTest s t ∷ []) tt ∙ rw (f, j)
 later-more s (u ∷ us) t e f j =
-    let p = both-pass (stepTests u) (joinTest s u ∷ laterTests u us) (refl, (refl, (refl, tt))) e in
+    let p = both-pass (stepTests u) (joinTest s u ∷ laterTests u us) tt e in
     let q = head-holds (sameRealization (s .after) (u .before)) 4 (first (laterTests u us)) (p .1) in
-    first-append (stepTests u) (joinTest s u ∷ laterTests u (us ++ (t ∷ []))) (refl, (refl, (refl, tt)))
+    first-append (stepTests u) (joinTest s u ∷ laterTests u (us ++ (t ∷ []))) tt
     ∙ ap (λ (m : ℕ). orElse m (first (joinTest s u ∷ laterTests u (us ++ (t ∷ []))))) (p .0)
     ∙ rw (q .0) (later-more u us t (q .1) f j)
 
 steps-more : (ss : List Step) (t : Step) → first (stepsTests ss) ≡ 0 → stepFault t ≡ 0 → sameRealization (endOf (t .before) ss) (t .before) ≡ true → first (stepsTests (ss ++ (t ∷ []))) ≡ 0
 unfolding stepFault endOf
-steps-more [] t e f j = first-append (stepTests t) [] (refl, (refl, (refl, tt))) ∙ rw f
+steps-more [] t e f j = first-append (stepTests t) [] tt ∙ rw f
 steps-more (s ∷ ss) t e f j =
-    let p = both-pass (stepTests s) (laterTests s ss) (refl, (refl, (refl, tt))) e in
-    first-append (stepTests s) (laterTests s (ss ++ (t ∷ []))) (refl, (refl, (refl, tt)))
+    let p = both-pass (stepTests s) (laterTests s ss) tt e in
+    first-append (stepTests s) (laterTests s (ss ++ (t ∷ []))) tt
     ∙ ap (λ (m : ℕ). orElse m (first (laterTests s (ss ++ (t ∷ []))))) (p .0)
     ∙ later-more s ss t (p .1) f j
 
 pub sound-more : (ss : List Step) (t : Step) → first (chainTests (chainOf ss)) ≡ 0 → length ss < 8 → stepFault t ≡ 0 → sameRealization (endOf (t .before) ss) (t .before) ≡ true → first (chainTests (chainOf (ss ++ (t ∷ [])))) ≡ 0
 sound-more ss t e h f j =
     let g = rw (take-length ss) at e in
-    let n = no-ninth (ltb 8 (length ss)) 5 (first (stepsTests ss)) g in
+    let n = step-passed (ltb 8 (length ss)) 6 (first (stepsTests ss)) tt g in
     let a : ltb 8 (length (ss ++ (t ∷ []))) ≡ false = le-ltb 8 (length (ss ++ (t ∷ []))) (simp length-append (omega arith)) in
     rw (take-length (ss ++ (t ∷ [])), a) (steps-more ss t (n .1) f j)
 

@@ -1,6 +1,5 @@
 pub mod StepLaws
 pub mod Within
-pub mod Tests
 pub mod Sizes
 pub mod Walk
 pub mod Accepted

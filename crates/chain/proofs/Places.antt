@@ -15,7 +15,7 @@ use Rattle.chain.specs.declared.Kind.the-variants.{Shift}
 use Rattle.chain.specs.declared.Step.{Step}
 use Rattle.chain.specs.Faults.{stepFault, stepTests, joinTest, laterTests, stepsTests}
 use Rattle.chain.specs.Convert.{Walk, onward, kept, walk, startOf, endOf}
-use Rattle.chain.proofs.Tests.{orElse, Named, first-append}
+use Rattle.refusal.proofs.Orders.{orElse, first-append}
 use Rattle.chain.proofs.Accepted.{Sound}
 
 -- what a place past the end reads as
@@ -28,7 +28,7 @@ no-step = record {
 
 -- a step that follows another: its tests and the join, then the rest
 pub later-first : (s t : Step) (ts : List Step) → first (laterTests s (t ∷ ts)) ≡ orElse (first (stepTests t ++ (joinTest s t ∷ []))) (first (laterTests t ts))
-later-first s t ts = first-append (stepTests t ++ (joinTest s t ∷ [])) (laterTests t ts) (refl, (refl, (refl, (refl, tt))))
+later-first s t ts = first-append (stepTests t ++ (joinTest s t ∷ [])) (laterTests t ts) tt
 
 module _ (l : List Step) (n i : ℕ) (below : i < n) (inside : i < length l) where
   abbrev here : Step
@@ -74,7 +74,7 @@ sound-at (x ∷ xs) (suc n) (suc i) h k ok = sound-at xs n i (NatL.le-of-suc-le-
 pub first-tests : (l : List Step) (n : ℕ) → 0 < n → 0 < length l → first (stepsTests (take n l)) ≡ orElse (first (stepTests (getD l 0 no-step))) (first (laterTests (getD l 0 no-step) (drop 1 (take n l))))
 first-tests [] n h k = absurd (NatL.not-suc-le-zero k)
 first-tests (x ∷ xs) zero h k = absurd (NatL.not-suc-le-zero h)
-first-tests (x ∷ xs) (suc n) h k = first-append (stepTests x) (laterTests x (take n xs)) (refl, (refl, (refl, tt)))
+first-tests (x ∷ xs) (suc n) h k = first-append (stepTests x) (laterTests x (take n xs)) tt
 
 pub start-at : (l : List Step) (n : ℕ) (r : Realization) → 0 < n → 0 < length l → startOf r (take n l) ≡ getD l 0 no-step .before
 unfolding startOf

@@ -26,7 +26,7 @@ use Rattle.chain.specs.Rows.{rows, rowIndex, rowOf, figure}
 use Rattle.chain.specs.Parts.{Part, Parts, fixed, shiftParts, velocityParts, signed, radians, over11, over14, turnedParts, bursaWolfParts, atEpoch, shiftAt, scaleAt, scaledParts, frameParts, kindParts}
 use Rattle.chain.specs.Axes.{Axis, onX, onY, onZ, partOn}
 use Rattle.chain.proofs.Within.{both, all, bounds, sized, up-to}
-use Rattle.chain.proofs.Tests.{head-holds}
+use Rattle.refusal.proofs.Orders.{head-holds}
 use Rattle.chain.proofs.StepLaws.{Mild, Milds, Flat, Flats}
 
 -- ---- what a step that is not refused keeps
@@ -35,6 +35,7 @@ pub record StepOk (kind : Kind) (r a : Realization) : Type 0 where
   pub before : realizationRange r ≡ true
   pub after : realizationRange a ≡ true
   pub agree : agrees r ≡ true
+  pub agreed : agrees a ≡ true
   pub rule : kindRule kind r a ≡ true
 
 pub step-ok : (s : Step) → stepFault s ≡ 0 → StepOk (s .kind) (s .before) (s .after)
@@ -44,7 +45,8 @@ step-ok s e =
     let g = head-holds (agrees (s .before) && agrees (s .after)) _ _ (f .1) in
     let h = head-holds (kindRule (s .kind) (s .before) (s .after)) _ _ (g .1) in
     let r = all (kindRange (s .kind)) (realizationRange (s .before)) (realizationRange (s .after)) (f .0) in
-    record { range = r .0; before = r .1; after = r .2; agree = both (agrees (s .before)) (agrees (s .after)) (g .0) .0; rule = h .0 }
+    let a = both (agrees (s .before)) (agrees (s .after)) (g .0) in
+    record { range = r .0; before = r .1; after = r .2; agree = a .0; agreed = a .1; rule = h .0 }
 
 -- ---- epochs
 not-both : (a b : Bool) → (a || b) ≡ true → not a ≡ true → b ≡ true

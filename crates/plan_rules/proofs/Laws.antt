@@ -7,7 +7,7 @@ use Prim.Native.Nat.{ℕ, zero, suc, _+_, _<_, _≤_}
 use native.Mathlib.Omega.{arith}
 use lib.IntN.{ℤ}
 use Rattle.refusal.specs.Order.{pick, first}
-use Rattle.chain.proofs.Tests.{first-append}
+use Rattle.refusal.proofs.Orders.{first-append}
 use Rattle.angle.specs.declared.Origin.{Origin}
 use Rattle.angle.specs.declared.OriginNumbers.{OriginNumbers}
 use Rattle.angle.specs.declared.OriginAnswer.the-variants as made
@@ -44,7 +44,7 @@ is-made o m e q = cc (origin-made o e)
 same-grid : (o : OriginNumbers) (lat lon : ℤ) → originFault o ≡ 0 → cassiniMillimetresFromOf (originMade o) lat lon ≡ cassiniMillimetresOf o lat lon
 unfolding cassiniMillimetresFromOf cassiniMillimetresOf cassiniFromOf cassiniOf originMade originFault
 same-grid o lat lon e =
-    let f = first-append (originTests o) (pointTests (o .longitude) lat lon) (refl, (refl, (refl, (refl, (refl, tt))))) in
+    let f = first-append (originTests o) (pointTests (o .longitude) lat lon) tt in
     rw (f, e)
 
 -- what the values made once answer, at angles as the machine reads them, the origin's numbers answer

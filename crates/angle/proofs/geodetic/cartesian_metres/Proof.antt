@@ -14,7 +14,8 @@ use Rattle.angle.specs.Ranges.{badCode, badHeight, angleTests, cartesian
 use Rattle.angle.specs.Ellipsoids.{ellipsoidOf}
 use Rattle.angle.specs.Cartesian.{cartesianAt, cartesianOf}
 use Rattle.angle.specs.declared.Cartesian.the-variants.{Refused}
-use Rattle.angle.proofs.Orders.{Passed, passed, none, stop, on, unless-some}
+use Rattle.refusal.proofs.Orders.{Passed, passed, none, stop, on}
+use Rattle.angle.proofs.Unless.{unless-some}
 use Rattle.angle.proofs.Tests.{told}
 use Rattle.angle.proofs.geodetic.cartesian_metres.Statement.{statement}
 use Rattle.angle.proofs.geodetic.cartesian_metres.Tie as tie

@@ -9,7 +9,7 @@ use mir.ValLaws.{toZ-ofZ}
 use Rattle.angle.specs.Floats.{radians}
 use Rattle.angle.specs.Ranges.{originTests, originFault}
 use Rattle.angle.specs.Cassini.{originMade}
-use Rattle.angle.proofs.Orders.{Passed, passed}
+use Rattle.refusal.proofs.Orders.{Passed, passed}
 use Rattle.angle.proofs.Tests.{read-back}
 use Rattle.angle.proofs.Wholes.{natural, natural-upto, in-float}
 use Rattle.angle.proofs.projection.made.Statement.{statement}

@@ -8,22 +8,19 @@ use Rattle.refusal.specs.Order.{first}
 use Rattle.chain.specs.declared.Point.{Point}
 use Rattle.chain.specs.Faults.{pointTests, pointFault}
 use Rattle.chain.specs.Convert.{placeTests}
-use Rattle.chain.proofs.Tests.{first-left, first-right, Named}
+use Rattle.refusal.proofs.Orders.{passed, stop, on}
 use Rattle.chain.proofs.checks.entry_fault.Statement.{statement}
 use Rattle.chain.proofs.checks.entry_fault.Tie as tie
 
 point-fault-requires : tie.Need-point-fault-requires
 point-fault-requires c κs = tt
 
-named : (p : Point) → Named (pointTests p)
-named p = (refl, (refl, tt))
-
 returns : tie.Need-returns
 unfolding pointFault
 returns c =
     let s = c .before .before in
     let f = c .before .point-fault .ensures in
-    f ∙ first-left (pointTests (s .args .point)) (placeTests (s .args .point) (s .args .wanted)) (named (s .args .point)) (λ e. c .if1 .taken (f ∙ e))
+    f ∙ sym (stop (pointTests (s .args .point)) (placeTests (s .args .point) (s .args .wanted)) (λ e. c .if1 .taken (f ∙ e)))
 
 same-realization-requires : tie.Need-same-realization-requires
 same-realization-requires c κs = tt
@@ -32,7 +29,7 @@ same-realization-requires c κs = tt
 module _ (c : tie.Else1) where
   place : first (placeTests (c .before .before .args .point) (c .before .before .args .wanted)) ≡ first (pointTests (c .before .before .args .point) ++ placeTests (c .before .before .args .point) (c .before .before .args .wanted))
   unfolding pointFault
-  place = first-right (pointTests (c .before .before .args .point)) (placeTests (c .before .before .args .point) (c .before .before .args .wanted)) (named (c .before .before .args .point)) (sym (c .before .point-fault .ensures) ∙ c .if1 .left)
+  place = sym (on (pointTests (c .before .before .args .point)) (placeTests (c .before .before .args .point) (c .before .before .args .wanted)) (passed (pointTests (c .before .before .args .point)) tt (sym (c .before .point-fault .ensures) ∙ c .if1 .left)))
 
 returns-2 : tie.Need-returns-2
 returns-2 c = let a = sym (c .before .same-realization .ensures) ∙ not-true _ (c .if2 .taken) in let e : _≡_ {A = ℕ} 9 (first (placeTests (c .before .before .before .before .before .args .point) (c .before .before .before .before .before .args .wanted))) = rw a in e ∙ place (c .before .before .before)

@@ -6,22 +6,19 @@ use borrow.Author.Tests.{not-true, not-false}
 use Rattle.refusal.specs.Order.{pick, first}
 use Rattle.chain.specs.declared.Step.{Step}
 use Rattle.chain.specs.Faults.{sameRealization, stepTests, joinTest, stepFault}
-use Rattle.chain.proofs.Tests.{first-left, first-right, Named}
+use Rattle.refusal.proofs.Orders.{passed, stop, on}
 use Rattle.chain.proofs.checks.later_fault.Statement.{statement}
 use Rattle.chain.proofs.checks.later_fault.Tie as tie
 
 step-fault-requires : tie.Need-step-fault-requires
 step-fault-requires c κs = tt
 
-named : (s : Step) → Named (stepTests s)
-named s = (refl, (refl, (refl, tt)))
-
 returns : tie.Need-returns
 unfolding stepFault
 returns c =
     let s = c .before .before .args .step in
     let f = c .before .step-fault .ensures in
-    f ∙ first-left (stepTests s) (joinTest (c .before .before .args .previous) s ∷ []) (named s) (λ e. c .if1 .taken (f ∙ e))
+    f ∙ sym (stop (stepTests s) (joinTest (c .before .before .args .previous) s ∷ []) (λ e. c .if1 .taken (f ∙ e)))
 
 same-realization-requires : tie.Need-same-realization-requires
 same-realization-requires c κs = tt
@@ -30,7 +27,7 @@ same-realization-requires c κs = tt
 module _ (c : tie.After-same-realization) where
   joined : first (joinTest (c .before .before .before .before .before .args .previous) (c .before .before .before .before .before .args .step) ∷ []) ≡ first (stepTests (c .before .before .before .before .before .args .step) ++ (joinTest (c .before .before .before .before .before .args .previous) (c .before .before .before .before .before .args .step) ∷ []))
   unfolding stepFault
-  joined = first-right (stepTests (c .before .before .before .before .before .args .step)) (joinTest (c .before .before .before .before .before .args .previous) (c .before .before .before .before .before .args .step) ∷ []) (named (c .before .before .before .before .before .args .step)) (sym (c .before .before .before .before .step-fault .ensures) ∙ c .before .before .before .if1 .left)
+  joined = sym (on (stepTests (c .before .before .before .before .before .args .step)) (joinTest (c .before .before .before .before .before .args .previous) (c .before .before .before .before .before .args .step) ∷ []) (passed (stepTests (c .before .before .before .before .before .args .step)) tt (sym (c .before .before .before .before .step-fault .ensures) ∙ c .before .before .before .if1 .left)))
 
   same : (b : Bool) → c .same-realization .result ≡ b → sameRealization (c .before .before .before .before .before .args .previous .after) (c .before .before .before .before .before .args .step .before) ≡ b
   same b e = sym (c .same-realization .ensures) ∙ e

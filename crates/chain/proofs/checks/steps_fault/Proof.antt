@@ -11,7 +11,7 @@ use Rattle.chain.specs.declared.Step.{Step}
 use lib.ListN.{length-map}
 use Rattle.chain.specs.Faults.{stepTests, joinTest, laterTests, stepsTests, stepFault}
 use Rattle.chain.specs.Convert.{at}
-use Rattle.chain.proofs.Tests.{orElse, orElse-left, orElse-right}
+use Rattle.refusal.proofs.Orders.{orElse, orElse-left, orElse-right}
 use Rattle.chain.proofs.Places.{no-step, later-from, none-left, first-tests}
 use Rattle.chain.proofs.checks.steps_fault.Statement.{statement}
 use Rattle.chain.proofs.checks.steps_fault.Tie as tie

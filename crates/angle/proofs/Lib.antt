@@ -2,6 +2,7 @@ pub mod AtOrigin
 pub mod Finite
 pub mod Formulas
 pub mod Made
+pub mod Outcomes
 pub mod Sizes
 pub mod Tests
 pub mod Unless

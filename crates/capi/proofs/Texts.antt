@@ -9,15 +9,16 @@ use lib.ListN.{length}
 use mir.Syntax.{w64}
 use mir.Val.{toZ}
 use mir.ValLaws.{toZ-pos}
-use Rattle.line.specs.Text.{Wrote}
-use Rattle.capi.specs.Printing.{roomFor, Printed}
+use Rattle.listing.specs.Fold.{roomFor, Prints}
+use Rattle.capi.specs.Printing.{Printed}
 
 module _ (text input before : List ℕ) where
   pub no-room : length before < roomFor (length input) → Printed text input before before (negsuc 254)
   no-room h = let e = lt-leb (roomFor (length input)) (length before) h in record { status = rw e; out = rw e }
 
   pub printed : {after : List ℕ} {r : ℕ}
-      → roomFor (length input) ≤ length before → length before < 9223372036854775808 → Wrote before 0 text after r → Printed text input before after (toZ w64 r)
-  printed {r = r} h l w =
+      → roomFor (length input) ≤ length before → length before < 9223372036854775808 → Prints text input before after r → Printed text input before after (toZ w64 r)
+  printed {r = r} h l p =
       let e = le-leb (roomFor (length input)) (length before) h in
-      record { status = rw e (toZ-pos w64 r (omega (arith, w .place)) ∙ ap pos (w .place)); out = rw e (w .list) }
+      let w = p .whole h in
+      record { status = rw e (toZ-pos w64 r (omega (arith, p .cut .place)) ∙ ap pos (w .0)); out = rw e (w .1) }

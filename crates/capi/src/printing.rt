@@ -2,7 +2,8 @@
 ghost use mathlib.Core.Path.{_≡_};
 ghost use Rattle.sheet_rules.specs.Sheet.{sheetOf};
 ghost use Rattle.plan_rules.specs.Plan.{planOf};
-ghost use Rattle.capi.specs.Printing.{roomFor, Printed};
+ghost use Rattle.listing.specs.Fold.{roomFor};
+ghost use Rattle.capi.specs.Printing.{Printed};
 
 // The longest input that is read.
 const MOST: usize = 65536;

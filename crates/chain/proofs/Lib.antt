@@ -3,6 +3,7 @@ pub mod Within
 pub mod Sizes
 pub mod Walk
 pub mod Accepted
+pub mod Outcomes
 pub mod Prepared
 pub mod Places
 pub mod RoundTrip

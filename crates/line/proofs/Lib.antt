@@ -7,6 +7,7 @@ pub mod Faults
 pub mod Texts
 pub mod Compared
 pub mod Lengths
+pub mod Good
 pub mod WrittenNumbers
 pub mod WrittenNames
 pub mod Clean

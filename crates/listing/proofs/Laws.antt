@@ -1,22 +1,24 @@
 -- The laws of lines and of a program's run over them. Assumes nothing.
-use Prim.Native.Nat.{ℕ, zero, suc, _+_, _-_, _*_, _≤_, _<_}
+use Prim.Native.Nat.{ℕ, zero, suc, _+_, _-_, _*_, _≤_, _<_, min}
 use mathlib.Core.Path.{_≡_, refl, sym, ap, _∙_}
 use mathlib.Core.List.{List, [], _∷_, _++_}
 use mathlib.Core.Bool.{Bool, true, false}
 use mathlib.Core.Option.{Option, none, some}
-use lib.Dec.{eqb}
+use lib.Dec.{eqb, ltb}
 use lib.ListN.{length, getD, take, drop, length-append, length-drop, length-take, drop-of-length-le}
-use lib.Seq.{drop-cons, drop-drop, length-take-le}
+use lib.Seq.{drop-cons, drop-drop, length-take-le, sets-eq}
 use Rattle.line.specs.declared.Fault.{Fault}
 use Rattle.line.specs.Lines.{fault, answered}
-use Rattle.line.specs.Text.{Wrote}
-use Rattle.line.proofs.Texts.{«then», nothing, kept-length}
+use Rattle.line.specs.Text.{Wrote, refusalText}
+use Rattle.line.proofs.Texts.{«then», nothing}
+use Rattle.line.proofs.Lengths.{length-refusal}
 use native.Mathlib.Numerals.{add-one}
 use native.Mathlib.Omega.{arith}
-use borrow.Author.Tests.{eq-eqb, ne-eqb, eqb-true}
+use borrow.Author.Tests.{eq-eqb, ne-eqb, eqb-true, ltb-true, ltb-false}
+use Rattle.refusal.specs.Numbers as refusal
 use Rattle.refusal.specs.Order.{pick}
 use Rattle.listing.specs.Lines.{feed, push, lines, firstLength, lineEnd}
-use Rattle.listing.specs.Fold.{Rules, run}
+use Rattle.listing.specs.Fold.{Rules, run, most, printed, roomFor, Prints, Begins}
 
 -- ---- the first line's length, by its first byte
 pub length-feed : (s : List ℕ) (i : ℕ) → i < length s → getD s i 0 ≡ feed → firstLength (drop i s) ≡ 1
@@ -124,14 +126,65 @@ module _ {S : Type 0} (r : Rules S) (st₀ : S) (s out₀ : List ℕ) where
   unfolding run lines Left
   left-none p st out o h l = l out o (rw (drop-of-length-le s h) (nothing out o))
 
--- ---- what is printed is at most k times as long as what is read, where each line's answer is, under what holds of the state
-pub run-short : {S : Type 0} (r : Rules S) (k : ℕ) (Holds : S → List (List ℕ) → Type 0) → ((st : S) (l : List ℕ) (ls : List (List ℕ)) → Holds st (l ∷ ls) → (length (r .answer st l) ≤ k * length l) × Holds (r .next st l) ls) → (st : S) (ls : List (List ℕ)) → Holds st ls → length (run r st ls) ≤ k * total ls
-unfolding run
-run-short r k Holds each st [] h = omega arith
-run-short r k Holds each st (l ∷ ls) h =
-    let a = each st l ls h in
-    let b = run-short r k Holds each (r .next st l) ls (a .1) in
-    omega (arith, length-append (r .answer st l) (run r (r .next st l) ls))
+-- ---- the room for what is printed
+-- every line has a byte
+abbrev Some : List (List ℕ) → Type 0
+Some [] = Unit {0}
+Some (l ∷ ls) = (0 < length l) × Some ls
+
+some-push : (b : ℕ) (ls : List (List ℕ)) → Some ls → Some (push b ls)
+some-push b [] h = (omega arith, tt)
+some-push b (l ∷ ls) h = (omega arith, h .1)
+
+some-lines : (s : List ℕ) → Some (lines s)
+unfolding lines
+some-lines [] = tt
+some-lines (b ∷ s) = go (eqb b feed) (some-lines s)
+  where
+    go : (t : Bool) → Some (lines s) → Some (pick t ((b ∷ []) ∷ lines s) (push b (lines s)))
+    go true h = (omega arith, h)
+    go false h = some-push b (lines s) h
+
+-- where each line, as long as its number has at most five digits, is answered with at most 11 bytes for each of its own, the whole input is
+module _ {S : Type 0} (r : Rules S) (number : S → ℕ) (counts : (s : S) (l : List ℕ) → number (r .next s l) ≡ number s + 1) (short : (s : S) (l : List ℕ) → 0 < length l → number s < 100000 → length (r .answer s l) ≤ 11 * length l) where
+  run-short : (ls : List (List ℕ)) → Some ls → (s : S) → number s + total ls < 100000 → length (run r s ls) ≤ 11 * total ls
+  unfolding run
+  run-short [] h s n = omega arith
+  run-short (l ∷ ls) h s n =
+      let a = short s l (h .0) (omega arith) in
+      let b = run-short ls (h .1) (r .next s l) (omega (arith, h .0, counts s l)) in
+      omega (arith, length-append (r .answer s l) (run r (r .next s l) ls))
+
+  pub printed-fits : (s : S) → number s ≡ 1 → (input : List ℕ) → length (printed r s input) ≤ roomFor (length input)
+  unfolding printed roomFor
+  printed-fits s n input = go (ltb most (length input)) refl
+    where
+      go : (b : Bool) → ltb most (length input) ≡ b → length (pick b (refusalText 0 refusal.long) (run r s (lines input))) ≤ 11 * min (length input) most + 7
+      go true e = omega (arith, length-refusal 0 15 (omega arith) (omega arith), ltb-true most (length input) e)
+      go false e =
+          let m = ltb-false most (length input) e in
+          let t = total-lines input in
+          omega (arith, run-short (lines input) (some-lines input) s (omega arith))
+
+-- what is written from the start, where the text fits the room that the input asks for
+pub prints : {text input before after : List ℕ} {r : ℕ} → length text ≤ roomFor (length input) → Wrote before 0 text after r → Prints text input before after r
+prints {text} {input} {before} {after} {r} fits w = record { whole = whole; cut = w }
+  where
+    whole : roomFor (length input) ≤ length before → (r ≡ length text) × (after ≡ text ++ drop (length text) before)
+    whole h =
+        let e : 0 + length text ≡ length text = omega arith in
+        (omega (arith, w .place), w .list ∙ sets-eq text before 0 (omega arith) ∙ ap (λ (k : ℕ). text ++ drop k before) e)
+
+-- 720,903 bytes are room for any input: what is handed on from the start of such an array is the text, whole
+take-front : (a b : List ℕ) → take (length a) (a ++ b) ≡ a
+take-front [] b = refl
+take-front (x ∷ a) b = ap (λ (l : List ℕ). x ∷ l) (take-front a b)
+
+pub whole-text : {text input before after : List ℕ} {r : ℕ} → length before ≡ 720903 → Prints text input before after r → Begins text after r
+unfolding roomFor
+whole-text {text} {input} {before} {after} {r} l p =
+    let w = p .whole (omega arith) in
+    record { size = w .0; bytes = ap (λ (k : ℕ). take k after) (w .0) ∙ ap (take (length text)) (w .1) ∙ take-front text (drop (length text) before) }
 
 -- ---- a reader that gives a record has found no fault
 pub no-fault : {A R : Type 0} (faultOf : A → ℕ) (good : A → R) (refused : Fault → R) (o : Option A) (a : A) → ((x y : A) → good x ≡ good y → x ≡ y) → ((f : Fault) (x : A) → refused f ≡ good x → ⊥) → answered faultOf good refused o ≡ good a → faultOf a ≡ 0
@@ -142,6 +195,9 @@ no-fault faultOf good refused (some b) a inj never e = go (eqb (faultOf b) 0) re
     go true t e = ap faultOf (sym (inj b a e)) ∙ eqb-true (faultOf b) 0 (sym t)
     go false t e = absurd (never _ a e)
 
--- ---- what is written from the start of a slice is a part of it
-pub wrote-part : {l vs m : List ℕ} {r : ℕ} → Wrote l 0 vs m r → r ≡ length (take r m)
-wrote-part {l} {vs} {m} {r} w = sym (length-take-le r m (omega (arith, w .place, kept-length w)))
+-- ---- and that much of it is a part of the array
+pub text-fits : {text m : List ℕ} {r : ℕ} → Begins text m r → r ≤ length m
+text-fits {text} {m} {r} w = omega (arith, w .size, ap length (w .bytes), length-take r m)
+
+pub text-part : {text m : List ℕ} {r : ℕ} → Begins text m r → r ≡ length (take r m)
+text-part w = w .size ∙ ap length (sym (w .bytes))

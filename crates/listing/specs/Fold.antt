@@ -1,11 +1,12 @@
 -- A program answers its input line by line, with a state carried from line to line: what it prints is the answers one after the other.
-use Prim.Native.Nat.{ℕ}
+use Prim.Native.Nat.{ℕ, _+_, _*_, _≤_, min}
+use mathlib.Core.Path.{_≡_}
 use mathlib.Core.List.{List, [], _∷_, _++_}
 use lib.Dec.{eqb, ltb}
-use lib.ListN.{length, getD}
+use lib.ListN.{length, getD, take, drop}
 use Rattle.refusal.specs.Numbers as refusal
 use Rattle.refusal.specs.Order.{pick}
-use Rattle.line.specs.Text.{refusalText}
+use Rattle.line.specs.Text.{refusalText, Wrote}
 use Rattle.listing.specs.Lines.{lines}
 
 -- the rules of a program: what a line prints in a state, and the state after it
@@ -23,6 +24,22 @@ most = 65536
 
 unfoldable pub printed : {S : Type 0} → Rules S → S → List ℕ → List ℕ
 printed r s input = pick (ltb most (length input)) (refusalText 0 refusal.long) (run r s (lines input))
+
+-- the room that an input of n bytes asks for: 11 bytes for each byte, up to the most that is read, and 7
+unfoldable pub roomFor : ℕ → ℕ
+roomFor n = 11 * min n most + 7
+
+-- what a call that prints does: the array held `before` and holds `after`, and r is the place past the text
+pub record Prints (text input before after : List ℕ) (r : ℕ) : Type 0 where
+  -- with the room that the input asks for: the array begins with the whole text, and everything past it is untouched
+  pub whole : roomFor (length input) ≤ length before → (r ≡ length text) × (after ≡ text ++ drop (length text) before)
+  -- with any room: as much of the text as there is room for
+  pub cut : Wrote before 0 text after r
+
+-- the first r bytes of an array are the text, whole
+pub record Begins (text after : List ℕ) (r : ℕ) : Type 0 where
+  pub size : r ≡ length text
+  pub bytes : take r after ≡ text
 
 -- a program reads lines of two letters, told by their first byte
 abbrev pub byLetter : {A : Type 0} → ℕ → ℕ → List ℕ → A → A → A → A

@@ -2,6 +2,8 @@
 use libc::STDOUT_FILENO;
 ghost use mathlib.Core.Path.{_≡_};
 ghost use lib.ListN.{length};
+ghost use Rattle.listing.specs.Fold.{Begins};
+ghost use Rattle.plan_rules.specs.Plan.{planOf};
 
 // Room for the longest input that is read and one byte more, by which a longer one shows.
 fn input_space() -> [u8; 65537]
@@ -17,12 +19,20 @@ fn output_space() -> [u8; 720903]
     [0; 720903]
 }
 
+// What the plan prints, from the start of that room: all of it, whatever the input.
+fn answer(text: &[u8], printed: &mut [u8]) -> usize
+    requires { ⌜ length (now printed) ≡ 720903 ⌝ }
+    ensures { λ r. ⌜ Begins (planOf (now (text .entry))) (now (printed .exit)) r ⌝ }
+{
+    plan_rules::plan(text, printed)
+}
+
 fn main() {
     let mut text = input_space();
     let input::Input::Whole(held) = input::read_all(&mut text) else {
         return;
     };
     let mut printed = output_space();
-    let past = plan_rules::plan(&text[..held], &mut printed);
+    let past = answer(&text[..held], &mut printed);
     io::write_all(STDOUT_FILENO, &printed[..past]);
 }

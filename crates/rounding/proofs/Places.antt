@@ -6,9 +6,9 @@ use mathlib.Core.List.{List, [], _∷_}
 use Prim.Native.Nat.{ℕ, zero, suc, _+_, _-_, _*_, _/_, _^_, _≤_, _<_}
 use native.Mathlib.Nat.{div-mul-le-self, lt-div-mul-add, div-eq-of-lt-le, mul-le-mul-right, le-refl}
 use native.Mathlib.Omega.{arith}
-use borrow.Author.Tests.{le-ltb, lt-leb, ltb-true, ltb-false}
+use borrow.Author.Tests.{le-ltb, lt-leb, leb-false, ltb-true, ltb-false}
 use lib.Dec.{T, ltb, leb}
-use lib.IntN.{ℤ, pos, negsuc}
+use lib.IntN.{ℤ, pos, negsuc, natAbs}
 use lib.Ieee.{Float, nan, inf, fin, binary64, up, down, ofBits}
 use lib.Ieee.Fits.{down-pos}
 use Rattle.refusal.specs.Numbers.{range, size}
@@ -75,6 +75,41 @@ module _ (s : Bool) (m : ℕ) (e : ℤ) (p : ℕ) where
   pub only : (r : ℕ) → p ≤ 5 → m * up e < 10000000 * down e → Nearest num (down e) r → roundedOf (fin s m e) p ≡ Whole (signed s r)
   unfolding tooLarge wholeOf
   only r h k n = few (fin s m e) p h (lt-leb (10000000 * down e) (m * up e) k) ∙ ap (λ (i : ℕ). Whole (signed s i)) (only-nearest num (down e) r (down-pos e) n)
+
+-- ---- how large an answer is, and a refusal's number
+-- below 10,000,000, rounded at p places: at most ten to the p, that many times
+size-of : (v d t r : ℕ) → v < 10000000 * d → Nearest (v * t) d r → r ≤ 10000000 * t
+size-of v d t r l n = go (ltb (10000000 * t) r) refl
+  where
+    go : (b : Bool) → ltb (10000000 * t) r ≡ b → r ≤ 10000000 * t
+    go true e =
+        let a : v * t ≤ 10000000 * d * t = mul-le-mul-right t (omega arith) in
+        let b : (10000000 * t + 1) * d ≤ r * d = mul-le-mul-right d (omega (arith, ltb-true (10000000 * t) r e)) in
+        absurd (omega (arith, n .low))
+    go false e = ltb-false (10000000 * t) r e
+
+signed-size : (s : Bool) (n : ℕ) → natAbs (signed s n) ≡ n
+signed-size true zero = refl
+signed-size true (suc n) = refl
+signed-size false n = refl
+
+whole-size : (x : Float) (p : ℕ) → tooLarge x ≡ false → natAbs (wholeOf x p) ≤ 10000000 * 10 ^ p
+unfolding tooLarge wholeOf
+whole-size nan p k = omega arith
+whole-size (inf s) p k = omega arith
+whole-size (fin s m e) p k =
+    let r = halfUp (m * up e * 10 ^ p) (down e) in
+    omega (arith, signed-size s r, size-of (m * up e) (down e) (10 ^ p) r (leb-false (10000000 * down e) (m * up e) k) (is-nearest (m * up e * 10 ^ p) (down e) (down-pos e)))
+
+-- whatever holds of both holds of what is answered
+pub outcome : (x : Float) (p : ℕ) (P : Rounded → Type 0) → ((z : ℤ) → natAbs z ≤ 10000000 * 10 ^ p → P (Whole z)) → ((n : ℕ) → n < 100 → P (Refused n)) → P (roundedOf x p)
+unfolding roundedOf
+outcome x p P W R = go (ltb 5 p) (tooLarge x) refl
+  where
+    go : (a b : Bool) → tooLarge x ≡ b → P (answer (pick a range (pick b size 0)) (wholeOf x p))
+    go true b e = R range (omega arith)
+    go false true e = R size (omega arith)
+    go false false e = W (wholeOf x p) (whole-size x p e)
 
 -- ---- worked values
 record Value : Type 0 where

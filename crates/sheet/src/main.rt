@@ -2,6 +2,8 @@
 use libc::STDOUT_FILENO;
 ghost use mathlib.Core.Path.{_≡_};
 ghost use lib.ListN.{length};
+ghost use Rattle.listing.specs.Fold.{Begins};
+ghost use Rattle.sheet_rules.specs.Sheet.{sheetOf};
 
 // Room for the longest input that is read and one byte more, by which a longer one shows.
 fn input_space() -> [u8; 65537]
@@ -17,12 +19,20 @@ fn output_space() -> [u8; 720903]
     [0; 720903]
 }
 
+// What the sheet prints, from the start of that room: all of it, whatever the input.
+fn answer(text: &[u8], printed: &mut [u8]) -> usize
+    requires { ⌜ length (now printed) ≡ 720903 ⌝ }
+    ensures { λ r. ⌜ Begins (sheetOf (now (text .entry))) (now (printed .exit)) r ⌝ }
+{
+    sheet_rules::sheet(text, printed)
+}
+
 fn main() {
     let mut text = input_space();
     let input::Input::Whole(held) = input::read_all(&mut text) else {
         return;
     };
     let mut printed = output_space();
-    let past = sheet_rules::sheet(&text[..held], &mut printed);
+    let past = answer(&text[..held], &mut printed);
     io::write_all(STDOUT_FILENO, &printed[..past]);
 }

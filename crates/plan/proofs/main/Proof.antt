@@ -1,7 +1,7 @@
 -- `plan::main` meets its contract: what is read fits the space for it, and so does what is written. Assumes nothing.
 use borrow.Author.Needs.{needs}
 use Rattle.input.proofs.Laws.{held-fits, held-part}
-use Rattle.listing.proofs.Laws.{wrote-part}
+use Rattle.listing.proofs.Laws.{text-fits, text-part}
 use Rattle.plan.proofs.main.Statement.{statement}
 use Rattle.plan.proofs.main.Tie as tie
 
@@ -29,20 +29,20 @@ output-space-requires c κs = search needs
 array-share-prefix-text : tie.Need-array-share-prefix-text
 array-share-prefix-text c = held-fits _ _ _ (c .before .before .held .given .1) (c .before .before .before .before .before .read-all .ensures)
 
-slice-aggregate-plan : tie.Need-slice-aggregate-plan
-slice-aggregate-plan c = held-part _ _ _ (c .before .before .before .held .given .1) (c .before .before .before .before .before .before .read-all .ensures)
+slice-aggregate-answer : tie.Need-slice-aggregate-answer
+slice-aggregate-answer c = held-part _ _ _ (c .before .before .before .held .given .1) (c .before .before .before .before .before .before .read-all .ensures)
 
-slice-aggregate-plan-2 : tie.Need-slice-aggregate-plan-2
-slice-aggregate-plan-2 c = search needs
+slice-aggregate-answer-2 : tie.Need-slice-aggregate-answer-2
+slice-aggregate-answer-2 c = search needs
 
-plan-requires : tie.Need-plan-requires
-plan-requires c κs = search needs
+answer-requires : tie.Need-answer-requires
+answer-requires c κs = search needs
 
 array-share-prefix-printed : tie.Need-array-share-prefix-printed
-array-share-prefix-printed c = search needs
+array-share-prefix-printed c = text-fits (c .before .answer .ensures)
 
 slice-aggregate-write-all : tie.Need-slice-aggregate-write-all
-slice-aggregate-write-all c = wrote-part (c .before .before .plan .ensures)
+slice-aggregate-write-all c = text-part (c .before .before .answer .ensures)
 
 write-all-requires : tie.Need-write-all-requires
 write-all-requires c κs = search needs
@@ -62,9 +62,9 @@ main-spec =
     returns
     output-space-requires
     array-share-prefix-text
-    slice-aggregate-plan
-    slice-aggregate-plan-2
-    plan-requires
+    slice-aggregate-answer
+    slice-aggregate-answer-2
+    answer-requires
     array-share-prefix-printed
     slice-aggregate-write-all
     write-all-requires

@@ -1,7 +1,7 @@
 -- `capi::printing::room_for` meets its contract. Assumes nothing.
 use borrow.Author.Needs.{needs}
 use native.Mathlib.Omega.{arith}
-use Rattle.capi.specs.Printing.{roomFor}
+use Rattle.listing.specs.Fold.{roomFor}
 use Rattle.capi.proofs.printing.room_for.Statement.{statement}
 use Rattle.capi.proofs.printing.room_for.Tie as tie
 

@@ -8,6 +8,7 @@ use Rattle.listing.proofs.Laws.{line-goes-on, line-fits, line-length, left-all,
 use Rattle.plan_rules.specs.declared.State.{State}
 use Rattle.plan_rules.specs.Plan.{Plan, fresh, rules, nextOf, planOf}
 use Rattle.plan_rules.proofs.Laws.{Midway, next-line}
+use Rattle.plan_rules.proofs.Room.{prints-plan}
 use borrow.Author.Needs.{needs}
 use Rattle.plan_rules.proofs.answer.whole.plan.Statement.{statement}
 use Rattle.plan_rules.proofs.answer.whole.plan.Tie as tie
@@ -32,7 +33,7 @@ same-length c = search needs
 
 returns : tie.Need-returns Inv-loop μ-loop
 unfolding planOf printed
-returns c = rw (lt-ltb _ _ (c .before .before .before .before .if1 .taken)) (c .before .before .write-refusal .ensures)
+returns c = prints-plan (rw (lt-ltb _ _ (c .before .before .before .before .if1 .taken)) (c .before .before .write-refusal .ensures))
 
 fresh-requires : tie.Need-fresh-requires Inv-loop μ-loop
 fresh-requires c κs = search needs
@@ -66,7 +67,7 @@ same-length-2 c = c .before .loop .inv .2
 
 returns-2 : tie.Need-returns-2 Inv-loop μ-loop
 unfolding planOf printed
-returns-2 c = let k = c .before .loop in rw (le-ltb _ _ (c .before .before .before .if1 .left)) (left-none rules fresh _ _ (k .place) (k .inv .3 .plan) _ _ (omega arith) (k .inv .3 .left))
+returns-2 c = let k = c .before .loop in prints-plan (rw (le-ltb _ _ (c .before .before .before .if1 .left)) (left-none rules fresh _ _ (k .place) (k .inv .3 .plan) _ _ (omega arith) (k .inv .3 .left)))
 
 pub plan-spec : {M : Type 1} → statement M
 plan-spec =

@@ -8,6 +8,7 @@ use Rattle.listing.proofs.Laws.{line-goes-on, line-fits, line-length, left-all,
 use Rattle.sheet_rules.specs.declared.State.{State}
 use Rattle.sheet_rules.specs.Sheet.{Sheet, fresh, rules, nextOf, sheetOf}
 use Rattle.sheet_rules.proofs.Laws.{Midway, next-line}
+use Rattle.sheet_rules.proofs.Room.{prints-sheet}
 use borrow.Author.Needs.{needs}
 use Rattle.sheet_rules.proofs.answer.whole.sheet.Statement.{statement}
 use Rattle.sheet_rules.proofs.answer.whole.sheet.Tie as tie
@@ -32,7 +33,7 @@ same-length c = search needs
 
 returns : tie.Need-returns Inv-loop μ-loop
 unfolding sheetOf printed
-returns c = rw (lt-ltb _ _ (c .before .before .before .before .if1 .taken)) (c .before .before .write-refusal .ensures)
+returns c = prints-sheet (rw (lt-ltb _ _ (c .before .before .before .before .if1 .taken)) (c .before .before .write-refusal .ensures))
 
 fresh-requires : tie.Need-fresh-requires Inv-loop μ-loop
 fresh-requires c κs = search needs
@@ -66,7 +67,7 @@ same-length-2 c = c .before .loop .inv .2
 
 returns-2 : tie.Need-returns-2 Inv-loop μ-loop
 unfolding sheetOf printed
-returns-2 c = let k = c .before .loop in rw (le-ltb _ _ (c .before .before .before .if1 .left)) (left-none rules fresh _ _ (k .place) (k .inv .3 .sheet) _ _ (omega arith) (k .inv .3 .left))
+returns-2 c = let k = c .before .loop in prints-sheet (rw (le-ltb _ _ (c .before .before .before .if1 .left)) (left-none rules fresh _ _ (k .place) (k .inv .3 .sheet) _ _ (omega arith) (k .inv .3 .left)))
 
 pub sheet-spec : {M : Type 1} → statement M
 sheet-spec =

@@ -1,0 +1,97 @@
+-- What a forward conversion can answer: a point with no fault of its own, which can be handed in again, or a number of the refusal table. Assumes nothing.
+use mathlib.Core.Path.{_≡_, refl, sym, _∙_, ap}
+use mathlib.Core.Bool.{true, _&&_}
+use mathlib.Core.List.{List, [], _∷_, _++_}
+use Prim.Native.Nat.{ℕ, zero, suc, _≤_, _<_}
+use native.Mathlib.Omega.{arith}
+use borrow.Author.Tests.{le-leb}
+use lib.Dec.{T, ltb}
+use lib.IntN.{ℤ, pos, negsuc, natAbs}
+use Rattle.refusal.specs.Order.{first}
+use Rattle.refusal.proofs.Orders.{head-holds, short, first-short, short-append}
+use Rattle.chain.specs.declared.Position.{Position}
+use Rattle.chain.specs.declared.Realization.{Realization}
+use Rattle.chain.specs.declared.Point.{Point}
+use Rattle.chain.specs.declared.Step.{Step}
+use Rattle.chain.specs.declared.Chain.{Chain}
+use Rattle.chain.specs.declared.Answer.{Answer}
+use Rattle.chain.specs.declared.Answer.the-variants.{Converted, Refused}
+use Rattle.chain.specs.Ranges.{within, givenRange, issueRange}
+use Rattle.chain.specs.Faults.{realizationRange, agrees, givenPosition, inArea, pointRange, pointTests, pointFault, laterTests, stepsTests, chainTests, stepsOf}
+use Rattle.chain.specs.Axes.{onX, onY, onZ}
+use Rattle.chain.specs.Convert.{Walk, at, outside, walk, forwardStep, startOf, endOf, placeTests, conversionTests, movedTo, answerOf, unlessRefused, convert, forwardOf}
+use Rattle.chain.proofs.Within.{all, area-small}
+use Rattle.chain.proofs.Sizes.{step-ok}
+use Rattle.chain.proofs.Walk.{walk-area}
+use Rattle.chain.proofs.Accepted.{Sound, converted}
+
+-- ---- a converted point
+-- a datum at an epoch, as a line may say it
+record Dated (r : Realization) : Type 0 where
+  range : realizationRange r ≡ true
+  agree : agrees r ≡ true
+
+-- where a chain ends
+end-dated : (r : Realization) (ss : List Step) → Sound ss → Dated r → Dated (endOf r ss)
+unfolding endOf
+end-dated r [] ok d = d
+end-dated r (s ∷ ss) ok d = let o = step-ok s (ok .0) in end-dated (s .after) ss (ok .1) (record { range = o .after; agree = o .agreed })
+
+-- the area lies within the range of a coordinate
+given : (z : ℤ) → natAbs z ≤ 640000000000 → givenRange z ≡ true
+unfolding within
+given (pos n) h = le-leb n 640000000000 h
+given (negsuc n) h = rw (le-leb n 639999999999 (omega arith))
+
+area-given : (p : Position) → inArea p ≡ true → givenPosition p ≡ true
+unfolding givenPosition
+area-given p h = let s = area-small p h in rw (given (p .x) (s .on onX), given (p .y) (s .on onY), given (p .z) (s .on onZ))
+
+faultless : (p : Point) → issueRange (p .issue) ≡ true → Dated (p .realization) → givenPosition (p .position) ≡ true → pointFault p ≡ 0
+unfolding pointFault pointRange
+faultless p i d g = rw (i, d .range, g, d .agree)
+
+module _ (c : Chain) (p : Point) where
+  pub converted-faultless : (q : Point) → pointFault p ≡ 0 → forwardOf c p ≡ Converted q → pointFault q ≡ 0
+  unfolding forwardOf pointFault pointRange
+  converted-faultless q f e =
+      let ss = stepsOf c in
+      let a = converted c p (startOf (p .realization) ss) (endOf (p .realization) ss) (walk forwardStep ss (p .position)) q e in
+      let h = head-holds (pointRange p) 1 _ f in
+      let r = all (issueRange (p .issue)) (realizationRange (p .realization)) (givenPosition (p .position)) (h .0) in
+      let d : Dated (p .realization) = record { range = r .1; agree = head-holds (agrees (p .realization)) 2 0 (h .1) .0 } in
+      let i = walk-area forwardStep ss (p .position) (q .position) (a .accept .area) (a .ended) in
+      ap pointFault (a .is) ∙ faultless (movedTo p (endOf (p .realization) ss) (q .position)) (r .0) (end-dated (p .realization) ss (a .accept .sound) d) (area-given (q .position) i)
+
+  -- ---- a refusal
+  short-later : (s : Step) (ss : List Step) → T (short (laterTests s ss))
+  short-later s [] = tt
+  short-later s (t ∷ ts) = short-later t ts
+
+  short-steps : (ss : List Step) → T (short (stepsTests ss))
+  short-steps [] = tt
+  short-steps (s ∷ ss) = short-later s ss
+
+  short-tests : (wanted : Realization) → T (short (conversionTests c p wanted))
+  short-tests wanted = short-append (chainTests c) (pointTests p ++ placeTests p wanted) (short-steps (stepsOf c)) tt
+
+  from-walk : (r : Realization) (w : Walk) (k n : ℕ) → k < 100 → unlessRefused k (answerOf p r w) ≡ Refused n → n < 100
+  unfolding unlessRefused answerOf
+  from-walk r (at q) zero n l e = let z : _≡_ {A = ℕ} 0 1 = cc in absurd (omega arith)
+  from-walk r outside zero n l e = let z : 11 ≡ n = cc in omega arith
+  from-walk r w (suc k) n l e = let z : suc k ≡ n = cc in omega arith
+
+  refused-short : (n : ℕ) → forwardOf c p ≡ Refused n → n < 100
+  unfolding forwardOf convert
+  refused-short n e =
+      let ss = stepsOf c in
+      let wanted = startOf (p .realization) ss in
+      from-walk (endOf (p .realization) ss) (walk forwardStep ss (p .position)) (first (conversionTests c p wanted)) n (first-short (conversionTests c p wanted) (short-tests wanted)) e
+
+  -- ---- so whatever holds of both holds of the answer
+  pub outcome : (P : Answer → Type 0) → pointFault p ≡ 0 → ((q : Point) → pointFault q ≡ 0 → P (Converted q)) → ((n : ℕ) → n < 100 → P (Refused n)) → P (forwardOf c p)
+  outcome P f C R = go (forwardOf c p) refl
+    where
+      go : (a : Answer) → forwardOf c p ≡ a → P a
+      go (Converted q) e = C q (converted-faultless q f e)
+      go (Refused n) e = R n (refused-short n e)

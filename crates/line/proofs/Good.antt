@@ -1,0 +1,122 @@
+-- How long a line of good form is: each of its fields has a byte at least, and a tab or the line feed after it. And what a reader can answer: a record
+-- with no fault from a line of good form, or a number of the refusal table. Assumes nothing.
+use Prim.Native.Nat.{ℕ, zero, suc, _+_, _-_, _*_, _≤_, _<_}
+use mathlib.Core.Path.{_≡_, refl, sym, ap, _∙_}
+use mathlib.Core.List.{List, [], _∷_}
+use mathlib.Core.Bool.{Bool, true, false}
+use mathlib.Core.Option.{Option, none, some}
+use lib.Dec.{eqb, leb, ltb}
+use lib.ListN.{length, getD, take}
+use lib.Seq.{length-take-le}
+use native.Mathlib.Omega.{arith}
+use borrow.Author.Tests.{eqb-true, ltb-true}
+use Rattle.refusal.specs.Numbers as refusal
+use Rattle.refusal.specs.Order.{pick, first}
+use Rattle.refusal.proofs.Orders.{first-short}
+use Rattle.chain.specs.declared.Point.{Point}
+use Rattle.chain.specs.declared.Step.{Step}
+use Rattle.chain.specs.Faults.{pointTests, pointFault, stepTests, stepFault}
+use Rattle.angle.specs.declared.OriginNumbers.{OriginNumbers}
+use Rattle.angle.specs.Ranges.{angleTests, originTests, originFault, anglesFault}
+use Rattle.line.specs.declared.Fault.{Fault}
+use Rattle.line.specs.declared.Geodetic.{Geodetic}
+use Rattle.line.specs.Bytes.{tab, lineFeed}
+use Rattle.line.specs.Fields.{most, body, front, fields, Form, ends, field, taken, onward, filled, inBody, said}
+use Rattle.line.specs.Name.{nameOf}
+use Rattle.line.specs.Number.{numberOf}
+use Rattle.line.specs.Forms.{pointForm, geodeticForm}
+use Rattle.line.specs.Lines.{fault, judged, answered, geodeticFault}
+
+nothing : {A : Type 0} {a : A} → none ≡ some a → ⊥
+nothing e = let w : _≡_ {A = ℕ} 0 1 = cc in omega arith
+
+-- ---- the bytes of fields, with what parts them
+abbrev spread : List (List ℕ) → ℕ
+spread [] = 0
+spread (f ∷ fs) = length f + 1 + spread fs
+
+fields-spread : (s : List ℕ) → spread (fields s) ≡ length s + 1
+unfolding fields
+fields-spread [] = refl
+fields-spread (b ∷ s) = go (eqb b tab) (fields s) (fields-spread s)
+  where
+    go : (t : Bool) (fs : List (List ℕ)) → spread fs ≡ length s + 1 → spread (pick t ([] ∷ fs) (front b fs)) ≡ suc (length s) + 1
+    go true fs h = omega arith
+    go false [] h = absurd (omega arith)
+    go false (f ∷ fs) h = omega arith
+
+-- ---- a form of n fields, none of which is read from no bytes
+Asks : {A : Type 0} → ℕ → Form A → Type 0
+Asks zero (ends a) = Unit {0}
+Asks zero (field read k) = ⊥
+Asks (suc n) (ends a) = ⊥
+Asks (suc n) (field read k) = (read [] ≡ none) × ((b : _) → Asks n (k b))
+
+byte : {B : Type 0} (read : List ℕ → Option B) (f : List ℕ) (b : B) → read [] ≡ none → read f ≡ some b → 0 < length f
+byte read [] b h e = absurd (nothing (sym h ∙ e))
+byte read (c ∷ f) b h e = omega arith
+
+filled-long : {A : Type 0} (n : ℕ) (form : Form A) → Asks n form → (fs : List (List ℕ)) (a : A) → filled form fs ≡ some a → 2 * n ≤ spread fs
+unfolding filled Asks
+filled-long zero form h fs a e = omega arith
+filled-long (suc n) (ends x) h fs a e = absurd h
+filled-long (suc n) (field read k) h [] a e = absurd (nothing e)
+filled-long (suc n) (field read k) h (f ∷ fs) a e = go (read f) refl (λ b q. filled-long n (k b) (h .1 b) fs a q) e
+  where
+    go : (o : Option _) → read f ≡ o → ((b : _) → filled (k b) fs ≡ some a → 2 * n ≤ spread fs) → onward (taken o fs) (λ b rest. filled (k b) rest) ≡ some a → 2 * suc n ≤ length f + 1 + spread fs
+    go none q on e = absurd (nothing e)
+    go (some b) q on e = omega (arith, on b e, byte read f b (h .0) q)
+
+body-length : (line s : List ℕ) → body line ≡ some s → length line ≡ length s + 1
+unfolding body
+body-length line s e = go (ltb 0 (length line)) refl (leb (length line) most) (eqb (getD line (length line - 1) 0) lineFeed) e
+  where
+    go : (a : Bool) → ltb 0 (length line) ≡ a → (b c : Bool) → pick a (pick b (pick c (some (take (length line - 1) line)) none) none) none ≡ some s → length line ≡ length s + 1
+    go true q true true e =
+        let z : take (length line - 1) line ≡ s = cc in
+        omega (arith, ltb-true 0 (length line) q, ap length z, length-take-le (length line - 1) line (omega arith))
+    go true q true false e = absurd (nothing e)
+    go true q false c e = absurd (nothing e)
+    go false q b c e = absurd (nothing e)
+
+said-long : {A : Type 0} (n : ℕ) (form : Form A) → Asks n form → (line : List ℕ) (a : A) → said form line ≡ some a → 2 * n ≤ length line
+said-long n form h line a e = go (body line) refl e
+  where
+    go : (o : Option (List ℕ)) → body line ≡ o → inBody form o ≡ some a → 2 * n ≤ length line
+    go none q e = absurd (nothing e)
+    go (some s) q e = omega (arith, filled-long n form h (fields s) a e, fields-spread s, body-length line s q)
+
+-- a point line has eight fields, a position line four
+pub point-long : (line : List ℕ) (p : Point) → said pointForm line ≡ some p → 16 ≤ length line
+unfolding Asks pointForm nameOf numberOf
+point-long line p e = said-long 8 pointForm (refl, λ _. (refl, λ _. (refl, λ _. (refl, λ _. (refl, λ _. (refl, λ _. (refl, λ _. (refl, λ _. tt)))))))) line p e
+
+pub geodetic-long : (line : List ℕ) (g : Geodetic) → said geodeticForm line ≡ some g → 8 ≤ length line
+unfolding Asks geodeticForm nameOf numberOf
+geodetic-long line g e = said-long 4 geodeticForm (refl, λ _. (refl, λ _. (refl, λ _. (refl, λ _. tt)))) line g e
+
+-- ---- whatever holds of both holds of what a reader answers
+module _ {A R : Type 0} (faultOf : A → ℕ) (good : A → R) (refused : Fault → R) (P : R → Type 0) where
+  pub outcome : (o : Option A) → ((a : A) → faultOf a < 100) → ((a : A) → o ≡ some a → faultOf a ≡ 0 → P (good a)) → ((n : ℕ) → n < 100 → P (refused (fault n))) → P (answered faultOf good refused o)
+  outcome none small G B = B refusal.form (omega arith)
+  outcome (some a) small G B = go (eqb (faultOf a) 0) refl
+    where
+      go : (t : Bool) → eqb (faultOf a) 0 ≡ t → P (pick t (good a) (refused (fault (faultOf a))))
+      go true e = G a refl (eqb-true (faultOf a) 0 e)
+      go false e = B (faultOf a) (small a)
+
+pub point-short : (p : Point) → pointFault p < 100
+unfolding pointFault
+point-short p = first-short (pointTests p) tt
+
+pub step-short : (s : Step) → stepFault s < 100
+unfolding stepFault
+step-short s = first-short (stepTests s) tt
+
+pub origin-short : (o : OriginNumbers) → originFault o < 100
+unfolding originFault
+origin-short o = first-short (originTests o) tt
+
+pub geodetic-short : (g : Geodetic) → geodeticFault g < 100
+unfolding anglesFault
+geodetic-short g = first-short (angleTests (g .latitude) (g .longitude)) tt

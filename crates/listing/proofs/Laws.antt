@@ -159,7 +159,7 @@ module _ {S : Type 0} (r : Rules S) (number : S → ℕ) (counts : (s : S) (l : 
   unfolding printed roomFor
   printed-fits s n input = go (ltb most (length input)) refl
     where
-      go : (b : Bool) → ltb most (length input) ≡ b → length (pick b (refusalText 0 refusal.long) (run r s (lines input))) ≤ 11 * min (length input) most + 7
+      go : (b : Bool) → ltb most (length input) ≡ b → length (pick b (refusalText 0 refusal.long) (run r s (lines input))) ≤ roomFor (length input)
       go true e = omega (arith, length-refusal 0 15 (omega arith) (omega arith), ltb-true most (length input) e)
       go false e =
           let m = ltb-false most (length input) e in

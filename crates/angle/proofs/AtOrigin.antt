@@ -16,7 +16,7 @@ use Rattle.bounds.specs.Size.{sign, sign-round, div-sign}
 use Rattle.bounds.specs.Among.{Ends, Among, point, is-finite, num-above, closed, within}
 use Rattle.bounds.specs.Formula.{var, over, nil, All, none, also, value, bounds, test, proved}
 use Rattle.bounds.specs.Zero.{wholes, whole-among, Upto, sub-self, add-zero-is}
-use Rattle.angle.specs.Floats.{near, #, k, radians, metres, unless}
+use Rattle.angle.specs.Floats.{near, #, k, radians, metres}
 use Rattle.angle.specs.Ranges.{outside, farApart, originTests, pointTests, cassiniTests, originFault}
 use Rattle.angle.specs.Series.{sineOf, cosineOf}
 use Rattle.angle.specs.Ellipsoids.{ellipsoidOf, primeVertical, meridianArc}
@@ -26,8 +26,7 @@ use Rattle.angle.specs.declared.OriginNumbers.{OriginNumbers}
 use Rattle.angle.specs.declared.Grid.{Grid}
 use Rattle.angle.specs.declared.Grid.the-variants.{Metres, Refused}
 use Rattle.refusal.proofs.Orders as orders
-use Rattle.angle.proofs.Unless.{unless-none}
-use Rattle.refusal.proofs.Orders.{Passed, passed, both}
+use Rattle.refusal.proofs.Orders.{Passed, passed, both, unless-none}
 use Rattle.angle.proofs.Formulas.{n, eastF, northF}
 use Rattle.angle.proofs.Sizes.{from, most, Shaped, shaped, sine-latitude, cosine-latitude, radius-among, arc-among, metres-among}
 use Rattle.angle.proofs.Wholes.{natural, natural-upto, upto}

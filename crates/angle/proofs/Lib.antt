@@ -5,6 +5,5 @@ pub mod Made
 pub mod Outcomes
 pub mod Sizes
 pub mod Tests
-pub mod Unless
 pub mod Vectors
 pub mod Wholes

@@ -3,8 +3,7 @@ use mathlib.Core.Path.{_≡_, refl, sym, ap, _∙_}
 use Prim.Native.Nat.{ℕ, zero, suc}
 use native.Mathlib.Omega.{arith}
 use lib.IntN.{ℤ}
-use Rattle.refusal.specs.Order.{first}
-use Rattle.angle.specs.Floats.{unless}
+use Rattle.refusal.specs.Order.{first, unless}
 use Rattle.angle.specs.Ranges.{originTests, pointTests, originFault}
 use Rattle.angle.specs.Cassini.{originMade, originOf, cassiniAt, cassiniFromOf, cassiniOf}
 use Rattle.angle.specs.declared.Origin.{Origin}
@@ -14,8 +13,7 @@ use Rattle.angle.specs.declared.OriginAnswer.the-variants.{Made}
 use Rattle.angle.specs.declared.OriginAnswer.the-variants as answer
 use Rattle.angle.specs.declared.Grid.{Grid}
 use Rattle.angle.specs.declared.Grid.the-variants.{Refused}
-use Rattle.refusal.proofs.Orders.{passed, stop, on}
-use Rattle.angle.proofs.Unless.{unless-some}
+use Rattle.refusal.proofs.Orders.{passed, stop, on, unless-some}
 
 -- a refusal has its number, and there is one; an origin that is made is the one that was asked, and there is no fault
 refused : (f n : ℕ) (x : Origin) → unless f answer.Refused (Made x) ≡ answer.Refused n → (f ≡ n) × (f ≡ 0 → ⊥)

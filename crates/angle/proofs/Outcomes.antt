@@ -4,13 +4,12 @@ use Prim.Native.Nat.{ℕ, zero, suc, _≤_, _<_}
 use native.Mathlib.Omega.{arith}
 use lib.IntN.{ℤ, natAbs}
 use lib.Ieee.{Float}
-use Rattle.refusal.specs.Order.{first}
+use Rattle.refusal.specs.Order.{first, unless}
 use Rattle.refusal.proofs.Orders.{first-short}
 use Rattle.rounding.specs.Decimals.{roundedOf}
 use Rattle.rounding.specs.declared.decimals.Rounded.{Rounded}
 use Rattle.rounding.specs.declared.decimals.Rounded.the-variants.{Whole}
 use Rattle.rounding.proofs.Places as places
-use Rattle.angle.specs.Floats.{unless}
 use Rattle.angle.specs.Ranges.{cassiniTests}
 use Rattle.angle.specs.Cassini.{originMade, cassiniWith, cassiniAt, cassiniOf, two, inMillimetres, cassiniMillimetresOf}
 use Rattle.angle.specs.declared.OriginNumbers.{OriginNumbers}

@@ -1,5 +1,5 @@
 -- The operators of f64, each rounded to nearest, and decimals as the f64 nearest to them. Nothing is fused: a product is rounded before it is added.
-use Prim.Native.Nat.{ℕ, zero, suc, _^_}
+use Prim.Native.Nat.{ℕ, _^_}
 use mathlib.Core.Bool.{false}
 use lib.Ieee.{Float, binary64, mul, add, sub, div, round, ofInt}
 use lib.IntN.{ℤ}
@@ -46,8 +46,3 @@ radians n = whole n ⊗ k
 unfoldable pub metres : ℤ → Float
 unfolding near
 metres n = whole n ⊘ # 1000
-
--- an answer unless there is a fault: then the refusal with its number
-abbrev pub unless : {A : Type 0} → ℕ → (ℕ → A) → A → A
-unless zero refused a = a
-unless (suc n) refused a = refused (suc n)

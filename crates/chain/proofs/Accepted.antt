@@ -6,8 +6,8 @@ use Prim.Native.Nat.{ℕ, zero, suc, _≤_}
 use native.Mathlib.Omega.{arith}
 use borrow.Author.Tests.{ltb-false}
 use lib.Dec.{T, ltb}
-use Rattle.refusal.specs.Order.{Test, first, pick}
-use Rattle.refusal.proofs.Orders.{numbered, passed, step-passed, head-holds, stop, on, both-pass}
+use Rattle.refusal.specs.Order.{Test, first, pick, unless}
+use Rattle.refusal.proofs.Orders.{numbered, passed, step-passed, head-holds, stop, on, both-pass, unless-some}
 use Rattle.chain.specs.declared.Position.{Position}
 use Rattle.chain.specs.declared.Realization.{Realization}
 use Rattle.chain.specs.declared.Point.{Point}
@@ -16,7 +16,7 @@ use Rattle.chain.specs.declared.Chain.{Chain}
 use Rattle.chain.specs.declared.Answer.{Answer}
 use Rattle.chain.specs.declared.Answer.the-variants.{Converted, Refused}
 use Rattle.chain.specs.Faults.{sameRealization, inArea, pointTests, stepTests, stepFault, joinTest, laterTests, stepsTests, chainTests, stepsOf}
-use Rattle.chain.specs.Convert.{Walk, at, outside, placeTests, conversionTests, movedTo, answerOf, unlessRefused, convert}
+use Rattle.chain.specs.Convert.{Walk, at, outside, placeTests, conversionTests, movedTo, answerOf, convert}
 
 -- no step is refused by itself
 abbrev pub Sound : List Step → Type 0
@@ -73,11 +73,6 @@ entry-area p wanted e =
     let g = both-pass (pointTests p) (placeTests p wanted) tt e in
     head-holds (inArea (p .position)) 9 0 (head-holds (sameRealization (p .realization) wanted) 8 _ (g .1) .1) .0
 
-refused : (n : ℕ) (a : Answer) → (n ≡ 0 → ⊥) → Refused n ≡ unlessRefused n a
-unfolding unlessRefused
-refused zero a h = absurd (h refl)
-refused (suc n) a h = refl
-
 module _ (c : Chain) (p : Point) (wanted reached : Realization) (w : Walk) where
   all-numbered : T (numbered (chainTests c))
   all-numbered = numbered-steps (stepsOf c)
@@ -88,18 +83,18 @@ module _ (c : Chain) (p : Point) (wanted reached : Realization) (w : Walk) where
   pub by-chain : (first (chainTests c) ≡ 0 → ⊥) → Refused (first (chainTests c)) ≡ convert c p wanted reached w
   unfolding convert
   by-chain h =
-      refused (first (chainTests c)) (answerOf p reached w) h
-      ∙ ap (λ (n : ℕ). unlessRefused n (answerOf p reached w)) (sym (stop (chainTests c) (pointTests p ++ placeTests p wanted) h))
+      sym (unless-some (first (chainTests c)) Refused (answerOf p reached w) h)
+      ∙ ap (λ (n : ℕ). unless n Refused (answerOf p reached w)) (sym (stop (chainTests c) (pointTests p ++ placeTests p wanted) h))
 
   pub by-point : first (chainTests c) ≡ 0 → (entry p wanted ≡ 0 → ⊥) → Refused (entry p wanted) ≡ convert c p wanted reached w
   unfolding convert
   by-point e h =
-      refused (entry p wanted) (answerOf p reached w) h
-      ∙ ap (λ (n : ℕ). unlessRefused n (answerOf p reached w)) (sym (chain-passed e))
+      sym (unless-some (entry p wanted) Refused (answerOf p reached w) h)
+      ∙ ap (λ (n : ℕ). unless n Refused (answerOf p reached w)) (sym (chain-passed e))
 
   pub by-walk : first (chainTests c) ≡ 0 → entry p wanted ≡ 0 → answerOf p reached w ≡ convert c p wanted reached w
-  unfolding convert unlessRefused
-  by-walk e h = ap (λ (n : ℕ). unlessRefused n (answerOf p reached w)) (sym h ∙ sym (chain-passed e))
+  unfolding convert
+  by-walk e h = ap (λ (n : ℕ). unless n Refused (answerOf p reached w)) (sym h ∙ sym (chain-passed e))
 
 -- ---- a converted point
 pub record Conversion (c : Chain) (p : Point) (wanted reached : Realization) (w : Walk) (q : Point) : Type 0 where
@@ -108,8 +103,8 @@ pub record Conversion (c : Chain) (p : Point) (wanted reached : Realization) (w 
   pub is : q ≡ movedTo p reached (q .position)
 
 module _ (c : Chain) (p : Point) (wanted reached : Realization) where
-  answered : (n : ℕ) (w : Walk) (q : Point) → unlessRefused n (answerOf p reached w) ≡ Converted q → (n ≡ 0) × (w ≡ at (q .position)) × (q ≡ movedTo p reached (q .position))
-  unfolding unlessRefused answerOf
+  answered : (n : ℕ) (w : Walk) (q : Point) → unless n Refused (answerOf p reached w) ≡ Converted q → (n ≡ 0) × (w ≡ at (q .position)) × (q ≡ movedTo p reached (q .position))
+  unfolding answerOf
   answered zero (at x) q e =
       let f : movedTo p reached x ≡ q = cc in
       (refl, ap (λ (t : Point). at (t .position)) f, sym f ∙ ap (λ (t : Point). movedTo p reached (t .position)) f)

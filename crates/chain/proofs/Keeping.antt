@@ -12,7 +12,7 @@ use lib.Signed.{_≤ℤ_, leZ}
 use lib.ListN.{length, take, getD, set, length-set, length-append}
 use lib.Seq.{sets, take-length, length-sets, getD-set-same, getD-set-other}
 use Rattle.refusal.specs.Numbers as refusal
-use Rattle.refusal.specs.Order.{_gives_, first, pick}
+use Rattle.refusal.specs.Order.{_gives_, first, pick, unless}
 use Rattle.rounding.specs.Zn.{v, k, neg, le, unabs}
 use Rattle.chain.specs.declared.Position.{Position}
 use Rattle.refusal.proofs.Orders.{orElse, first-append, both-pass, head-holds, step-passed}
@@ -21,12 +21,13 @@ use Rattle.chain.specs.declared.Point.{Point}
 use Rattle.chain.specs.declared.Step.{Step}
 use Rattle.chain.specs.declared.steps.Ready.{Ready}
 use Rattle.chain.specs.declared.steps.Ready.the-variants.{Fixed, Turned, Scaled}
+use Rattle.chain.specs.declared.Answer.{Answer}
 use Rattle.chain.specs.declared.Answer.the-variants.{Converted, Refused}
 use Rattle.chain.specs.Ranges.{within, upTo, equal, shiftRange, scaleRange}
 use Rattle.chain.specs.Faults.{stepFault, pointFault, inArea, sameRealization, pointTests, stepTests, joinTest, laterTests, stepsTests, chainTests}
 use Rattle.chain.specs.Axes.{Axis, onX, onY, onZ, coordinate}
 use Rattle.chain.specs.Parts.{plus, forwardBy}
-use Rattle.chain.specs.Convert.{Walk, at, outside, onward, walk, forwardStep, answerOf, startOf, endOf, placeTests, unlessRefused, movedTo, convert, forwardOf}
+use Rattle.chain.specs.Convert.{Walk, at, outside, onward, walk, forwardStep, answerOf, startOf, endOf, placeTests, movedTo, convert, forwardOf}
 use Rattle.chain.specs.Ready.{readyParts, ReadyOk, Prepares}
 use Rattle.chain.specs.Prepared.{numbersOf, readyOf, number, readyAt, readySteps, readyRange, Kept, Keeps, MadeReady, carried, readyTests, forwardReadyOf, chainOf, Readied, Held, Ends}
 use Rattle.chain.proofs.Within.{both, all, up-to}
@@ -199,7 +200,7 @@ module _ (l : List ℤ) (p : Point) (start end : Realization) where
       let w = startOf (p .realization) ss in
       let r = endOf (p .realization) ss in
       rw (take-length ss, reached ss e)
-      (ap₂ unlessRefused (tests ss e (ltb-false 8 (length ss) (n .0)) ∙ sym (placed ss (length ss) w g fault)) (carried-walk p r ss (readySteps l 0 (length ss)) (p .position) held))
+      (ap₂ (λ (m : ℕ) (a : Answer). unless m Refused a) (tests ss e (ltb-false 8 (length ss) (n .0)) ∙ sym (placed ss (length ss) w g fault)) (carried-walk p r ss (readySteps l 0 (length ss)) (p .position) held))
 
 -- ---- a sound chain with one sound step more that joins it
 later-more : (s : Step) (ss : List Step) (t : Step) → first (laterTests s ss) ≡ 0 → stepFault t ≡ 0 → sameRealization (endOf (s .after) ss) (t .before) ≡ true → first (laterTests s (ss ++ (t ∷ []))) ≡ 0

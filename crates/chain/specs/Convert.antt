@@ -3,7 +3,7 @@ use mathlib.Core.Bool.{not}
 use mathlib.Core.List.{List, [], _∷_, _++_, reverse}
 use Prim.Native.Nat.{ℕ, zero, suc}
 use Rattle.refusal.specs.Numbers as refusal
-use Rattle.refusal.specs.Order.{Test, _gives_, first, pick}
+use Rattle.refusal.specs.Order.{Test, _gives_, first, pick, unless}
 use Rattle.chain.specs.declared.Position.{Position}
 use Rattle.chain.specs.declared.Realization.{Realization}
 use Rattle.chain.specs.declared.Point.{Point}
@@ -62,12 +62,8 @@ unfoldable pub answerOf : Point → Realization → Walk → Answer
 answerOf p r (at q) = Converted (movedTo p r q)
 answerOf p r outside = Refused refusal.left
 
-unfoldable pub unlessRefused : ℕ → Answer → Answer
-unlessRefused zero a = a
-unlessRefused (suc n) a = Refused (suc n)
-
 unfoldable pub convert : Chain → Point → Realization → Realization → Walk → Answer
-convert c p wanted reached w = unlessRefused (first (conversionTests c p wanted)) (answerOf p reached w)
+convert c p wanted reached w = unless (first (conversionTests c p wanted)) Refused (answerOf p reached w)
 
 -- forward: from the chain's start to its end, the first step first
 unfoldable pub forwardOf : Chain → Point → Answer

@@ -10,7 +10,7 @@ use lib.Dec.{eqb, ltb}
 use lib.ListN.{length, getD}
 use lib.Seq.{sets}
 use Rattle.refusal.specs.Numbers as refusal
-use Rattle.refusal.specs.Order.{Test, _gives_, first, pick}
+use Rattle.refusal.specs.Order.{Test, _gives_, first, pick, unless}
 use Rattle.chain.specs.declared.Position.{Position}
 use Rattle.chain.specs.declared.Realization.{Realization}
 use Rattle.chain.specs.declared.Point.{Point}
@@ -23,7 +23,7 @@ use Rattle.chain.specs.declared.Answer.the-variants.{Converted, Refused}
 use Rattle.chain.specs.Ranges.{equal, upTo, shiftRange, scaleRange}
 use Rattle.chain.specs.Faults.{inArea, sameRealization, stepFault}
 use Rattle.chain.specs.Parts.{forwardBy}
-use Rattle.chain.specs.Convert.{movedTo, unlessRefused, startOf, endOf}
+use Rattle.chain.specs.Convert.{movedTo, startOf, endOf}
 use Rattle.chain.specs.Ready.{readyParts, Prepares}
 
 -- ---- eight numbers a step: its form, 0 for the same gain everywhere, 1 for Bursa-Wolf, 2 for a frame, and its figures
@@ -88,7 +88,7 @@ readyTests n start p =
 -- the empty chain ends where the point is
 unfoldable pub forwardReadyOf : List ℤ → ℕ → Realization → Realization → Point → Answer
 forwardReadyOf l n start end p =
-    unlessRefused (first (readyTests n start p)) (carried p (pick (eqb n 0) (p .realization) end) (readySteps l 0 n) (p .position))
+    unless (first (readyTests n start p)) Refused (carried p (pick (eqb n 0) (p .realization) end) (readySteps l 0 n) (p .position))
 
 -- ---- the chain of these steps
 abbrev pub chainOf : List Step → Chain

@@ -1,5 +1,5 @@
 -- The later of two point lines: the one with the greater issue; the first where they are byte-equal.
-use Prim.Native.Nat.{ℕ, zero, suc}
+use Prim.Native.Nat.{ℕ}
 use mathlib.Core.Path.{_≡_}
 use mathlib.Core.List.{List, [], _∷_}
 use mathlib.Core.Bool.{Bool, true, false, not, _&&_}
@@ -7,7 +7,7 @@ use lib.Dec.{eqb}
 use lib.Signed.{ltZ}
 use denote.Ref.{RefT, now, ptr}
 use Rattle.refusal.specs.Numbers as refusal
-use Rattle.refusal.specs.Order.{pick, Test, first, _gives_}
+use Rattle.refusal.specs.Order.{pick, Test, first, _gives_, unless}
 use Rattle.chain.specs.declared.Id.{Id}
 use Rattle.chain.specs.declared.Point.{Point}
 use Rattle.line.specs.declared.PointLine.{PointLine}
@@ -33,13 +33,9 @@ sameIssue p q = pick (ltZ (p .issue) (q .issue)) false (not (ltZ (q .issue) (p .
 abbrev pub weighTests : Point → Point → Bool → List Test
 weighTests p q equal = (not (sameName (p .id) (q .id)) gives refusal.ids) ∷ ((sameIssue p q && not equal) gives refusal.same) ∷ []
 
-abbrev pub unless : ℕ → Verdict → Verdict
-unless zero v = v
-unless (suc n) v = Refused (suc n)
-
 -- 16, 17, and then the greater issue
 abbrev pub weighed : Point → Point → Bool → Verdict
-weighed p q equal = unless (first (weighTests p q equal)) (pick (ltZ (p .issue) (q .issue)) Second First)
+weighed p q equal = unless (first (weighTests p q equal)) Refused (pick (ltZ (p .issue) (q .issue)) Second First)
 
 -- 1, 2, 3 of the first line, then of the second
 abbrev pub compared : PointLine → PointLine → Bool → Verdict

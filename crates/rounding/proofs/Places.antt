@@ -12,9 +12,9 @@ use lib.IntN.{ℤ, pos, negsuc, natAbs}
 use lib.Ieee.{Float, nan, inf, fin, binary64, up, down, ofBits}
 use lib.Ieee.Fits.{down-pos}
 use Rattle.refusal.specs.Numbers.{range, size}
-use Rattle.refusal.specs.Order.{pick}
+use Rattle.refusal.specs.Order.{pick, unless}
 use Rattle.rounding.specs.Quotient.{halfUp}
-use Rattle.rounding.specs.Decimals.{Nearest, gap, signed, tooLarge, wholeOf, answer, roundedOf}
+use Rattle.rounding.specs.Decimals.{Nearest, gap, signed, tooLarge, wholeOf, roundedOf}
 use Rattle.rounding.specs.declared.decimals.Rounded.{Rounded}
 use Rattle.rounding.specs.declared.decimals.Rounded.the-variants.{Whole, Refused}
 
@@ -58,7 +58,7 @@ unfolding roundedOf
 refused x p h k = rw (le-ltb 5 p h, k)
 
 -- a whole answer is the value rounded
-kept : (a b : Bool) (v z : ℤ) → answer (pick a range (pick b size 0)) v ≡ Whole z → z ≡ v
+kept : (a b : Bool) (v z : ℤ) → unless (pick a range (pick b size 0)) Refused (Whole v) ≡ Whole z → z ≡ v
 kept true b v z h = cc
 kept false true v z h = cc
 kept false false v z h = cc
@@ -106,7 +106,7 @@ pub outcome : (x : Float) (p : ℕ) (P : Rounded → Type 0) → ((z : ℤ) → 
 unfolding roundedOf
 outcome x p P W R = go (ltb 5 p) (tooLarge x) refl
   where
-    go : (a b : Bool) → tooLarge x ≡ b → P (answer (pick a range (pick b size 0)) (wholeOf x p))
+    go : (a b : Bool) → tooLarge x ≡ b → P (unless (pick a range (pick b size 0)) Refused (Whole (wholeOf x p)))
     go true b e = R range (omega arith)
     go false true e = R size (omega arith)
     go false false e = W (wholeOf x p) (whole-size x p e)

@@ -6,7 +6,7 @@ use lib.IntN.{ℤ, pos, negℤ}
 use lib.Dec.{leb, ltb}
 use lib.Ieee.{Float, nan, inf, fin, up, down}
 use Rattle.refusal.specs.Numbers.{range, size}
-use Rattle.refusal.specs.Order.{_gives_, first}
+use Rattle.refusal.specs.Order.{_gives_, first, unless}
 use Rattle.rounding.specs.Quotient.{halfUp}
 use Rattle.rounding.specs.declared.decimals.Rounded.{Rounded}
 use Rattle.rounding.specs.declared.decimals.Rounded.the-variants.{Whole, Refused}
@@ -38,11 +38,7 @@ wholeOf nan p = pos 0
 wholeOf (inf s) p = pos 0
 wholeOf (fin s m e) p = signed s (halfUp (m * up e * 10 ^ p) (down e))
 
-abbrev pub answer : ℕ → ℤ → Rounded
-answer zero z = Whole z
-answer (suc n) z = Refused (suc n)
-
 -- 0 to 5 places; then the size
 unfoldable pub roundedOf : Float → ℕ → Rounded
 unfolding tooLarge wholeOf
-roundedOf x p = answer (first ((ltb 5 p gives range) ∷ (tooLarge x gives size) ∷ [])) (wholeOf x p)
+roundedOf x p = unless (first ((ltb 5 p gives range) ∷ (tooLarge x gives size) ∷ [])) Refused (Whole (wholeOf x p))

@@ -7,15 +7,13 @@ use lib.IntN.{ℤ, pos, negsuc}
 use mir.Syntax.{w64}
 use mir.Val.{toZ, ofZ}
 use mir.ValLaws.{toZ-ofZ}
-use Rattle.refusal.specs.Order.{_gives_, first}
+use Rattle.refusal.specs.Order.{_gives_, first, unless}
 use Rattle.refusal.specs.Numbers.{range, geodetic}
-use Rattle.angle.specs.Floats.{unless}
 use Rattle.angle.specs.Ranges.{badCode, badHeight, angleTests, cartesianTests, anglesFault}
 use Rattle.angle.specs.Ellipsoids.{ellipsoidOf}
 use Rattle.angle.specs.Cartesian.{cartesianAt, cartesianOf}
 use Rattle.angle.specs.declared.Cartesian.the-variants.{Refused}
-use Rattle.refusal.proofs.Orders.{Passed, passed, none, stop, on}
-use Rattle.angle.proofs.Unless.{unless-some}
+use Rattle.refusal.proofs.Orders.{Passed, passed, none, stop, on, unless-some}
 use Rattle.angle.proofs.Tests.{told}
 use Rattle.angle.proofs.geodetic.cartesian_metres.Statement.{statement}
 use Rattle.angle.proofs.geodetic.cartesian_metres.Tie as tie

@@ -15,8 +15,7 @@ use Rattle.angle.specs.Ranges.{outside, farApart, angleTests, pointTests
 use Rattle.angle.specs.Cassini.{cassiniAt, cassiniFromOf}
 use Rattle.angle.specs.declared.Origin.{Origin}
 use Rattle.angle.specs.declared.Grid.the-variants.{Refused}
-use Rattle.refusal.proofs.Orders.{Passed, passed, none, stop, on}
-use Rattle.angle.proofs.Unless.{unless-some}
+use Rattle.refusal.proofs.Orders.{Passed, passed, none, stop, on, unless-some}
 use Rattle.angle.proofs.Wholes.{Natural, natural, fits, sub-pos, apart-is}
 use Rattle.angle.proofs.projection.cassini_from.Statement.{statement}
 use Rattle.angle.proofs.projection.cassini_from.Tie as tie

@@ -4,7 +4,7 @@ use mathlib.Core.Path.{_≡_, sym, ap, _∙_}
 use Rattle.angle.specs.Ranges.{originFault}
 use Rattle.angle.specs.Cassini.{originMade, originOf}
 use Rattle.angle.specs.declared.OriginAnswer.the-variants.{Made, Refused}
-use Rattle.angle.proofs.Unless.{unless-some, unless-none}
+use Rattle.refusal.proofs.Orders.{unless-some, unless-none}
 use Rattle.angle.proofs.projection.make_origin.Statement.{statement}
 use Rattle.angle.proofs.projection.make_origin.Tie as tie
 

@@ -3,7 +3,6 @@ use mathlib.Core.Bool.{true, false, _||_}
 use lib.Dec.{eqb}
 use borrow.Author.Tests.{lt-ltb, le-ltb, not-true, not-false}
 use Rattle.chain.specs.declared.Realization.{Realization}
-use Rattle.chain.specs.Convert.{unlessRefused}
 use Rattle.chain.specs.Prepared.{carried, readySteps, forwardReadyOf}
 use borrow.Author.Needs.{needs}
 use Rattle.chain.proofs.steps.kept.forward_ready.Statement.{statement}
@@ -17,7 +16,7 @@ use Rattle.chain.proofs.ranges.same_realization.Reads as same-realizati
 
 -- src/kept.rt:138:9
 returns : tie.Need-returns
-unfolding forwardReadyOf unlessRefused
+unfolding forwardReadyOf
 returns c = rw (lt-ltb 8 (c .before .args .length) (c .if1 .taken))
 
 -- src/kept.rt:141:26
@@ -26,7 +25,7 @@ same-realization-requires c κs = tt
 
 -- src/kept.rt:142:9
 returns-2 : tie.Need-returns-2
-unfolding forwardReadyOf unlessRefused
+unfolding forwardReadyOf
 returns-2 c = let e : (eqb (c .before .before .before .before .args .length) 0 || c .before .same-realization .result) ≡ false = not-true _ (c .if2 .taken) in rw (le-ltb 8 (c .before .before .before .before .args .length) (c .before .before .before .if1 .left), ← c .before .same-realization .ensures, e)
 
 -- src/kept.rt:145:9
@@ -35,7 +34,7 @@ in-area-requires c κs = tt
 
 -- src/kept.rt:146:9
 returns-3 : tie.Need-returns-3
-unfolding forwardReadyOf unlessRefused
+unfolding forwardReadyOf
 returns-3 c = let e : (eqb (c .before .before .before .before .before .before .before .args .length) 0 || c .before .before .before .before .same-realization .result) ≡ true = not-false _ (c .before .before .before .if2 .left) in let a = sym (c .before .in-area .ensures) ∙ not-true _ (c .if3 .taken) in rw (le-ltb 8 (c .before .before .before .before .before .before .before .args .length) (c .before .before .before .before .before .before .if1 .left), ← c .before .before .before .before .same-realization .ensures, e, a)
 
 -- src/kept.rt:148:35
@@ -48,7 +47,7 @@ carry-requires c κs = (c .before .before .before .before .before .before .befor
 
 -- src/kept.rt:134:1
 returns-4 : tie.Need-returns-4
-unfolding forwardReadyOf unlessRefused
+unfolding forwardReadyOf
 returns-4 c = let e : (eqb (c .before .before .before .before .before .before .before .before .before .args .length) 0 || c .before .before .before .before .before .before .same-realization .result) ≡ true = not-false _ (c .before .before .before .before .before .if2 .left) in let a = sym (c .before .before .before .in-area .ensures) ∙ not-false _ (c .before .before .if3 .left) in rw (le-ltb 8 (c .before .before .before .before .before .before .before .before .before .args .length) (c .before .before .before .before .before .before .before .before .if1 .left), ← c .before .before .before .before .before .before .same-realization .ensures, e, a) (c .carry .ensures ∙ ap (λ (r : Realization). carried (c .before .before .before .before .before .before .before .before .before .args .point) r (readySteps (c .before .before .before .before .before .before .before .before .before .args .numbers .now) 0 (c .before .before .before .before .before .before .before .before .before .args .length)) (c .before .before .before .before .before .before .before .before .before .args .point .position)) (c .before .end-with .ensures))
 
 pub forward-ready-spec : {M : Type 1} → statement M

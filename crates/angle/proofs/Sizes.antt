@@ -15,7 +15,7 @@ use Rattle.bounds.specs.Zero.{wholes, Upto, ofInt-among}
 use Rattle.angle.specs.Floats.{near, #, whole, k, radians, metres}
 use Rattle.angle.specs.Series.{reciprocal, hornerFrom, horner, sineOf, cosineOf}
 use Rattle.angle.specs.Ranges.{badCode}
-use Rattle.angle.specs.Ellipsoids.{table, shape, ellipsoidOf, primeVertical, arcWith, meridianArc}
+use Rattle.angle.specs.Ellipsoids.{table, shape, figureOf, ellipsoidOf, primeVertical, arcWith, meridianArc}
 use Rattle.angle.specs.declared.Ellipsoid.{Ellipsoid}
 use Rattle.angle.proofs.Formulas.{n, sineF, cosineF, primeVerticalF, meridianArcF}
 use Rattle.angle.proofs.Wholes.{Natural, natural}
@@ -37,7 +37,7 @@ pub record Shaped (e : Ellipsoid) : Type 0 where
   pub flat : Among (e .e2) (from 1 256 1 128)
 
 axis-test : (i : ℕ) → i < 4 → T (within (point (ellipsoidOf (pos (suc i)) .a)) (most 6378137 1))
-unfolding within ellipsoidOf table shape near round
+unfolding within figureOf ellipsoidOf table shape near round
 axis-test zero h = tt
 axis-test (suc zero) h = tt
 axis-test (suc (suc zero)) h = tt
@@ -45,7 +45,7 @@ axis-test (suc (suc (suc zero))) h = tt
 axis-test (suc (suc (suc (suc i)))) h = absurd (past i h)
 
 flat-test : (i : ℕ) → i < 4 → T (within (point (ellipsoidOf (pos (suc i)) .e2)) (from 1 256 1 128))
-unfolding within ellipsoidOf table shape near round mul div sub
+unfolding within figureOf ellipsoidOf table shape near round mul div sub
 flat-test zero h = tt
 flat-test (suc zero) h = tt
 flat-test (suc (suc zero)) h = tt

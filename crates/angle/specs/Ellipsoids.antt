@@ -28,12 +28,17 @@ unfoldable pub shape : Figure → Ellipsoid
 unfolding near
 shape r = let f = # 1 ⊘ r .«inverse_flattening» in record { a = r .a; e2 = f ⊗ (# 2 ⊖ f) }
 
--- a code's ellipsoid. A code that is not of the table is refused, so what is said of it here is used by nobody.
+-- a code's row. A code that is not of the table is refused, so what is said of it here is used by nobody.
+unfoldable pub figureOf : ℤ → Figure
+unfolding table near
+figureOf (pos (suc n)) = getD table n (row (# 0) (# 0))
+figureOf (pos zero) = row (# 0) (# 0)
+figureOf (negsuc n) = row (# 0) (# 0)
+
+-- and its ellipsoid
 unfoldable pub ellipsoidOf : ℤ → Ellipsoid
-unfolding table shape near
-ellipsoidOf (pos (suc n)) = shape (getD table n (row (# 0) (# 0)))
-ellipsoidOf (pos zero) = shape (row (# 0) (# 0))
-ellipsoidOf (negsuc n) = shape (row (# 0) (# 0))
+unfolding figureOf shape
+ellipsoidOf z = shape (figureOf z)
 
 -- ν = a (1 + q (1/2 + q (3/8 + q (5/16 + q 35/128)))), with q = e2 (sinφ sinφ)
 unfoldable pub primeVertical : Ellipsoid → Float → Float

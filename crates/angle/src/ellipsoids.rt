@@ -1,10 +1,9 @@
 // The four ellipsoids, the prime vertical radius and the meridian's length.
 ghost use mathlib.Core.Path.{_≡_};
-ghost use Rattle.angle.specs.Ranges.{badCode};
-ghost use Rattle.angle.specs.Ellipsoids.{ellipsoidOf, primeVertical, arcWith, meridianArc};
-ghost use mathlib.Core.Bool.{false};
+ghost use Rattle.angle.specs.Ellipsoids.{figureOf, ellipsoidOf, primeVertical, arcWith, meridianArc};
 use crate::Ellipsoid;
 use crate::Figure;
+use crate::faults::is_outside;
 use crate::series::sine;
 
 // Codes 1 to 4: GRS80, WGS84, Everest 1830 Modified, Everest 1967.
@@ -27,14 +26,26 @@ const ELLIPSOIDS: [Figure; 4] = [
     },
 ];
 
-// The ellipsoid of a code from 1 to 4.
-pub(crate) fn ellipsoid(code: i64) -> Ellipsoid
-    requires { ⌜ badCode code ≡ false ⌝ }
-    ensures { λ r. ⌜ r ≡ ellipsoidOf code ⌝ }
+// The row of a code from 1 to 4. Any other code has a row of zeros, which nobody uses: its caller refuses the code.
+fn figure(code: i64) -> Figure
+    ensures { λ r. ⌜ r ≡ figureOf code ⌝ }
 {
+    if is_outside(code, 1, 4) {
+        return Figure {
+            a: 0.0,
+            inverse_flattening: 0.0,
+        };
+    }
     let table = ELLIPSOIDS;
     let i = (code - 1) as usize;
-    let row = table[i];
+    table[i]
+}
+
+// The ellipsoid of a code.
+pub(crate) fn ellipsoid(code: i64) -> Ellipsoid
+    ensures { λ r. ⌜ r ≡ ellipsoidOf code ⌝ }
+{
+    let row = figure(code);
     let f = 1.0 / row.inverse_flattening;
     Ellipsoid {
         a: row.a,

@@ -2,19 +2,42 @@
 ghost use mathlib.Core.Path.{_≡_};
 ghost use lib.ListN.{length};
 ghost use Rattle.capi.specs.Outcome.{Answered};
-ghost use Rattle.capi.specs.Chains.{wholeSteps};
+ghost use Rattle.capi.specs.Chains.{wholeSteps, pointFrom};
 ghost use Rattle.capi.specs.Calls.{ofAnswer, forwardCall, inverseCall};
 use crate::WRONG_LENGTH;
 use crate::decode::chain_from;
-use crate::decode::point_from;
 use crate::status::status;
 use chain::Answer;
+use chain::Id;
+use chain::Point;
+use chain::Position;
+use chain::Realization;
 
 // Whether the chain has whole steps, the point its six numbers, and the output room for six.
 fn are_sized(chain: usize, point: usize, out: usize) -> bool
     ensures { λ r. ⌜ r ≡ wholeSteps chain point out ⌝ }
 {
     (chain % 13 == 0) & (point == 6) & (out == 6)
+}
+
+// A point of six numbers: issue, datum, epoch, X, Y, Z. Its id stays with the caller.
+fn point_from(n: &[i64]) -> Point
+    requires { ⌜ length (now n) ≡ 6 ⌝ }
+    ensures { λ r. ⌜ r ≡ pointFrom (now (n .entry)) ⌝ }
+{
+    Point {
+        id: Id { high: 0, low: 0 },
+        issue: n[0],
+        realization: Realization {
+            datum: n[1],
+            epoch: n[2],
+        },
+        position: Position {
+            x: n[3],
+            y: n[4],
+            z: n[5],
+        },
+    }
 }
 
 // Writes a converted point, or answers the refusal.

@@ -1,15 +1,12 @@
-// A chain and a point out of numbers.
+// A chain out of numbers.
 ghost use mathlib.Core.Path.{_≡_};
 ghost use Prim.Native.Nat.{_≤_};
 ghost use lib.ListN.{length, drop};
-ghost use Rattle.capi.specs.Chains.{pointFrom, bursaWolfFrom, turnedFrom, kindFrom, stepFrom, noStep, placeFrom, chainFrom, unknown as Chains·unknown, shiftFrom, velocityFrom};
+ghost use Rattle.capi.specs.Chains.{bursaWolfFrom, turnedFrom, kindFrom, stepFrom, noStep, placeFrom, chainFrom, unknown as Chains·unknown, shiftFrom, velocityFrom};
 use chain::BursaWolf;
 use chain::Chain;
 use chain::Convention;
-use chain::Id;
 use chain::Kind;
-use chain::Point;
-use chain::Position;
 use chain::Realization;
 use chain::Shift;
 use chain::Step;
@@ -31,26 +28,6 @@ const FRAME: i64 = b'F' as i64;
 const POSITION_VECTOR: i64 = b'P' as i64;
 
 const COORDINATE_FRAME: i64 = b'C' as i64;
-
-// A point of six numbers: issue, datum, epoch, X, Y, Z. Its id stays with the caller.
-pub(crate) fn point_from(n: &[i64]) -> Point
-    requires { ⌜ length (now n) ≡ 6 ⌝ }
-    ensures { λ r. ⌜ r ≡ pointFrom (now (n .entry)) ⌝ }
-{
-    Point {
-        id: Id { high: 0, low: 0 },
-        issue: n[0],
-        realization: Realization {
-            datum: n[1],
-            epoch: n[2],
-        },
-        position: Position {
-            x: n[3],
-            y: n[4],
-            z: n[5],
-        },
-    }
-}
 
 // What stands for a kind or a convention that is not known.
 fn unknown() -> Kind

@@ -90,9 +90,7 @@ all-passed c =
     (code (c .before .before .before .before .before) false (c .before .before .before .before .if1 .left), (p .0, (p .1 .0, (height (c .before) false (c .if3 .left), tt))))
 
 ellipsoid-requires : tie.Need-ellipsoid-requires
-ellipsoid-requires c κs =
-    let a = c .before .before .before .before .before .before in
-    rw (toZ-ofZ w64 (a .args .code) (a .fits .code)) (all-passed c .0)
+ellipsoid-requires c κs = search needs
 
 position-requires : tie.Need-position-requires
 position-requires c κs =

@@ -20,9 +20,7 @@ unfolding originFault
 tests c = passed (originTests (c .args .o)) tt (c .pre)
 
 ellipsoid-requires : tie.Need-ellipsoid-requires
-ellipsoid-requires c κs =
-    let f : SFits w64 (c .before .args .o .ellipsoid) = search needs in
-    rw (toZ-ofZ w64 (c .before .args .o .ellipsoid) f) (tests (c .before) .0)
+ellipsoid-requires c κs = search needs
 
 int-to-float-radians : tie.Need-int-to-float-radians
 int-to-float-radians c =

@@ -1,9 +1,9 @@
--- `capi::decode::point_from` meets its contract: each number is read where it stands. Assumes nothing.
+-- `capi::conversion::point_from` meets its contract: each number is read where it stands. Assumes nothing.
 use borrow.Author.Needs.{needs}
 use Rattle.capi.specs.Chains.{pointFrom}
 use Rattle.rounding.specs.Machine.{told}
-use Rattle.capi.proofs.decode.point_from.Statement.{statement}
-use Rattle.capi.proofs.decode.point_from.Tie as tie
+use Rattle.capi.proofs.conversion.point_from.Statement.{statement}
+use Rattle.capi.proofs.conversion.point_from.Tie as tie
 
 shared-slice-copy-out-t4 : tie.Need-shared-slice-copy-out-t4
 shared-slice-copy-out-t4 c = search needs

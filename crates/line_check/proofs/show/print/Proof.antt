@@ -1,9 +1,10 @@
+-- `line_check::show::print` meets its contract. Assumes nothing.
 use mathlib.Core.Path.{sym}
 use native.Mathlib.Omega.{arith}
 use lib.Seq.{length-take-le}
 use borrow.Author.Needs.{needs}
-use Rattle.line_check.proofs.print.Statement.{statement}
-use Rattle.line_check.proofs.print.Tie as tie
+use Rattle.line_check.proofs.show.print.Statement.{statement}
+use Rattle.line_check.proofs.show.print.Tie as tie
 
 slice-aggregate-write-all : tie.Need-slice-aggregate-write-all
 slice-aggregate-write-all c = sym (length-take-le _ _ (omega arith))

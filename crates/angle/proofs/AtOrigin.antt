@@ -1,13 +1,13 @@
 -- The exact case: every accepted origin goes to exactly its false easting and northing, as f64. There the difference of longitudes and that of the arcs are
 -- zeros, so what is added to the false easting and northing is a zero, by a computed bound; and x plus a zero is x, unless x is -0. Assumes nothing.
-use mathlib.Core.Path.{_≡_, refl, sym, ap, ap₂, _∙_}
+use mathlib.Core.Path.{_≡_, refl, ap, ap₂, _∙_}
 use mathlib.Core.Logic.{_⊎_, inl, inr}
 use mathlib.Core.List.{List, [], _∷_}
 use mathlib.Core.Bool.{Bool, true, false}
-use Prim.Native.Nat.{ℕ, suc, _≤_, _<_, zero-le}
+use Prim.Native.Nat.{suc, _≤_, _<_, zero-le}
 use native.Mathlib.Nat.{zero-lt-suc}
 use lib.Dec.{T, lit<, lit≤}
-use lib.IntN.{ℤ, pos, negsuc, _-ℤ_, +ℤ-invr}
+use lib.IntN.{ℤ, pos, negsuc, +ℤ-invr}
 use lib.Ieee.{Float, binary64, unlike, round, add, mul, sub, div, ofInt, fits}
 use lib.Ieee.Fits.{div-fits}
 use lib.Ieee.Scale.{finite}
@@ -21,9 +21,7 @@ use Rattle.angle.specs.Ranges.{outside, farApart, originTests, pointTest
 use Rattle.angle.specs.Series.{sineOf, cosineOf}
 use Rattle.angle.specs.Ellipsoids.{ellipsoidOf, primeVertical, meridianArc}
 use Rattle.angle.specs.Cassini.{originMade, cassiniWith, cassiniAt, cassiniOf}
-use Rattle.angle.specs.declared.Origin.{Origin}
 use Rattle.angle.specs.declared.OriginNumbers.{OriginNumbers}
-use Rattle.angle.specs.declared.Grid.{Grid}
 use Rattle.angle.specs.declared.Grid.the-variants.{Metres, Refused}
 use Rattle.refusal.proofs.Orders as orders
 use Rattle.refusal.proofs.Orders.{Passed, passed, both, unless-none}

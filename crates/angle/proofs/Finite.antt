@@ -1,14 +1,14 @@
 -- No NaN and no infinity: for every input that is not refused, every f64 answer is finite and within a stated bound. The bounds are below 10,000,000 m, so the
 -- calls in whole units never refuse a point that the calls in metres answer. Assumes nothing.
-use mathlib.Core.Path.{_≡_, refl, sym, ap, ap₂, _∙_, subst}
+use mathlib.Core.Path.{_≡_, refl, sym, ap, _∙_, subst}
 use mathlib.Core.List.{List, [], _∷_}
-use mathlib.Core.Bool.{Bool, true, false}
+use mathlib.Core.Bool.{false}
 use Prim.Native.Nat.{ℕ, zero, suc, _+_, _-_, _*_, _≤_, _<_}
 use native.Mathlib.Nat.{mul-le-mul-right}
 use native.Mathlib.Omega.{arith}
 use borrow.Author.Tests.{lt-leb}
 use lib.Dec.{T, lit≤, lit<}
-use lib.IntN.{ℤ, pos, negsuc, _-ℤ_}
+use lib.IntN.{ℤ, pos, _-ℤ_}
 use lib.Ieee.{Float, nan, inf, fin, binary64, round, neg, sub, div, up, down}
 use lib.Ieee.Fits.{down-pos}
 use lib.Ieee.Scale.{finite}
@@ -24,10 +24,9 @@ use Rattle.angle.specs.Floats.{near, #, whole, k, radians, metres}
 use Rattle.angle.specs.Ranges.{cartesianTests, originTests, pointTests, cassiniTests}
 use Rattle.angle.specs.Series.{reciprocal, sineOf, cosineOf}
 use Rattle.angle.specs.Ellipsoids.{ellipsoidOf, primeVertical, meridianArc}
-use Rattle.angle.specs.Cartesian.{cartesianAt, cartesianOf, three, inUnits, cartesianUnitsOf}
-use Rattle.angle.specs.Cassini.{originMade, cassiniWith, cassiniAt, cassiniOf, two, inMillimetres, cassiniMillimetresOf}
+use Rattle.angle.specs.Cartesian.{cartesianAt, cartesianOf, inUnits, cartesianUnitsOf}
+use Rattle.angle.specs.Cassini.{originMade, cassiniWith, cassiniAt, cassiniOf, inMillimetres, cassiniMillimetresOf}
 use Rattle.angle.specs.declared.Ellipsoid.{Ellipsoid}
-use Rattle.angle.specs.declared.Origin.{Origin}
 use Rattle.angle.specs.declared.OriginNumbers.{OriginNumbers}
 use Rattle.angle.specs.declared.Cartesian.{Cartesian}
 use Rattle.angle.specs.declared.Cartesian.the-variants as cartesian
@@ -38,7 +37,7 @@ use Rattle.angle.specs.declared.GridMillimetres.the-variants.{Millimetre
 use Rattle.refusal.proofs.Orders.{Passed, passed}
 use Rattle.angle.proofs.Formulas.{sineF, cosineF, eastF, northF, axisF, polarF}
 use Rattle.angle.proofs.Sizes.{from, most, Shaped, shaped, radians-among, parts-among, sine-among, cosine-among, sine-latitude, cosine-latitude, radius-among, arc-among, metres-among}
-use Rattle.angle.proofs.Wholes.{Natural, natural, natural-upto, upto, sub-pos}
+use Rattle.angle.proofs.Wholes.{natural, natural-upto, upto, sub-pos}
 
 -- what is not refused passed every test
 given : {A : Type 0} (f : ℕ) (r : ℕ → A) (a : A) (P : A → Type 0) → ((i : ℕ) → P (r i)) → (f ≡ 0 → P a) → P (unless f r a)

@@ -8,10 +8,8 @@ use Rattle.angle.specs.Ranges.{originTests, pointTests, originFault}
 use Rattle.angle.specs.Cassini.{originMade, originOf, cassiniAt, cassiniFromOf, cassiniOf}
 use Rattle.angle.specs.declared.Origin.{Origin}
 use Rattle.angle.specs.declared.OriginNumbers.{OriginNumbers}
-use Rattle.angle.specs.declared.OriginAnswer.{OriginAnswer}
 use Rattle.angle.specs.declared.OriginAnswer.the-variants.{Made}
 use Rattle.angle.specs.declared.OriginAnswer.the-variants as answer
-use Rattle.angle.specs.declared.Grid.{Grid}
 use Rattle.angle.specs.declared.Grid.the-variants.{Refused}
 use Rattle.refusal.proofs.Orders.{passed, stop, on, unless-some}
 

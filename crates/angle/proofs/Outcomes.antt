@@ -1,7 +1,5 @@
 -- What the Cassini call in whole millimetres can answer: numbers of at most 10,000,000,000 mm, or a number of the refusal table. Assumes nothing.
-use mathlib.Core.Path.{_≡_, refl}
 use Prim.Native.Nat.{ℕ, zero, suc, _≤_, _<_}
-use native.Mathlib.Omega.{arith}
 use lib.IntN.{ℤ, natAbs}
 use lib.Ieee.{Float}
 use Rattle.refusal.specs.Order.{first, unless}

@@ -1,16 +1,16 @@
 -- How large each quantity can be, for numbers in their ranges: every bound is one computed test (`proved`, by `tt`). The intervals are of sizes, signs left aside.
 -- Assumes nothing.
-use mathlib.Core.Path.{_≡_, refl, sym, subst}
+use mathlib.Core.Path.{_≡_, sym, subst}
 use mathlib.Core.Bool.{false}
-use mathlib.Core.List.{List, [], _∷_}
+use mathlib.Core.List.{[], _∷_}
 use Prim.Native.Nat.{ℕ, zero, suc, _≤_, _<_}
 use native.Mathlib.Omega.{arith}
 use lib.Dec.{T}
 use lib.IntN.{ℤ, pos}
-use lib.Ieee.{Float, binary64, round, neg, div, mul, sub, ofInt}
+use lib.Ieee.{Float, binary64, round, neg, div, mul, sub}
 use lib.Ieee.Scale.{finite}
 use Rattle.bounds.specs.Among.{Ends, Among, point, closed, within}
-use Rattle.bounds.specs.Formula.{Formula, var, lit, plus, minus, times, over, All, none, also, value, bounds, test, proved}
+use Rattle.bounds.specs.Formula.{var, lit, times, over, none, also, value, bounds, test, proved}
 use Rattle.bounds.specs.Zero.{wholes, Upto, ofInt-among}
 use Rattle.angle.specs.Floats.{near, #, whole, k, radians, metres}
 use Rattle.angle.specs.Series.{reciprocal, hornerFrom, horner, sineOf, cosineOf}

@@ -7,7 +7,7 @@ use lib.Ieee.{Float, binary64, add, sub, mul, div, neg, round, ofInt, ofBits}
 use Rattle.refusal.specs.Numbers.{range, geodetic}
 use Rattle.refusal.specs.Numbers as numbers
 use Rattle.angle.specs.Floats.{near, k, radians, metres}
-use Rattle.angle.specs.Ranges.{outside, originFault}
+use Rattle.angle.specs.Ranges.{outside}
 use Rattle.angle.specs.Series.{reciprocal, hornerFrom, horner, sineOf, cosineOf}
 use Rattle.angle.specs.Ellipsoids.{table, shape, figureOf, ellipsoidOf, primeVertical, arcWith, meridianArc}
 use Rattle.angle.specs.Cartesian.{cartesianAt, cartesianOf}

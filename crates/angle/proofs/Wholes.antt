@@ -1,14 +1,14 @@
 -- What a passed range test says of a whole number: that it is a natural number between the ends, or its size; and so that it fits an i64 and is an f64 exactly.
 -- Assumes nothing.
-use mathlib.Core.Path.{_≡_, refl, sym, ap, ap₂, _∙_, subst}
+use mathlib.Core.Path.{_≡_, refl, sym, ap, _∙_, subst}
 use mathlib.Core.Bool.{Bool, true, false, _||_, cond}
-use Prim.Native.Nat.{ℕ, zero, suc, _+_, _-_, _*_, _^_, _≤_, _<_}
+use Prim.Native.Nat.{ℕ, zero, suc, _+_, _-_, _^_, _≤_, _<_}
 use native.Mathlib.Nat.{le-trans, lt-of-le-of-lt, lt-of-lt-of-le}
 use native.Mathlib.Omega.{arith}
 use borrow.Author.Tests.{ltb-false, ltb-true, lt-ltb, le-ltb}
 use lib.Dec.{T, leb, ltb, leb→le, le→leb, lt→ltb, lit≤, lit<}
-use lib.IntN.{ℤ, pos, negsuc, negℤ, _-ℤ_, _+ℤ_, subℕ}
-use lib.Signed.{ltZ, mag}
+use lib.IntN.{ℤ, pos, negsuc, _-ℤ_, subℕ}
+use lib.Signed.{ltZ}
 use lib.Ieee.{binary64, inFloat}
 use mir.Syntax.{w64}
 use mir.Val.{SFits}

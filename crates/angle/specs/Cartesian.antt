@@ -1,7 +1,6 @@
 -- Geodetic to Cartesian, in the order written.
-use Prim.Native.Nat.{ℕ}
 use lib.IntN.{ℤ, pos, _-ℤ_}
-use lib.Ieee.{Float, neg}
+use lib.Ieee.{neg}
 use Rattle.refusal.specs.Order.{first, unless}
 use Rattle.rounding.specs.Decimals.{roundedOf}
 use Rattle.rounding.specs.declared.decimals.Rounded.{Rounded}

@@ -1,6 +1,5 @@
 -- Cassini-Soldner, forward, in the order written.
-use Prim.Native.Nat.{ℕ}
-use lib.IntN.{ℤ, pos, _-ℤ_}
+use lib.IntN.{ℤ, _-ℤ_}
 use lib.Ieee.{Float}
 use Rattle.refusal.specs.Order.{first, unless}
 use Rattle.rounding.specs.Decimals.{roundedOf}

@@ -1,5 +1,5 @@
 -- The four ellipsoids, the prime vertical radius and the meridian's length.
-use Prim.Native.Nat.{ℕ, zero, suc, _^_}
+use Prim.Native.Nat.{zero, suc, _^_}
 use mathlib.Core.List.{List, [], _∷_}
 use lib.IntN.{ℤ, pos, negsuc}
 use lib.ListN.{getD}

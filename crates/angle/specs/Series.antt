@@ -2,8 +2,7 @@
 use Prim.Native.Nat.{ℕ, zero, suc, _*_}
 use mathlib.Core.List.{List, [], _∷_}
 use lib.Ieee.{Float, neg}
-use lib.IntN.{pos}
-use Rattle.angle.specs.Floats.{_⊗_, _⊘_, _⊕_, near, #, whole}
+use Rattle.angle.specs.Floats.{_⊗_, _⊘_, _⊕_, near, #}
 
 abbrev pub factorial : ℕ → ℕ
 factorial zero = 1

@@ -1,7 +1,6 @@
 // Geodetic to Cartesian.
 ghost use mathlib.Core.Path.{_≡_};
 ghost use mathlib.Core.Bool.{false};
-ghost use Rattle.refusal.specs.Order.{first};
 ghost use Rattle.angle.specs.Ranges.{badLatitude, badLongitude, badHeight};
 ghost use Rattle.angle.specs.Cartesian.{cartesianAt, cartesianOf, three, inUnits, cartesianUnitsOf};
 use crate::Cartesian;

@@ -1,19 +1,16 @@
 -- What a conversion that is not refused went by: no test failed, and the walk ended where the answer says. Assumes nothing.
 use mathlib.Core.Path.{_≡_, refl, sym, _∙_, ap}
-use mathlib.Core.Bool.{Bool, true, false, not}
+use mathlib.Core.Bool.{true}
 use mathlib.Core.List.{List, [], _∷_, _++_}
 use Prim.Native.Nat.{ℕ, zero, suc, _≤_}
-use native.Mathlib.Omega.{arith}
 use borrow.Author.Tests.{ltb-false}
 use lib.Dec.{T, ltb}
-use Rattle.refusal.specs.Order.{Test, first, pick, unless}
+use Rattle.refusal.specs.Order.{first, unless}
 use Rattle.refusal.proofs.Orders.{numbered, passed, step-passed, head-holds, stop, on, both-pass, unless-some}
-use Rattle.chain.specs.declared.Position.{Position}
 use Rattle.chain.specs.declared.Realization.{Realization}
 use Rattle.chain.specs.declared.Point.{Point}
 use Rattle.chain.specs.declared.Step.{Step}
 use Rattle.chain.specs.declared.Chain.{Chain}
-use Rattle.chain.specs.declared.Answer.{Answer}
 use Rattle.chain.specs.declared.Answer.the-variants.{Converted, Refused}
 use Rattle.chain.specs.Faults.{sameRealization, inArea, pointTests, stepTests, stepFault, joinTest, laterTests, stepsTests, chainTests, stepsOf}
 use Rattle.chain.specs.Convert.{Walk, at, outside, placeTests, conversionTests, movedTo, answerOf, convert}

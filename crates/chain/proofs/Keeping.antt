@@ -1,6 +1,6 @@
 -- A chain kept ready holds its steps, and what is answered from it is what the conversion answers. Assumes nothing.
 use mathlib.Core.Path.{_≡_, refl, sym, _∙_, ap, ap₂, subst}
-use mathlib.Core.Bool.{Bool, true, false, not, _&&_, _||_}
+use mathlib.Core.Bool.{Bool, true, false, _&&_}
 use mathlib.Core.List.{List, [], _∷_, _++_}
 use Prim.Native.Nat.{ℕ, zero, suc, _+_, _*_, _-_, _<_, _≤_}
 use native.Mathlib.Nat.{add-zero}
@@ -9,7 +9,7 @@ use borrow.Author.Tests.{lt-ltb, le-ltb, eq-eqb, ne-eqb, ltb-false}
 use lib.Dec.{T, ltb, eqb}
 use lib.IntN.{ℤ, pos, negℤ, natAbs}
 use lib.Signed.{_≤ℤ_, leZ}
-use lib.ListN.{length, take, getD, set, length-set, length-append}
+use lib.ListN.{length, getD, set, length-set, length-append}
 use lib.Seq.{sets, take-length, length-sets, getD-set-same, getD-set-other}
 use Rattle.refusal.specs.Numbers as refusal
 use Rattle.refusal.specs.Order.{_gives_, first, pick, unless}
@@ -27,7 +27,7 @@ use Rattle.chain.specs.Ranges.{within, upTo, equal, shiftRange, scaleRan
 use Rattle.chain.specs.Faults.{stepFault, pointFault, inArea, sameRealization, pointTests, stepTests, joinTest, laterTests, stepsTests, chainTests}
 use Rattle.chain.specs.Axes.{Axis, onX, onY, onZ, coordinate}
 use Rattle.chain.specs.Parts.{plus, forwardBy}
-use Rattle.chain.specs.Convert.{Walk, at, outside, onward, walk, forwardStep, answerOf, startOf, endOf, placeTests, movedTo, convert, forwardOf}
+use Rattle.chain.specs.Convert.{at, outside, onward, walk, forwardStep, answerOf, startOf, endOf, placeTests, movedTo, convert, forwardOf}
 use Rattle.chain.specs.Ready.{readyParts, ReadyOk, Prepares}
 use Rattle.chain.specs.Prepared.{numbersOf, readyOf, number, readyAt, readySteps, readyRange, Kept, Keeps, MadeReady, carried, readyTests, forwardReadyOf, chainOf, Readied, Held, Ends}
 use Rattle.chain.proofs.Within.{both, all, up-to}

@@ -1,20 +1,20 @@
 -- The steps of a chain by their places: what is left to examine or to walk from a place on. Assumes nothing.
-use mathlib.Core.Path.{_≡_, refl, sym, _∙_, ap, subst}
-use mathlib.Core.List.{List, [], _∷_, _++_, reverse, reverseAux-eq, reverse-append}
-use Prim.Native.Nat.{ℕ, zero, suc, _+_, _≤_, _<_}
+use mathlib.Core.Path.{_≡_, refl, sym, _∙_, ap}
+use mathlib.Core.List.{List, [], _∷_, _++_, reverse, reverse-append}
+use Prim.Native.Nat.{ℕ, zero, suc, _+_, _<_}
 use native.Mathlib.Nat as NatL
 use native.Mathlib.Numerals.{add-one}
 use native.Mathlib.Omega.{arith}
 use lib.IntN.{pos}
 use lib.ListN.{length, take, drop, getD, length-take}
 use lib.Seq.{take-suc, drop-cons, getD-take}
-use Rattle.refusal.specs.Order.{Test, first}
+use Rattle.refusal.specs.Order.{first}
 use Rattle.chain.specs.declared.Position.{Position}
 use Rattle.chain.specs.declared.Realization.{Realization}
 use Rattle.chain.specs.declared.Kind.the-variants.{Shift}
 use Rattle.chain.specs.declared.Step.{Step}
 use Rattle.chain.specs.Faults.{stepFault, stepTests, joinTest, laterTests, stepsTests}
-use Rattle.chain.specs.Convert.{Walk, onward, kept, walk, startOf, endOf}
+use Rattle.chain.specs.Convert.{onward, kept, walk, startOf, endOf}
 use Rattle.refusal.proofs.Orders.{orElse, first-append}
 use Rattle.chain.proofs.Accepted.{Sound}
 

@@ -21,11 +21,11 @@ use Rattle.chain.specs.declared.steps.Ready.{Ready}
 use Rattle.chain.specs.declared.steps.Ready.the-variants.{Fixed, Turned, Scaled}
 use Rattle.chain.specs.Faults.{stepFault}
 use Rattle.chain.specs.Rows.{rowOf}
-use Rattle.chain.specs.Parts.{Part, Parts, linear, part, gain, fixed, signed, radians, shiftAt, scaleAt, shiftParts, velocityParts, bursaWolfParts, frameParts, kindParts, partsOf}
+use Rattle.chain.specs.Parts.{Parts, linear, part, gain, fixed, signed, radians, shiftAt, scaleAt, shiftParts, velocityParts, bursaWolfParts, frameParts, kindParts, partsOf}
 use Rattle.chain.specs.Axes.{Axis, onX, onY, onZ, coordinate, partOn, Small}
-use Rattle.chain.specs.Ready.{readyParts, slopeParts, ReadyOk, TurnOk, ScaleOk, Prepares}
+use Rattle.chain.specs.Ready.{readyParts, slopeParts, ReadyOk, Prepares}
 use Rattle.chain.proofs.StepLaws.{Mild, Milds, nothing, part-small}
-use Rattle.chain.proofs.Sizes.{StepOk, step-ok, milds, fixed-mild, turned-mild, shift-ok, velocity-ok, velocity-years, moved-size, bursa-wolf-ok, turned-size, row-ok, frame-years, shift-at-size, scale-at-size}
+use Rattle.chain.proofs.Sizes.{StepOk, step-ok, milds, fixed-mild, turned-mild, shift-ok, velocity-ok, velocity-years, bursa-wolf-ok, turned-size, row-ok, frame-years, shift-at-size, scale-at-size}
 
 abbrev pub position : ℤ → ℤ → ℤ → Position
 position x y z = record { x = x; y = y; z = z }

@@ -6,7 +6,7 @@ use Prim.Native.Nat.{ℕ, _+_, _≤_}
 use native.Mathlib.Nat as NatL
 use native.Mathlib.Omega.{arith}
 use lib.Dec.{lit≤}
-use lib.ListN.{length, take, length-take}
+use lib.ListN.{length, length-take}
 use lib.IntN.{ℤ, natAbs, _-ℤ_}
 use Rattle.rounding.specs.Zn.{v, eq, unabs, _⊖_}
 use Rattle.rounding.specs.Machine.{of₃}
@@ -19,16 +19,16 @@ use Rattle.chain.specs.declared.Kind.the-variants.{Shift, Velocity, Burs
 use Rattle.chain.specs.declared.Step.{Step}
 use Rattle.chain.specs.declared.Chain.{Chain}
 use Rattle.chain.specs.declared.Answer.the-variants.{Converted}
-use Rattle.chain.specs.Faults.{inArea, sameRealization, stepFault, stepsOf}
-use Rattle.chain.specs.Parts.{kindParts, partsOf, forwardBy, inverseBy}
-use Rattle.chain.specs.Axes.{Axis, onX, onY, onZ, coordinate, Small}
-use Rattle.chain.specs.Convert.{Walk, at, walk, forwardStep, inverseStep, startOf, endOf, movedTo, forwardOf, inverseOf}
+use Rattle.chain.specs.Faults.{inArea, sameRealization, stepsOf}
+use Rattle.chain.specs.Parts.{kindParts, forwardBy, inverseBy}
+use Rattle.chain.specs.Axes.{onX, onY, onZ, Small}
+use Rattle.chain.specs.Convert.{at, walk, forwardStep, inverseStep, startOf, endOf, movedTo, forwardOf, inverseOf}
 use Rattle.chain.specs.RoundTrip.{inexact, inexactSteps, Returned, RoundTrip}
 use Rattle.chain.proofs.Within.{same-is, area-small}
 use Rattle.chain.proofs.StepLaws.{Off, off-le, off-self, small-le, inverse-off, inverse-exact, forward-off, forward-exact}
 use Rattle.chain.proofs.Sizes.{StepOk, step-ok, kind-mild, shift-flat, velocity-flat}
 use Rattle.chain.proofs.Walk.{walk-step, walk-last, walk-area, at-is}
-use Rattle.chain.proofs.Accepted.{Sound, Accepted, Conversion, converted}
+use Rattle.chain.proofs.Accepted.{Sound, converted}
 
 -- ---- one step of any kind: nothing is added by a shift or a velocity, one unit by Bursa-Wolf or a frame
 module _ (r a : Realization) where

@@ -1,15 +1,15 @@
 -- The four kinds of step are mild where their numbers are in range and their rules kept, and shifts and velocities are flat. Assumes nothing.
-use mathlib.Core.Path.{_≡_, refl, sym, _∙_, ap, subst}
+use mathlib.Core.Path.{_≡_, refl}
 use mathlib.Core.Bool.{Bool, true, false, not, Bool·beq, _&&_, _||_}
 use mathlib.Core.List.{List, []}
 use Prim.Native.Nat.{ℕ, zero, suc, _+_, _*_, _-_, _<_, _≤_}
 use native.Mathlib.Nat as NatL
 use native.Mathlib.Omega.{arith}
 use lib.Dec.{lit<, lit≤}
-use lib.IntN.{ℤ, pos, negℤ, natAbs, _+ℤ_, _-ℤ_, _*ℤ_}
+use lib.IntN.{ℤ, pos, negℤ, natAbs, _-ℤ_, _*ℤ_}
 use lib.ListN.{getD}
 use Rattle.refusal.specs.Order.{pick}
-use Rattle.rounding.specs.Zn.{P, N, v, k, neg, _⊖_, _⊗_, abs, unabs, unle, mul-le, add-le, abs-neg}
+use Rattle.rounding.specs.Zn.{v, k, _⊖_, _⊗_, abs, unabs, unle, mul-le, add-le, abs-neg}
 use Rattle.rounding.specs.Quotient.{round-near}
 use Rattle.chain.specs.declared.Realization.{Realization}
 use Rattle.chain.specs.declared.Shift as shift'
@@ -20,12 +20,12 @@ use Rattle.chain.specs.declared.Convention.the-variants.{PositionVector,
 use Rattle.chain.specs.declared.Kind.{Kind}
 use Rattle.chain.specs.declared.Kind.the-variants.{Shift, Velocity, BursaWolf, Frame}
 use Rattle.chain.specs.declared.Step.{Step}
-use Rattle.chain.specs.Ranges.{within, equal, upTo, datumRange, epochRange, shiftRange, rotationRange, scaleRange, velocityRange}
+use Rattle.chain.specs.Ranges.{within, equal, datumRange, epochRange, shiftRange, rotationRange, scaleRange, velocityRange}
 use Rattle.chain.specs.Faults.{agrees, realizationRange, kindRange, kindRule, stepRange, stepFault}
 use Rattle.chain.specs.Rows.{rows, rowIndex, rowOf, figure}
-use Rattle.chain.specs.Parts.{Part, Parts, fixed, shiftParts, velocityParts, signed, radians, over11, over14, turnedParts, bursaWolfParts, atEpoch, shiftAt, scaleAt, scaledParts, frameParts, kindParts}
+use Rattle.chain.specs.Parts.{Parts, fixed, shiftParts, velocityParts, signed, radians, over11, over14, turnedParts, bursaWolfParts, atEpoch, shiftAt, scaleAt, scaledParts, frameParts, kindParts}
 use Rattle.chain.specs.Axes.{Axis, onX, onY, onZ, partOn}
-use Rattle.chain.proofs.Within.{both, all, bounds, sized, up-to}
+use Rattle.chain.proofs.Within.{both, all, bounds, up-to}
 use Rattle.refusal.proofs.Orders.{head-holds}
 use Rattle.chain.proofs.StepLaws.{Mild, Milds, Flat, Flats}
 

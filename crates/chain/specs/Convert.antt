@@ -1,7 +1,6 @@
 -- Converting a point by a chain, forward (document 01: along) and inverse (back): every refusal in the order of the table, and the exact result.
 use mathlib.Core.Bool.{not}
 use mathlib.Core.List.{List, [], _∷_, _++_, reverse}
-use Prim.Native.Nat.{ℕ, zero, suc}
 use Rattle.refusal.specs.Numbers as refusal
 use Rattle.refusal.specs.Order.{Test, _gives_, first, pick, unless}
 use Rattle.chain.specs.declared.Position.{Position}

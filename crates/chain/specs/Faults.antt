@@ -1,8 +1,8 @@
 -- What a point, a step and a chain are refused for, each by itself and in the order of the refusal table.
-use mathlib.Core.Bool.{Bool, true, not, Bool·beq, _&&_, _||_}
+use mathlib.Core.Bool.{Bool, true, not, Bool·beq, _&&_}
 use mathlib.Core.List.{List, [], _∷_, _++_}
 use Prim.Native.Nat.{ℕ}
-use lib.IntN.{ℤ, pos}
+use lib.IntN.{pos}
 use lib.Dec.{ltb}
 use lib.ListN.{take}
 use Rattle.refusal.specs.Numbers as refusal

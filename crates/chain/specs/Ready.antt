@@ -1,6 +1,6 @@
 -- A step made ready: its numbers worked out once, and what it gains by them at a position. The code's own; `Prepares` ties it to the step.
 use mathlib.Core.Path.{_≡_}
-use Prim.Native.Nat.{ℕ, _+_, _≤_}
+use Prim.Native.Nat.{_+_, _≤_}
 use lib.IntN.{ℤ, pos, natAbs}
 use Rattle.chain.specs.declared.Position.{Position}
 use Rattle.chain.specs.declared.Step.{Step}
@@ -8,8 +8,8 @@ use Rattle.chain.specs.declared.steps.Turn.{Turn}
 use Rattle.chain.specs.declared.steps.Scale.{Scale}
 use Rattle.chain.specs.declared.steps.Ready.{Ready}
 use Rattle.chain.specs.declared.steps.Ready.the-variants.{Fixed, Turned, Scaled}
-use Rattle.chain.specs.Parts.{Part, Parts, fixed, gain, turnedParts, partsOf}
-use Rattle.chain.specs.Axes.{Axis, coordinate, Small}
+use Rattle.chain.specs.Parts.{Parts, fixed, gain, turnedParts, partsOf}
+use Rattle.chain.specs.Axes.{Small}
 
 -- ---- what it gains
 abbrev pub turnParts : Turn → Parts

@@ -1,6 +1,5 @@
 // Standard input, read to its end.
-ghost use mathlib.Core.Path.{_≡_};
-ghost use Prim.Native.Nat.{ℕ, _+_, _≤_};
+ghost use Prim.Native.Nat.{_+_};
 ghost use lib.ListN.{length};
 ghost use Rattle.input.specs.Input.{Held, Taken};
 

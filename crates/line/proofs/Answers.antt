@@ -11,7 +11,7 @@ use borrow.Author.Tests.{eq-eqb, ne-eqb}
 use Rattle.line.specs.declared.Fault.{Fault}
 use Rattle.line.specs.Fields.{body, fields, Form, filled, inBody, said}
 use Rattle.line.specs.Lines.{fault, judged, answered}
-use Rattle.line.specs.Reading.{from, TellsLine, Told, Framed}
+use Rattle.line.specs.Reading.{TellsLine, Told, Framed}
 use Rattle.line.proofs.Walk as W
 
 -- a fault that cannot tell a record from the record as it is carried, and finds none only where the two are one

@@ -9,7 +9,7 @@ use lib.Signed.{leZ, ltZ}
 use native.Mathlib.Decide.{decLt}
 use native.Mathlib.Omega.{arith}
 use borrow.Author.Tests.{lt-ltb, le-ltb, le-leb, lt-leb, leb-true}
-use Rattle.refusal.specs.Order.{pick, first}
+use Rattle.refusal.specs.Order.{pick}
 use Rattle.chain.specs.Ranges.{within}
 use Rattle.angle.specs.Ranges.{outside}
 use Rattle.line.specs.Reading.{cap, cappedZ}

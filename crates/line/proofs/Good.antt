@@ -11,7 +11,7 @@ use lib.Seq.{length-take-le}
 use native.Mathlib.Omega.{arith}
 use borrow.Author.Tests.{eqb-true, ltb-true}
 use Rattle.refusal.specs.Numbers as refusal
-use Rattle.refusal.specs.Order.{pick, first}
+use Rattle.refusal.specs.Order.{pick}
 use Rattle.refusal.proofs.Orders.{first-short}
 use Rattle.chain.specs.declared.Point.{Point}
 use Rattle.chain.specs.declared.Step.{Step}
@@ -25,7 +25,7 @@ use Rattle.line.specs.Fields.{most, body, front, fields, Form, ends, fie
 use Rattle.line.specs.Name.{nameOf}
 use Rattle.line.specs.Number.{numberOf}
 use Rattle.line.specs.Forms.{pointForm, geodeticForm}
-use Rattle.line.specs.Lines.{fault, judged, answered, geodeticFault}
+use Rattle.line.specs.Lines.{fault, answered, geodeticFault}
 
 nothing : {A : Type 0} {a : A} → none ≡ some a → ⊥
 nothing e = let w : _≡_ {A = ℕ} 0 1 = cc in omega arith

@@ -2,8 +2,7 @@
 // the place where the next field begins: one past the length where there is none, and two past it where its own field is bad or missing.
 // So a bad field makes every later one bad, and a line is read in one pass with a single test at its end.
 ghost use mathlib.Core.Path.{_≡_};
-ghost use mathlib.Core.List.{[], _∷_};
-ghost use Prim.Native.Nat.{ℕ, _+_, _≤_, _<_};
+ghost use Prim.Native.Nat.{_+_, _<_};
 ghost use Rattle.line.specs.Fields.{single, letter, body};
 ghost use Rattle.line.specs.Reading.{Got, Framed, empty, itself, unit};
 

@@ -5,11 +5,11 @@ use crate::NumberField;
 use crate::field::closed;
 use crate::field::nowhere;
 ghost use mathlib.Core.Path.{_≡_};
-ghost use Prim.Native.Nat.{ℕ, _+_, _-_, _*_, _≤_, _<_};
+ghost use Prim.Native.Nat.{_+_, _-_, _*_, _≤_, _<_};
 ghost use lib.IntN.{pos, negℤ};
 ghost use Rattle.line.specs.Number.{digits, plain, numberOf};
 ghost use Rattle.line.specs.Lines.{inReach, readNumber};
-ghost use Rattle.line.specs.Reading.{Got, itself, capped, cappedZ, cap, Long, Sized};
+ghost use Rattle.line.specs.Reading.{Got, capped, cappedZ, cap, Long, Sized};
 
 const CAP: u64 = 10000000000000;
 // One digit more on a number below this is still far from wrapping.

@@ -11,7 +11,7 @@ ghost use mathlib.Core.Path.{_≡_};
 ghost use mathlib.Core.List.{[], _∷_};
 ghost use Rattle.line.specs.Bytes.{letterT, letterV, letterB, letterF, letterP, letterC};
 ghost use Rattle.line.specs.Fields.{letterOf};
-ghost use Rattle.line.specs.Forms.{stepForm, threeForm, bursaWolfForm, frameForm, kindForm, shift, velocity, conventionOf};
+ghost use Rattle.line.specs.Forms.{stepForm, threeForm, bursaWolfForm, kindForm, shift, velocity, conventionOf};
 ghost use Rattle.line.specs.Lines.{readStep, judged};
 ghost use Rattle.line.specs.Reading.{Got, Told, Tail, itself, cappedStep, cappedKind};
 ghost use Rattle.chain.specs.Faults.{stepFault};

@@ -4,7 +4,7 @@ use crate::field::LINE_FEED;
 use crate::field::TAB;
 ghost use mathlib.Core.Path.{_≡_};
 ghost use mathlib.Core.List.{[], _∷_, _++_};
-ghost use Prim.Native.Nat.{ℕ, _+_, _≤_, _<_, _/_, _%_};
+ghost use Prim.Native.Nat.{_+_, _<_, _/_, _%_};
 ghost use lib.IntN.{natAbs};
 ghost use Rattle.line.specs.Text.{decimal, integer, letters, nameText, pointText, gridText, refusalText, Wrote, leading, six};
 

@@ -1,12 +1,12 @@
 -- The laws of lines and of a program's run over them. Assumes nothing.
-use Prim.Native.Nat.{ℕ, zero, suc, _+_, _-_, _*_, _≤_, _<_, min}
+use Prim.Native.Nat.{ℕ, suc, _+_, _-_, _*_, _≤_, _<_}
 use mathlib.Core.Path.{_≡_, refl, sym, ap, _∙_}
 use mathlib.Core.List.{List, [], _∷_, _++_}
 use mathlib.Core.Bool.{Bool, true, false}
 use mathlib.Core.Option.{Option, none, some}
 use lib.Dec.{eqb, ltb}
 use lib.ListN.{length, getD, take, drop, length-append, length-drop, length-take, drop-of-length-le}
-use lib.Seq.{drop-cons, drop-drop, length-take-le, sets-eq}
+use lib.Seq.{drop-cons, drop-drop, sets-eq}
 use Rattle.line.specs.declared.Fault.{Fault}
 use Rattle.line.specs.Lines.{fault, answered}
 use Rattle.line.specs.Text.{Wrote, refusalText}

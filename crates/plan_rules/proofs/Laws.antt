@@ -1,12 +1,11 @@
 -- The state after a line holds the plan after it, and a position on the origin made once is the position on the origin's numbers. Assumes nothing.
 use mathlib.Core.Path.{_≡_, refl, sym, _∙_, ap}
 use mathlib.Core.Bool.{Bool, true, false, not}
-use mathlib.Core.List.{List, [], _∷_, _++_}
+use mathlib.Core.List.{List, []}
 use mathlib.Core.Option.{Option, none, some}
-use Prim.Native.Nat.{ℕ, zero, suc, _+_, _<_, _≤_}
+use Prim.Native.Nat.{ℕ, _+_}
 use native.Mathlib.Omega.{arith}
 use lib.IntN.{ℤ}
-use Rattle.refusal.specs.Order.{pick, first}
 use Rattle.refusal.proofs.Orders.{first-append}
 use Rattle.angle.specs.declared.Origin.{Origin}
 use Rattle.angle.specs.declared.OriginNumbers.{OriginNumbers}

@@ -1,15 +1,14 @@
 -- The room that a plan asks for holds all that it prints. Assumes nothing.
-use mathlib.Core.Path.{_≡_, refl}
+use mathlib.Core.Path.{refl}
 use mathlib.Core.Bool.{Bool, true, false}
-use mathlib.Core.List.{List, [], _∷_}
+use mathlib.Core.List.{List, []}
 use mathlib.Core.Option.{Option, none, some}
-use Prim.Native.Nat.{ℕ, _+_, _*_, _^_, _<_, _≤_}
+use Prim.Native.Nat.{ℕ, _*_, _<_, _≤_}
 use native.Mathlib.Omega.{arith}
 use lib.Dec.{eqb}
 use lib.ListN.{length, getD}
 use Rattle.refusal.specs.Numbers as refusal
-use Rattle.refusal.specs.Order.{pick, first, _gives_}
-use Rattle.refusal.proofs.Orders.{first-short}
+use Rattle.refusal.specs.Order.{pick}
 use Rattle.angle.specs.declared.OriginNumbers.{OriginNumbers}
 use Rattle.angle.specs.declared.GridMillimetres.{GridMillimetres}
 use Rattle.angle.specs.Ranges.{originFault}

@@ -1,10 +1,9 @@
 -- What a plan prints. The first line is the origin; each good position prints its easting and northing, each refused line prints R.
-use Prim.Native.Nat.{ℕ, suc, _+_, _≤_}
-use mathlib.Core.Bool.{Bool, true, false, not, _||_}
-use mathlib.Core.List.{List, [], _∷_, _++_}
+use Prim.Native.Nat.{ℕ, _+_}
+use mathlib.Core.Bool.{Bool, true, false, not}
+use mathlib.Core.List.{List, [], _∷_}
 use mathlib.Core.Option.{Option, none, some}
-use lib.Dec.{eqb, ltb}
-use lib.ListN.{length, getD}
+use lib.Dec.{eqb}
 use Rattle.refusal.specs.Numbers as refusal
 use Rattle.refusal.specs.Order.{pick, first, _gives_}
 use Rattle.chain.specs.declared.Id.{Id}
@@ -12,7 +11,6 @@ use Rattle.angle.specs.declared.OriginNumbers.{OriginNumbers}
 use Rattle.angle.specs.declared.GridMillimetres.{GridMillimetres}
 use Rattle.angle.specs.declared.GridMillimetres.the-variants as grid
 use Rattle.angle.specs.Cassini.{cassiniMillimetresOf}
-use Rattle.line.specs.declared.Fault.{Fault}
 use Rattle.line.specs.declared.Geodetic.{Geodetic}
 use Rattle.line.specs.declared.OriginLine.{OriginLine}
 use Rattle.line.specs.declared.OriginLine.the-variants as origin-line

@@ -1,6 +1,6 @@
 // The answer to one line. The whole input is a module below this one, so that what these functions ask of their caller stays theirs.
 ghost use mathlib.Core.Path.{_≡_};
-ghost use mathlib.Core.Bool.{true, not};
+ghost use mathlib.Core.Bool.{true};
 ghost use Prim.Native.Nat.{_<_, _+_};
 ghost use lib.Dec.{eqb};
 ghost use lib.ListN.{length};

@@ -1,16 +1,14 @@
 -- How the code decides: n is divided with remainder, so that the fraction is t + r/d with 0 ≤ r < d, and is rounded to t or to t + 1. Assumes nothing.
-use mathlib.Core.Path.{_≡_, refl, sym, _∙_, ap, subst}
+use mathlib.Core.Path.{_≡_, sym, ap}
 use Prim.Native.Nat.{ℕ, _+_, _*_, _<_, _≤_}
 use native.Mathlib.Nat as NatL
 use native.Mathlib.Omega.{arith}
 use lib.IntN.{ℤ, pos, negsuc, natAbs, _+ℤ_, _-ℤ_, _*ℤ_}
 use lib.Dec.{ltb→lt}
-use lib.Signed.{_≤ℤ_, _<ℤ_, ltZ, quotZ, remZ}
+use lib.Signed.{_≤ℤ_, _<ℤ_, quotZ, remZ}
 use mir.Syntax.{w64}
 use mir.Val.{SFits}
-use mathlib.Core.Bool.{false, _||_}
-use Rattle.refusal.specs.Order.{pick}
-use Rattle.rounding.specs.Zn.{P, N, Is, v, k, k-, _⊕_, _⊖_, _⊗_, le, unle, lt, unlt, eq, uneq, abs, unabs, pos-abs, quot-rem, rem-less, quot-le}
+use Rattle.rounding.specs.Zn.{P, N, v, k, k-, _⊕_, _⊖_, _⊗_, le, unle, lt, unlt, eq, uneq, abs, unabs, pos-abs, quot-rem, rem-less, quot-le}
 use Rattle.rounding.specs.Machine.{fits, fits-abs, not-lt}
 use Rattle.rounding.specs.Quotient.{roundDiv, mixed, mixedOf, round-pos, round-neg-side}
 

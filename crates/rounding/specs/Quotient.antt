@@ -8,7 +8,7 @@ use native.Mathlib.Omega.{arith}
 use lib.IntN.{ℤ, pos, negsuc, negℤ, negℤ-negℤ, natAbs, _+ℤ_, _-ℤ_, _*ℤ_}
 use lib.Signed.{_≤ℤ_, _<ℤ_, ltZ}
 use Rattle.refusal.specs.Order.{pick}
-use Rattle.rounding.specs.Zn.{P, N, Is, v, k, neg, _⊕_, _⊖_, _⊗_, le, unle, lt, unlt, eq, uneq, abs, unabs}
+use Rattle.rounding.specs.Zn.{P, N, Is, v, k, neg, _⊖_, _⊗_, le, unlt, eq, abs, unabs}
 
 -- a/d to the nearest whole number, a half up
 unfoldable pub halfUp : ℕ → ℕ → ℕ

@@ -1,18 +1,18 @@
 -- What the state says of a step is what the sheet says, and the state after a line holds the sheet after it. Assumes nothing.
 use mathlib.Core.Path.{_≡_, refl, sym, _∙_, ap}
-use mathlib.Core.Bool.{Bool, true, false, not, _||_, _&&_}
+use mathlib.Core.Bool.{Bool, true, false, not, _||_}
 use mathlib.Core.List.{List, [], _∷_, _++_}
-use Prim.Native.Nat.{ℕ, zero, suc, _+_, _*_, _<_, _≤_}
+use Prim.Native.Nat.{ℕ, _+_, _<_}
 use native.Mathlib.Omega.{arith}
 use borrow.Author.Tests.{eq-eqb, ne-eqb, leb-false}
-use lib.Dec.{eqb, ltb, leb}
+use lib.Dec.{eqb, leb}
 use lib.IntN.{ℤ}
 use lib.ListN.{length, getD, length-append}
-use Rattle.refusal.specs.Numbers as refusal
-use Rattle.refusal.specs.Order.{pick, first, _gives_}
+use Rattle.refusal.specs.Order.{pick}
 use Rattle.chain.specs.declared.Realization.{Realization}
 use Rattle.chain.specs.declared.Step.{Step}
 use Rattle.chain.specs.declared.Point.{Point}
+use Rattle.chain.specs.declared.Answer.{Answer}
 use Rattle.chain.specs.Faults.{sameRealization, pointFault, stepFault}
 use Rattle.chain.specs.Convert.{startOf, endOf, forwardOf}
 use Rattle.chain.specs.Prepared.{MadeReady, forwardReadyOf, chainOf, Ends}
@@ -135,8 +135,12 @@ unfolding readPoint
 point-sound line p e = no-fault pointFault point-line.Point point-line.Refused (said pointForm line) p (λ x y q. cc) (λ f x q. let z : _≡_ {A = ℕ} 0 1 = cc in omega arith) e
 
 -- ---- a point of a sheet that holds, and the sheet that nothing is read of
-pub converts : {st : State} {l : List ℤ} {s : Sheet} → Holds st l s → (p : Point) → pointFault p ≡ 0 → forwardReadyOf l (st .length) (st .start) (st .end) p ≡ forwardOf (chainOf (s .steps)) p
+converts : {st : State} {l : List ℤ} {s : Sheet} → Holds st l s → (p : Point) → pointFault p ≡ 0 → forwardReadyOf l (st .length) (st .start) (st .end) p ≡ forwardOf (chainOf (s .steps)) p
 converts {st} {l} {s} h p f = rw (h .count) (prepared-forward l p (st .start) (st .end) (s .steps) (h .held) (h .ends) (h .sound) f)
+
+-- what the numbers answered, the chain answers
+pub answered : {st : State} {l : List ℤ} {s : Sheet} → Holds st l s → (p : Point) → pointFault p ≡ 0 → {r a : Answer} → r ≡ forwardReadyOf l (st .length) (st .start) (st .end) p → r ≡ a → forwardOf (chainOf (s .steps)) p ≡ a
+answered h p f e q = sym (converts h p f) ∙ sym e ∙ q
 
 pub hold-fresh : (r : Realization) (l : List ℤ) → length l ≡ 64 → Holds (record { line = 1; length = 0; start = r; end = r; refused = false; closed = false }) l fresh
 unfolding startOf endOf

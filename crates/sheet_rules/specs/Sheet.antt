@@ -1,9 +1,9 @@
 -- What a sheet prints. A sheet is step lines, then point lines; each good point prints its line after the chain, each refused line prints R.
-use Prim.Native.Nat.{ℕ, suc, _+_, _≤_}
+use Prim.Native.Nat.{ℕ, _+_}
 use mathlib.Core.Bool.{Bool, true, false, not, _||_}
 use mathlib.Core.List.{List, [], _∷_, _++_}
-use lib.Dec.{eqb, ltb, leb}
-use lib.ListN.{length, getD}
+use lib.Dec.{eqb, leb}
+use lib.ListN.{length}
 use Rattle.refusal.specs.Numbers as refusal
 use Rattle.refusal.specs.Order.{pick, first, _gives_}
 use Rattle.chain.specs.declared.Step.{Step}
@@ -13,7 +13,6 @@ use Rattle.chain.specs.declared.Answer.the-variants as answer
 use Rattle.chain.specs.Faults.{sameRealization}
 use Rattle.chain.specs.Convert.{endOf, forwardOf}
 use Rattle.chain.specs.Prepared.{chainOf}
-use Rattle.line.specs.declared.Fault.{Fault}
 use Rattle.line.specs.declared.PointLine.{PointLine}
 use Rattle.line.specs.declared.PointLine.the-variants as point-line
 use Rattle.line.specs.declared.StepLine.{StepLine}

@@ -1,8 +1,8 @@
+-- `input::read_all` meets its contract. Assumes nothing.
 use Prim.Native.Nat.{_≤_, _<_, _-_}
 use mathlib.Core.Path.{_≡_}
 use native.Mathlib.Omega.{arith}
 use lib.ListN.{length, length-take, length-drop, take, drop}
-use mathlib.Core.Path.{subst}
 use Prim.Native.Nat.{ℕ}
 use Rattle.input.specs.Input.{Taken}
 use Rattle.input.specs.declared.Fragment.{Fragment}
@@ -11,9 +11,6 @@ use mathlib.Core.List.{List}
 use borrow.Author.Needs.{needs}
 use Rattle.input.proofs.read_all.Statement.{statement}
 use Rattle.input.proofs.read_all.Tie as tie
-use Rattle.input.proofs.read_all.Reads as reads
-use Rattle.input.proofs.read_all.Lts as lts
-use Rattle.input.proofs.one_read.Reads as one-read-reads
 
 abbrev Inv-loop : tie.InvT-loop
 Inv-loop buffer₀ held₀ buffer held = (held ≤ length buffer) × (length buffer ≡ length buffer₀)
@@ -62,13 +59,24 @@ fits : (f : Fragment) (n held : ℕ) (xs : List ℕ) → f ≡ Bytes n → Taken
 fits f n held xs e t = let u = rw e at t in (u .0, omega (arith, u .1, length-take (length xs - held) (drop held xs), length-drop held xs))
 
 add-held : tie.Need-add-held Inv-loop μ-loop
-add-held c = omega (arith, fits _ _ (c .before .before .before .before .before .before .before .before .loop .held) (c .before .before .before .before .before .before .before .before .loop .buffer) (c .before .bytes .given .1) (c .before .before .before .before .before .one-read .ensures))
+add-held c =
+    let c5 = c .before .before .before .before .before in
+    let c8 = c5 .before .before .before in
+    omega (arith, fits _ _ (c8 .loop .held) (c8 .loop .buffer) (c .before .bytes .given .1) (c5 .one-read .ensures))
 
 loop-less : tie.Need-loop-less Inv-loop μ-loop
-loop-less c = omega (arith, fits _ _ (c .before .before .before .before .before .before .before .before .loop .held) (c .before .before .before .before .before .before .before .before .loop .buffer) (c .before .bytes .given .1) (c .before .before .before .before .before .one-read .ensures), c .before .before .before .before .buffer .given)
+loop-less c =
+    let c4 = c .before .before .before .before in
+    let c5 = c4 .before in
+    let c8 = c5 .before .before .before in
+    omega (arith, fits _ _ (c8 .loop .held) (c8 .loop .buffer) (c .before .bytes .given .1) (c5 .one-read .ensures), c4 .buffer .given)
 
 loop-again : tie.Need-loop-again Inv-loop μ-loop
-loop-again c = omega (arith, fits _ _ (c .before .before .before .before .before .before .before .before .loop .held) (c .before .before .before .before .before .before .before .before .loop .buffer) (c .before .bytes .given .1) (c .before .before .before .before .before .one-read .ensures), c .before .before .before .before .buffer .given)
+loop-again c =
+    let c4 = c .before .before .before .before in
+    let c5 = c4 .before in
+    let c8 = c5 .before .before .before in
+    omega (arith, fits _ _ (c8 .loop .held) (c8 .loop .buffer) (c .before .bytes .given .1) (c5 .one-read .ensures), c4 .buffer .given)
 
 same-length-3 : tie.Need-same-length-3 Inv-loop μ-loop
 same-length-3 c = search needs

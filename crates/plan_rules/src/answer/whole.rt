@@ -1,6 +1,6 @@
 // A whole plan, from its bytes to what it prints.
 ghost use Rattle.listing.specs.Fold.{Prints};
-ghost use Rattle.plan_rules.specs.Plan.{Plan, fresh, planOf};
+ghost use Rattle.plan_rules.specs.Plan.{fresh, planOf};
 ghost use Rattle.plan_rules.specs.State.{Holds};
 use crate::State;
 use crate::answer;

@@ -1,6 +1,6 @@
 // A whole sheet, from its bytes to what it prints.
 ghost use Rattle.listing.specs.Fold.{Prints};
-ghost use Rattle.sheet_rules.specs.Sheet.{Sheet, fresh, sheetOf};
+ghost use Rattle.sheet_rules.specs.Sheet.{fresh, sheetOf};
 ghost use Rattle.sheet_rules.specs.State.{Holds};
 ghost use mathlib.Core.Path.{_≡_};
 ghost use mathlib.Core.List.{List};

@@ -1,8 +1,8 @@
 -- `angle::faults::angles_fault` meets its contract: each return rewrites with the tests that led there. Assumes nothing.
 use borrow.Author.Needs.{needs}
-use mathlib.Core.Path.{_≡_, refl}
+use mathlib.Core.Path.{_≡_}
 use mathlib.Core.Bool.{Bool, true, false}
-use lib.IntN.{ℤ, pos}
+use lib.IntN.{pos}
 use Rattle.angle.specs.Ranges.{badLatitude, badLongitude, anglesFault}
 use Rattle.angle.proofs.Tests.{told}
 use Rattle.angle.proofs.faults.angles_fault.Statement.{statement}

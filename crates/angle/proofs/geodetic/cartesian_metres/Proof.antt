@@ -1,13 +1,13 @@
 -- `angle::geodetic::cartesian_metres` meets its contract: each return has the tests that led there. Assumes nothing.
 use borrow.Author.Needs.{needs}
-use mathlib.Core.Path.{_≡_, refl, sym, ap, ap₂, _∙_}
+use mathlib.Core.Path.{_≡_, sym, ap, ap₂, _∙_}
 use mathlib.Core.Bool.{Bool, true, false}
 use mathlib.Core.List.{[], _∷_}
 use lib.IntN.{ℤ, pos, negsuc}
 use mir.Syntax.{w64}
 use mir.Val.{toZ, ofZ}
 use mir.ValLaws.{toZ-ofZ}
-use Rattle.refusal.specs.Order.{_gives_, first, unless}
+use Rattle.refusal.specs.Order.{_gives_, first}
 use Rattle.refusal.specs.Numbers.{range, geodetic}
 use Rattle.angle.specs.Ranges.{badCode, badHeight, angleTests, cartesianTests, anglesFault}
 use Rattle.angle.specs.Ellipsoids.{ellipsoidOf}

@@ -1,11 +1,11 @@
 -- `angle::geodetic::position` meets its contract: the numbers are f64s exactly, and the formulas are the printed ones. Assumes nothing.
 use borrow.Author.Needs.{needs}
-use mathlib.Core.Path.{_≡_, refl, sym, ap, _∙_, subst}
+use mathlib.Core.Path.{_≡_, sym, ap, _∙_, subst}
 use Prim.Native.Nat.{_-_, _≤_}
 use native.Mathlib.Omega.{arith}
 use lib.Dec.{T, lit≤}
 use lib.IntN.{ℤ, pos, _-ℤ_}
-use lib.Ieee.{Float, binary64, inFloat, ofBits, round}
+use lib.Ieee.{binary64, inFloat, ofBits, round}
 use mir.Syntax.{w64}
 use mir.Val.{SFits, toZ, ofZ}
 use mir.ValLaws.{toZ-ofZ}

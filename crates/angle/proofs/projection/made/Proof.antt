@@ -1,10 +1,7 @@
 -- `angle::projection::made` meets its contract: the numbers are in their ranges, and each value is the printed one. Assumes nothing.
 use borrow.Author.Needs.{needs}
-use mathlib.Core.Path.{_≡_}
-use lib.Dec.{T}
-use lib.Ieee.{binary64, inFloat}
 use mir.Syntax.{w64}
-use mir.Val.{SFits, toZ, ofZ}
+use mir.Val.{SFits}
 use mir.ValLaws.{toZ-ofZ}
 use Rattle.angle.specs.Floats.{radians}
 use Rattle.angle.specs.Ranges.{originTests, originFault}

@@ -1,6 +1,6 @@
 -- `angle::projection::place` meets its contract: the numbers are f64s exactly, and the formulas are the printed ones. Assumes nothing.
 use borrow.Author.Needs.{needs}
-use mathlib.Core.Path.{_≡_, refl, sym, ap₂, _∙_, subst}
+use mathlib.Core.Path.{_≡_, sym, ap₂, subst}
 use lib.Dec.{T, lit≤}
 use lib.IntN.{ℤ, _-ℤ_}
 use lib.Ieee.{binary64, inFloat}

@@ -6,7 +6,7 @@ use native.Mathlib.Omega.{arith}
 use lib.ListN.{length, drop}
 use denote.Ref.{now}
 use lib.Seq.{drop-length}
-use Rattle.angle.specs.Series.{hornerFrom, horner}
+use Rattle.angle.specs.Series.{hornerFrom}
 use Rattle.angle.proofs.series.Horner.{turn, ended, started}
 use Rattle.angle.proofs.series.polynomial.Statement.{statement}
 use Rattle.angle.proofs.series.polynomial.Tie as tie

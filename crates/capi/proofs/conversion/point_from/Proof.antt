@@ -25,7 +25,12 @@ shared-slice-copy-out-t15 c = search needs
 
 returns : tie.Need-returns
 unfolding pointFrom
-returns c = rw (told (c .before .before .before .before .before .t4 .given), told (c .before .before .before .before .t6 .given), told (c .before .before .before .t8 .given), told (c .before .before .t11 .given), told (c .before .t13 .given), told (c .t15 .given))
+returns c =
+    let c2 = c .before .before in
+    let c3 = c2 .before in
+    let c4 = c3 .before in
+    let c5 = c4 .before in
+    rw (told (c5 .t4 .given), told (c4 .t6 .given), told (c3 .t8 .given), told (c2 .t11 .given), told (c .before .t13 .given), told (c .t15 .given))
 
 pub point-from-spec : {M : Type 1} → statement M
 point-from-spec =

@@ -28,7 +28,13 @@ shared-slice-copy-out-t16 c = search needs
 
 returns : tie.Need-returns
 unfolding bursaWolfFrom
-returns c = rw (told (c .before .before .before .before .before .before .t4 .given), told (c .before .before .before .before .before .t6 .given), told (c .before .before .before .before .t8 .given), told (c .before .before .before .t10 .given), told (c .before .before .t12 .given), told (c .before .t14 .given), told (c .t16 .given))
+returns c =
+    let c2 = c .before .before in
+    let c3 = c2 .before in
+    let c4 = c3 .before in
+    let c5 = c4 .before in
+    let c6 = c5 .before in
+    rw (told (c6 .t4 .given), told (c5 .t6 .given), told (c4 .t8 .given), told (c3 .t10 .given), told (c2 .t12 .given), told (c .before .t14 .given), told (c .t16 .given))
 
 pub bursa-wolf-from-spec : {M : Type 1} → statement M
 bursa-wolf-from-spec =

@@ -30,7 +30,14 @@ place-from-requires-8 c κs = search needs
 
 returns : tie.Need-returns
 unfolding chainFrom
-returns c = rw (c .before .before .before .before .before .before .before .place-from .ensures, c .before .before .before .before .before .before .place-from2 .ensures, c .before .before .before .before .before .place-from3 .ensures, c .before .before .before .before .place-from4 .ensures, c .before .before .before .place-from5 .ensures, c .before .before .place-from6 .ensures, c .before .place-from7 .ensures, c .place-from8 .ensures)
+returns c =
+    let c2 = c .before .before in
+    let c3 = c2 .before in
+    let c4 = c3 .before in
+    let c5 = c4 .before in
+    let c6 = c5 .before in
+    let c7 = c6 .before in
+    rw (c7 .place-from .ensures, c6 .place-from2 .ensures, c5 .place-from3 .ensures, c4 .place-from4 .ensures, c3 .place-from5 .ensures, c2 .place-from6 .ensures, c .before .place-from7 .ensures, c .place-from8 .ensures)
 
 pub chain-from-spec : {M : Type 1} → statement M
 chain-from-spec =

@@ -24,9 +24,13 @@ same-length c = search needs
 
 returns-2 : tie.Need-returns-2
 unfolding cartesianCall
-returns-2 c = let s = c .before .before .before .before .before .before .before in
-    by (c .before .before .give-metres .ensures) (rw (eq-eqb _ _ (c .before .before .before .before .before .if1 .left)) (ap ofCartesian (sym (c .before .before .before .before .cartesian-metres .ensures ∙ of₄ cartesianOf (rd (s .fits .ellipsoid)) (rd (s .fits .latitude)) (rd (s .fits .longitude)) (rd (s .fits .height))))))
-    (told (c .before .before .give-metres .ok))
+returns-2 c =
+    let c2 = c .before .before in
+    let c4 = c2 .before .before in
+    let c5 = c4 .before in
+    let s = c .before .before .before .before .before .before .before in
+    by (c2 .give-metres .ensures) (rw (eq-eqb _ _ (c5 .if1 .left)) (ap ofCartesian (sym (c4 .cartesian-metres .ensures ∙ of₄ cartesianOf (rd (s .fits .ellipsoid)) (rd (s .fits .latitude)) (rd (s .fits .longitude)) (rd (s .fits .height))))))
+    (told (c2 .give-metres .ok))
 
 pub swivelcrane-cartesian-spec : {M : Type 1} → statement M
 swivelcrane-cartesian-spec =

@@ -24,8 +24,11 @@ same-length c = search needs
 
 returns-2 : tie.Need-returns-2
 unfolding unitsCall
-returns-2 c = let s = c .before .before .before .before .before in
-    by (c .before .give-units .ensures) (rw (eq-eqb _ _ (c .before .before .before .before .if1 .left)) (ap ofUnits (sym (c .before .before .before .cartesian-units .ensures ∙ of₄ cartesianUnitsOf (rd (s .fits .ellipsoid)) (rd (s .fits .latitude)) (rd (s .fits .longitude)) (rd (s .fits .height))))))
+returns-2 c =
+    let c3 = c .before .before .before in
+    let c4 = c3 .before in
+    let s = c .before .before .before .before .before in
+    by (c .before .give-units .ensures) (rw (eq-eqb _ _ (c4 .if1 .left)) (ap ofUnits (sym (c3 .cartesian-units .ensures ∙ of₄ cartesianUnitsOf (rd (s .fits .ellipsoid)) (rd (s .fits .latitude)) (rd (s .fits .longitude)) (rd (s .fits .height))))))
     (told (c .before .give-units .ok))
 
 pub swivelcrane-cartesian-units-spec : {M : Type 1} → statement M

@@ -1,5 +1,5 @@
 -- `chain::checks::later_fault` meets its contract: the tests in the order of the definition. Assumes nothing.
-use mathlib.Core.Path.{_≡_, refl, sym, _∙_, ap}
+use mathlib.Core.Path.{_≡_, sym, _∙_, ap}
 use mathlib.Core.Bool.{Bool, true, false, not}
 use mathlib.Core.List.{[], _∷_, _++_}
 use borrow.Author.Tests.{not-true, not-false}
@@ -25,11 +25,19 @@ same-realization-requires c κs = tt
 
 -- where the step by itself is not refused, the join decides
 module _ (c : tie.After-same-realization) where
-  joined : first (joinTest (c .before .before .before .before .before .args .previous) (c .before .before .before .before .before .args .step) ∷ []) ≡ first (stepTests (c .before .before .before .before .before .args .step) ++ (joinTest (c .before .before .before .before .before .args .previous) (c .before .before .before .before .before .args .step) ∷ []))
-  unfolding stepFault
-  joined = sym (on (stepTests (c .before .before .before .before .before .args .step)) (joinTest (c .before .before .before .before .before .args .previous) (c .before .before .before .before .before .args .step) ∷ []) (passed (stepTests (c .before .before .before .before .before .args .step)) tt (sym (c .before .before .before .before .step-fault .ensures) ∙ c .before .before .before .if1 .left)))
+  abbrev previous : Step
+  previous = c .before .before .before .before .before .args .previous
 
-  same : (b : Bool) → c .same-realization .result ≡ b → sameRealization (c .before .before .before .before .before .args .previous .after) (c .before .before .before .before .before .args .step .before) ≡ b
+  abbrev step : Step
+  step = c .before .before .before .before .before .args .step
+
+  joined : first (joinTest previous step ∷ []) ≡ first (stepTests step ++ (joinTest previous step ∷ []))
+  unfolding stepFault
+  joined =
+      let e = sym (c .before .before .before .before .step-fault .ensures) ∙ c .before .before .before .if1 .left in
+      sym (on (stepTests step) (joinTest previous step ∷ []) (passed (stepTests step) tt e))
+
+  same : (b : Bool) → c .same-realization .result ≡ b → sameRealization (previous .after) (step .before) ≡ b
   same b e = sym (c .same-realization .ensures) ∙ e
 
 returns-2 : tie.Need-returns-2

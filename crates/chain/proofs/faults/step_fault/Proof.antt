@@ -2,7 +2,6 @@
 use mathlib.Core.Path.{_≡_, sym, _∙_, ap₂}
 use mathlib.Core.Bool.{true, _&&_}
 use borrow.Author.Tests.{not-true, not-false}
-use Rattle.refusal.specs.Order.{first}
 use Rattle.chain.specs.Faults.{agrees, stepRange, stepFault}
 use Rattle.chain.proofs.faults.step_fault.Statement.{statement}
 use Rattle.chain.proofs.faults.step_fault.Tie as tie

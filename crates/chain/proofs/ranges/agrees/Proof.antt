@@ -1,5 +1,5 @@
 -- `chain::ranges::agrees` meets its contract. Assumes nothing.
-use mathlib.Core.Path.{_≡_, _∙_, ap, ap₂}
+use mathlib.Core.Path.{_∙_, ap, ap₂}
 use mathlib.Core.Bool.{Bool·beq}
 use lib.IntN.{ℤ, pos}
 use Rattle.rounding.specs.Machine.{told}

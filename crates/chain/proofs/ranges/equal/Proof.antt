@@ -1,5 +1,5 @@
 -- `chain::ranges::equal` meets its contract. Assumes nothing.
-use mathlib.Core.Path.{_≡_, _∙_}
+use mathlib.Core.Path.{_∙_}
 use Rattle.rounding.specs.Machine.{rd, of₃}
 use Rattle.chain.specs.Ranges.{within}
 use Rattle.chain.proofs.ranges.equal.Statement.{statement}

@@ -1,5 +1,5 @@
 -- `chain::ranges::within` meets its contract. Assumes nothing.
-use mathlib.Core.Path.{_≡_, ap₂}
+use mathlib.Core.Path.{ap₂}
 use mathlib.Core.Bool.{_&&_}
 use lib.Signed.{leZ}
 use Rattle.rounding.specs.Machine.{rd}

@@ -25,7 +25,9 @@ turned-requires-2 : tie.Need-turned-requires-2
 turned-requires-2 c κs = let s = c .before .before .before in to₁ (λ (r : ℤ). natAbs r ≤ 1000000) (told {z = s .args .t .ry} (c .struct-told2 .given .1 .1 .1 .1 .1 .0 .1)) (ranges s .ry)
 
 turned-requires-3 : tie.Need-turned-requires-3
-turned-requires-3 c κs = let s = c .before .before .before .before .before in to₁ (λ (r : ℤ). natAbs r ≤ 1000000) (told {z = s .args .t .rz} (c .struct-told3 .given .1 .1 .1 .1 .1 .1 .0 .1)) (ranges s .rz)
+turned-requires-3 c κs =
+    let s = c .before .before .before .before .before in
+    to₁ (λ (r : ℤ). natAbs r ≤ 1000000) (told {z = s .args .t .rz} (c .struct-told3 .given .1 .1 .1 .1 .1 .1 .0 .1)) (ranges s .rz)
 
 returns : tie.Need-returns
 returns c =

@@ -135,12 +135,15 @@ sub-slope c = fit0- (scale c) (down (c .before .before .before .before .before .
 
 returns : tie.Need-returns
 returns c =
+    let c3 = c .before .before .before in
+    let c6 = c3 .before .before .before in
+    let c9 = c6 .before .before .before in
     let s = c .before .before .before .before .before .before .before .before .before .before .before .before .before .before .before .before .before in
     let r = c .before .before .before .before .before .before .before .before .before .before .before .before in
     subst⁻¹ (λ (x : Scale). Prepares (s .args .step) (Scaled x))
-    (scale-same (rd (record { sfits = c .before .before .before .before .before .before .before .before .before .shift-over14 .ok }) ∙ c .before .before .before .before .before .before .before .before .before .shift-over14 .ensures ∙ shift-given r 0 (lit< tt))
-    (rd (record { sfits = c .before .before .before .before .before .before .shift-over142 .ok }) ∙ c .before .before .before .before .before .before .shift-over142 .ensures ∙ shift-given r 1 (lit< tt))
-    (rd (record { sfits = c .before .before .before .shift-over143 .ok }) ∙ c .before .before .before .shift-over143 .ensures ∙ shift-given r 2 (lit< tt))
+    (scale-same (rd (record { sfits = c9 .shift-over14 .ok }) ∙ c9 .shift-over14 .ensures ∙ shift-given r 0 (lit< tt))
+    (rd (record { sfits = c6 .shift-over142 .ok }) ∙ c6 .shift-over142 .ensures ∙ shift-given r 1 (lit< tt))
+    (rd (record { sfits = c3 .shift-over143 .ok }) ∙ c3 .shift-over143 .ensures ∙ shift-given r 2 (lit< tt))
     (rd0- (scale c) (down s)))
     (frame-prepares (s .args .step) (s .pre .0) (s .pre .1))
 

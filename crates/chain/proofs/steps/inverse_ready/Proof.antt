@@ -1,13 +1,12 @@
 -- `chain::steps::inverse_ready` meets its contract. Assumes nothing.
 use mathlib.Core.Path.{_≡_, _∙_, ap, subst⁻¹}
-use mathlib.Core.Bool.{not}
 use lib.Dec.{lit≤}
 use Rattle.chain.specs.declared.Position.{Position}
 use Rattle.chain.specs.Parts.{again, inverseBy}
 use Rattle.chain.specs.Axes.{Small}
 use Rattle.chain.specs.Ready.{readyParts}
 use Rattle.chain.proofs.StepLaws.{small-le, again-small}
-use Rattle.chain.proofs.Prepared.{position, ready-mild}
+use Rattle.chain.proofs.Prepared.{ready-mild}
 use Rattle.chain.proofs.steps.inverse_ready.Statement.{statement}
 use Rattle.chain.proofs.steps.inverse_ready.Tie as tie
 

@@ -37,7 +37,9 @@ sub-t5 c = let s = c .before .before .before .before .before .before .before .be
 
 returns : tie.Need-returns
 unfolding minus
-returns c = let s = c .before .before .before .before .before .before .before .before .before .before .before .before in of₃ position (rd- (p s onX) (g s onX) (f s onX)) (rd- (p s onY) (g s onY) (f s onY)) (rd- (p s onZ) (g s onZ) (f s onZ))
+returns c =
+    let s = c .before .before .before .before .before .before .before .before .before .before .before .before in
+    of₃ position (rd- (p s onX) (g s onX) (f s onX)) (rd- (p s onY) (g s onY) (f s onY)) (rd- (p s onZ) (g s onZ) (f s onZ))
 
 pub minus-spec : {M : Type 1} → statement M
 minus-spec = tie.close (tie.spec sub-t3 sub-t4 sub-t5 returns)

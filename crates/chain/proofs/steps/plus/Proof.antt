@@ -37,7 +37,9 @@ add-t5 c = let s = c .before .before .before .before .before .before .before .be
 
 returns : tie.Need-returns
 unfolding plus
-returns c = let s = c .before .before .before .before .before .before .before .before .before .before .before .before in of₃ position (rd+ (p s onX) (g s onX) (f s onX)) (rd+ (p s onY) (g s onY) (f s onY)) (rd+ (p s onZ) (g s onZ) (f s onZ))
+returns c =
+    let s = c .before .before .before .before .before .before .before .before .before .before .before .before in
+    of₃ position (rd+ (p s onX) (g s onX) (f s onX)) (rd+ (p s onY) (g s onY) (f s onY)) (rd+ (p s onZ) (g s onZ) (f s onZ))
 
 pub plus-spec : {M : Type 1} → statement M
 plus-spec = tie.close (tie.spec add-t3 add-t4 add-t5 returns)

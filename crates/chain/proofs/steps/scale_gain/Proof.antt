@@ -36,11 +36,15 @@ scale-part-requires c κs = let s = c .before .before .before in to₃ asked (st
 
 scale-part-requires-2 : tie.Need-scale-part-requires-2
 unfolding asked
-scale-part-requires-2 c κs = let s = c .before .before .before .before .before .before .before in to₃ asked (start (s .args .t .ky) (s .pre .0 .ky)) (slope s) (at s onY) (s .pre .0 .ky, s .pre .0 .slope, s .pre .1 .on onY)
+scale-part-requires-2 c κs =
+    let s = c .before .before .before .before .before .before .before in
+    to₃ asked (start (s .args .t .ky) (s .pre .0 .ky)) (slope s) (at s onY) (s .pre .0 .ky, s .pre .0 .slope, s .pre .1 .on onY)
 
 scale-part-requires-3 : tie.Need-scale-part-requires-3
 unfolding asked
-scale-part-requires-3 c κs = let s = c .before .before .before .before .before .before .before .before .before .before .before in to₃ asked (start (s .args .t .kz) (s .pre .0 .kz)) (slope s) (at s onZ) (s .pre .0 .kz, s .pre .0 .slope, s .pre .1 .on onZ)
+scale-part-requires-3 c κs =
+    let s = c .before .before .before .before .before .before .before .before .before .before .before in
+    to₃ asked (start (s .args .t .kz) (s .pre .0 .kz)) (slope s) (at s onZ) (s .pre .0 .kz, s .pre .0 .slope, s .pre .1 .on onZ)
 
 returns : tie.Need-returns
 unfolding given

@@ -83,14 +83,20 @@ sub-turn-part-2 c = let s = c .before .before .before .before .before .before .b
 
 turn-part-requires-2 : tie.Need-turn-part-requires-2
 unfolding asked
-turn-part-requires-2 c κs = let s = c .before .before .before .before .before .before .before .before .before .before .before in to₄ (asked s) (dy s) (read (T s .rz) (hz s)) (sc s) (turned (T s .rx) (hx s)) (ok-y s)
+turn-part-requires-2 c κs =
+    let s = c .before .before .before .before .before .before .before .before .before .before .before in
+    to₄ (asked s) (dy s) (read (T s .rz) (hz s)) (sc s) (turned (T s .rx) (hx s)) (ok-y s)
 
 sub-turn-part-3 : tie.Need-sub-turn-part-3
-sub-turn-part-3 c = let s = c .before .before .before .before .before .before .before .before .before .before .before .before .before .before in fit0- (read (T s .ry) (hy s)) (opposite (T s .ry) (hy s))
+sub-turn-part-3 c =
+    let s = c .before .before .before .before .before .before .before .before .before .before .before .before .before .before in
+    fit0- (read (T s .ry) (hy s)) (opposite (T s .ry) (hy s))
 
 turn-part-requires-3 : tie.Need-turn-part-requires-3
 unfolding asked
-turn-part-requires-3 c κs = let s = c .before .before .before .before .before .before .before .before .before .before .before .before .before .before .before .before .before in to₄ (asked s) (dz s) (turned (T s .ry) (hy s)) (read (T s .rx) (hx s)) (sc s) (ok-z s)
+turn-part-requires-3 c κs =
+    let s = c .before .before .before .before .before .before .before .before .before .before .before .before .before .before .before .before .before in
+    to₄ (asked s) (dz s) (turned (T s .ry) (hy s)) (read (T s .rx) (hx s)) (sc s) (ok-z s)
 
 returns : tie.Need-returns
 unfolding gain given

@@ -48,13 +48,19 @@ module _ (s : tie.Start) where
 
 -- the years, as they were read
 dt : (c : tie.After-struct-told2) → toZ w64 (ofZ w64 (toZ w64 (ofZ w64 (c .before .before .before .before .before .before .args .step .after .epoch)) -ℤ toZ w64 (ofZ w64 (c .before .before .before .before .before .before .args .step .before .epoch)))) ≡ years (c .before .before .before .before .before .before)
-dt c = rd- (told {z = c .before .before .before .before .before .before .args .step .after .epoch} (c .before .before .struct-told .given .1 .0 .1)) (told {z = c .before .before .before .before .before .before .args .step .before .epoch} (c .struct-told2 .given .1 .0 .1)) (f (c .before .before .before .before .before .before))
+dt c =
+    let c2 = c .before .before in
+    let c6 = c2 .before .before .before .before in
+    rd- (told {z = c6 .args .step .after .epoch} (c2 .struct-told .given .1 .0 .1)) (told {z = c6 .args .step .before .epoch} (c .struct-told2 .given .1 .0 .1)) (f (c .before .before .before .before .before .before))
 
 asked : ℤ → ℤ → Type 0
 asked u y = (natAbs u ≤ 10000) × (natAbs y ≤ 120000)
 
 sub-dt : tie.Need-sub-dt
-sub-dt c = fit- (told {z = c .before .before .before .before .before .before .args .step .after .epoch} (c .before .before .struct-told .given .1 .0 .1)) (told {z = c .before .before .before .before .before .before .args .step .before .epoch} (c .struct-told2 .given .1 .0 .1)) (f (c .before .before .before .before .before .before))
+sub-dt c =
+    let c2 = c .before .before in
+    let c6 = c2 .before .before .before .before in
+    fit- (told {z = c6 .args .step .after .epoch} (c2 .struct-told .given .1 .0 .1)) (told {z = c6 .args .step .before .epoch} (c .struct-told2 .given .1 .0 .1)) (f (c .before .before .before .before .before .before))
 
 moved-requires : tie.Need-moved-requires
 unfolding asked
@@ -66,7 +72,9 @@ moved-requires-2 c κs = let s = c .before .before .before .before .before .befo
 
 moved-requires-3 : tie.Need-moved-requires-3
 unfolding asked
-moved-requires-3 c κs = let s = c .before .before .before .before .before .before .before .before .before .before .before in to₂ asked (vz s) (dt (c .before .before .before .before .before)) (ranges s .vz, few s)
+moved-requires-3 c κs =
+    let s = c .before .before .before .before .before .before .before .before .before .before .before in
+    to₂ asked (vz s) (dt (c .before .before .before .before .before)) (ranges s .vz, few s)
 
 returns : tie.Need-returns
 returns c =

@@ -1,3 +1,4 @@
+-- `line::compare::by_issue` meets its contract. Assumes nothing.
 use borrow.Author.Needs.{needs}
 use Rattle.line.proofs.compare.by_issue.Statement.{statement}
 use Rattle.line.proofs.compare.by_issue.Tie as tie

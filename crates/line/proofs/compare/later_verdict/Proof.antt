@@ -1,3 +1,4 @@
+-- `line::compare::later_verdict` meets its contract. Assumes nothing.
 use mathlib.Core.Path.{_∙_}
 use Rattle.line.specs.Later.{laterOf}
 use borrow.Author.Needs.{needs}

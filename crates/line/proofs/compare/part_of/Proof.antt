@@ -1,3 +1,4 @@
+-- `line::compare::part_of` meets its contract. Assumes nothing.
 use mathlib.Core.Path.{refl, sym, _∙_}
 use borrow.Author.Needs.{needs}
 use Rattle.line.proofs.compare.part_of.Statement.{statement}

@@ -1,3 +1,4 @@
+-- `line::compare::refusal_of` meets its contract. Assumes nothing.
 use mathlib.Core.Path.{refl, sym, _∙_}
 use borrow.Author.Needs.{needs}
 use Rattle.line.proofs.compare.refusal_of.Statement.{statement}

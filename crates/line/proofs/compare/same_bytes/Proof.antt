@@ -1,3 +1,4 @@
+-- `line::compare::same_bytes` meets its contract. Assumes nothing.
 use Rattle.line.specs.Later.{sameBytes}
 use Prim.Native.Nat.{_-_, _≤_}
 use mathlib.Core.Path.{_≡_, _∙_}
@@ -27,7 +28,10 @@ shared-slice-read-if2-2 : tie.Need-shared-slice-read-if2-2 Inv-loop μ-loop
 shared-slice-read-if2-2 c = search needs
 
 returns-2 : tie.Need-returns-2 Inv-loop μ-loop
-returns-2 c = let k = c .before .before .before .before .loop in let g = c .before .before .before .before .before .before .args in K.same-off (g .a .now) (g .b .now) (k .i) (omega arith) (omega arith) (omega arith) ∙ k .inv .2
+returns-2 c =
+    let k = c .before .before .before .before .loop in
+    let g = c .before .before .before .before .before .before .args in
+    K.same-off (g .a .now) (g .b .now) (k .i) (omega arith) (omega arith) (omega arith) ∙ k .inv .2
 
 add-i : tie.Need-add-i Inv-loop μ-loop
 add-i c = search needs
@@ -36,7 +40,12 @@ loop-less : tie.Need-loop-less Inv-loop μ-loop
 loop-less c = search needs
 
 loop-again : tie.Need-loop-again Inv-loop μ-loop
-loop-again c = let k = c .before .before .before .before .loop in let g = c .before .before .before .before .before .before .args in (omega arith, k .inv .1, K.same-on (g .a .now) (g .b .now) (k .i) (omega arith) (omega arith) (omega arith) ∙ k .inv .2)
+loop-again c =
+    let c4 = c .before .before .before .before in
+    let c6 = c4 .before .before in
+    let k = c4 .loop in
+    let g = c6 .args in
+    (omega arith, k .inv .1, K.same-on (g .a .now) (g .b .now) (k .i) (omega arith) (omega arith) (omega arith) ∙ k .inv .2)
 
 returns-3 : tie.Need-returns-3 Inv-loop μ-loop
 returns-3 c = let k = c .before .loop in let g = c .before .before .before .args in K.same-end (g .a .now) (g .b .now) (k .i) (omega arith) (omega arith) ∙ k .inv .2

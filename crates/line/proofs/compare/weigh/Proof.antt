@@ -1,4 +1,7 @@
+-- `line::compare::weigh` meets its contract. Assumes nothing.
 use mathlib.Core.Path.{_≡_, sym, _∙_}
+use mathlib.Core.Bool.{Bool}
+use lib.Signed.{ltZ}
 use mir.Syntax.{w64}
 use mir.Val.{toZ, ofZ}
 use Rattle.line.proofs.Compared as K
@@ -15,24 +18,58 @@ returns-2 c = let a = c .before .before .before .before .before .before .args in
 is-before-requires : tie.Need-is-before-requires
 is-before-requires c κs = search needs
 
+-- the issues, as the machine reads them
+module _ (s : tie.Start) where
+  first-issue : toZ w64 (ofZ w64 (s .args .p .issue)) ≡ s .args .p .issue
+  first-issue = search needs
+
+  second-issue : toZ w64 (ofZ w64 (s .args .q .issue)) ≡ s .args .q .issue
+  second-issue = search needs
+
+-- whether the first issue is the earlier one, and whether the second is
+module _ (c : tie.After-is-before) where
+  abbrev start : tie.Start
+  start = c .before .before .before .before .before .before .before .before .before
+
+  first-before : {b : Bool} → c .is-before .result ≡ b → ltZ (start .args .p .issue) (start .args .q .issue) ≡ b
+  first-before e = sym (rw (first-issue start, second-issue start) at (c .is-before .ensures)) ∙ e
+
+module _ (c : tie.After-is-before2) where
+  abbrev one : tie.After-is-before
+  one = c .before .before .before .before
+
+  second-before : {b : Bool} → c .is-before2 .result ≡ b → ltZ (start one .args .q .issue) (start one .args .p .issue) ≡ b
+  second-before e = sym (rw (second-issue (start one), first-issue (start one)) at (c .is-before2 .ensures)) ∙ e
+
 returns-3 : tie.Need-returns-3
-returns-3 c = let a = c .before .before .before .before .before .before .before .before .before .before .args in let i : toZ w64 (ofZ w64 (a .p .issue)) ≡ a .p .issue = search needs in let j : toZ w64 (ofZ w64 (a .q .issue)) ≡ a .q .issue = search needs in
-    K.second-later (a .p) (a .q) (a .equal) (c .before .before .before .before .before .before .before .if1 .left) (c .before .before .before .before .if2 .left) (sym (rw (i, j) at (c .before .is-before .ensures)) ∙ c .if3 .taken)
+returns-3 c =
+    let t = c .before in
+    let a = start t .args in
+    K.second-later (a .p) (a .q) (a .equal) (t .before .before .before .before .before .before .if1 .left) (t .before .before .before .if2 .left) (first-before t (c .if3 .taken))
 
 is-before-requires-2 : tie.Need-is-before-requires-2
 is-before-requires-2 c κs = search needs
 
 returns-4 : tie.Need-returns-4
-returns-4 c = let a = c .before .before .before .before .before .before .before .before .before .before .before .before .before .before .args in let i : toZ w64 (ofZ w64 (a .p .issue)) ≡ a .p .issue = search needs in let j : toZ w64 (ofZ w64 (a .q .issue)) ≡ a .q .issue = search needs in
-    K.first-later (a .p) (a .q) (a .equal) (c .before .before .before .before .before .before .before .before .before .before .before .if1 .left) (c .before .before .before .before .before .before .before .before .if2 .left) (sym (rw (i, j) at (c .before .before .before .before .before .is-before .ensures)) ∙ c .before .before .before .before .if3 .left) (sym (rw (j, i) at (c .before .is-before2 .ensures)) ∙ c .if4 .taken)
+returns-4 c =
+    let u = c .before in
+    let t = one u in
+    let a = start t .args in
+    K.first-later (a .p) (a .q) (a .equal) (t .before .before .before .before .before .before .if1 .left) (t .before .before .before .if2 .left) (first-before t (u .before .before .before .if3 .left)) (second-before u (c .if4 .taken))
 
 returns-5 : tie.Need-returns-5
-returns-5 c = let a = c .before .before .before .before .before .before .before .before .before .before .before .before .before .before .before .args in let i : toZ w64 (ofZ w64 (a .p .issue)) ≡ a .p .issue = search needs in let j : toZ w64 (ofZ w64 (a .q .issue)) ≡ a .q .issue = search needs in
-    K.one-line (a .p) (a .q) (a .equal) (c .before .before .before .before .before .before .before .before .before .before .before .before .if1 .left) (c .before .before .before .before .before .before .before .before .before .if2 .left) (sym (rw (i, j) at (c .before .before .before .before .before .before .is-before .ensures)) ∙ c .before .before .before .before .before .if3 .left) (sym (rw (j, i) at (c .before .before .is-before2 .ensures)) ∙ c .before .if4 .left) (c .if5 .taken)
+returns-5 c =
+    let u = c .before .before in
+    let t = one u in
+    let a = start t .args in
+    K.one-line (a .p) (a .q) (a .equal) (t .before .before .before .before .before .before .if1 .left) (t .before .before .before .if2 .left) (first-before t (u .before .before .before .if3 .left)) (second-before u (c .before .if4 .left)) (c .if5 .taken)
 
 returns-6 : tie.Need-returns-6
-returns-6 c = let a = c .before .before .before .before .before .before .before .before .before .before .before .before .before .before .before .args in let i : toZ w64 (ofZ w64 (a .p .issue)) ≡ a .p .issue = search needs in let j : toZ w64 (ofZ w64 (a .q .issue)) ≡ a .q .issue = search needs in
-    K.two-lines (a .p) (a .q) (a .equal) (c .before .before .before .before .before .before .before .before .before .before .before .before .if1 .left) (c .before .before .before .before .before .before .before .before .before .if2 .left) (sym (rw (i, j) at (c .before .before .before .before .before .before .is-before .ensures)) ∙ c .before .before .before .before .before .if3 .left) (sym (rw (j, i) at (c .before .before .is-before2 .ensures)) ∙ c .before .if4 .left) (c .if5 .left)
+returns-6 c =
+    let u = c .before .before in
+    let t = one u in
+    let a = start t .args in
+    K.two-lines (a .p) (a .q) (a .equal) (t .before .before .before .before .before .before .if1 .left) (t .before .before .before .if2 .left) (first-before t (u .before .before .before .if3 .left)) (second-before u (c .before .if4 .left)) (c .if5 .left)
 
 pub weigh-spec : {M : Type 1} → statement M
 weigh-spec =

@@ -1,3 +1,4 @@
+-- `line::field::body_end` meets its contract. Assumes nothing.
 use mathlib.Core.Path.{refl}
 use native.Mathlib.Omega.{arith}
 use Rattle.line.proofs.Walk as W

@@ -1,3 +1,4 @@
+-- `line::field::closed` meets its contract. Assumes nothing.
 use mathlib.Core.Path.{refl}
 use mathlib.Core.Logic.{⊎-elim}
 use native.Mathlib.Omega.{arith}
@@ -25,7 +26,10 @@ nowhere-requires : tie.Need-nowhere-requires
 nowhere-requires c κs = search needs
 
 returns-3 : tie.Need-returns-3
-returns-3 c = let g = c .before .before .before .args in W.got-none (⊎-elim (λ w. W.head-off (g .s .now) (g .at) _ (omega arith) (w .2 .left) (λ f. refl)) (λ w. W.head-past (g .s .now) (g .at) _ (omega arith)) (c .before .if1 .came)) (omega arith)
+returns-3 c =
+    let c3 = c .before .before .before in
+    let g = c3 .args in
+    W.got-none (⊎-elim (λ w. W.head-off (g .s .now) (g .at) _ (omega arith) (w .2 .left) (λ f. refl)) (λ w. W.head-past (g .s .now) (g .at) _ (omega arith)) (c .before .if1 .came)) (omega arith)
 
 pub closed-spec : {M : Type 1} → statement M
 closed-spec =

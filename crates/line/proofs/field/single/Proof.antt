@@ -1,3 +1,4 @@
+-- `line::field::single` meets its contract. Assumes nothing.
 use Prim.Native.Nat.{_+_}
 use mathlib.Core.List.{_∷_}
 use lib.ListN.{getD}
@@ -23,13 +24,19 @@ closed-requires : tie.Need-closed-requires
 closed-requires c κs = search needs
 
 returns : tie.Need-returns
-returns c = let g = c .before .before .before .before .before .before .args in W.onto {rest = λ f. single (getD (g .s .now) (g .at) 0 ∷ f)} (W.head-close (g .s .now) (g .at + 1) _ _ (c .closed .ensures) refl refl (λ l e f. refl)) (omega arith) (c .before .before .if2 .taken) (λ f. refl)
+returns c =
+    let c2 = c .before .before in
+    let c6 = c2 .before .before .before .before in
+    let g = c6 .args in
+    W.onto {rest = λ f. single (getD (g .s .now) (g .at) 0 ∷ f)} (W.head-close (g .s .now) (g .at + 1) _ _ (c .closed .ensures) refl refl (λ l e f. refl)) (omega arith) (c2 .if2 .taken) (λ f. refl)
 
 nowhere-requires : tie.Need-nowhere-requires
 nowhere-requires c κs = search needs
 
 returns-2 : tie.Need-returns-2
-returns-2 c = let g = c .before .before .before .args in W.got-none (W.head-nothing (g .s .now) (g .at) _ (λ l. ⊎-elim (λ w. w .2 .left) (λ w. absurd (omega arith)) (c .before .if1 .came)) refl) (omega arith)
+returns-2 c =
+    let g = c .before .before .before .args in
+    W.got-none (W.head-nothing (g .s .now) (g .at) _ (λ l. ⊎-elim (λ w. w .2 .left) (λ w. absurd (omega arith)) (c .before .if1 .came)) refl) (omega arith)
 
 pub single-spec : {M : Type 1} → statement M
 single-spec =

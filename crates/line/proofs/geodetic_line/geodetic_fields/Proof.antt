@@ -1,3 +1,4 @@
+-- `line::geodetic_line::geodetic_fields` meets its contract. Assumes nothing.
 use mathlib.Core.Path.{_≡_, _∙_}
 use mir.Syntax.{w64}
 use mir.Val.{toZ, ofZ}

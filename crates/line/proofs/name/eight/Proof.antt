@@ -1,3 +1,4 @@
+-- `line::name::eight` meets its contract. Assumes nothing.
 use mathlib.Core.Path.{_≡_, refl, sym, _∙_}
 use native.Mathlib.Omega.{arith}
 use borrow.Author.Tests.{not-true, not-false}
@@ -26,10 +27,16 @@ wide-requires : tie.Need-wide-requires Inv-loop μ-loop
 wide-requires c κs = search needs
 
 mul-value : tie.Need-mul-value Inv-loop μ-loop
-mul-value c = let k = c .before .before .before .before .before .before .loop in record { fits = N.product-fits (k .inv .0) (omega arith) (c .wide .result) (k .scale) (omega (arith, c .before .before .before .shared-slice-known2 .given (k .i))) (k .inv .1) }
+mul-value c =
+    let c3 = c .before .before .before in
+    let c6 = c3 .before .before .before in
+    let k = c6 .loop in record { fits = N.product-fits (k .inv .0) (omega arith) (c .wide .result) (k .scale) (omega (arith, c3 .shared-slice-known2 .given (k .i))) (k .inv .1) }
 
 add-value : tie.Need-add-value Inv-loop μ-loop
-add-value c = let k = c .before .before .before .before .before .before .loop in record { fits = N.sum-fits (k .inv .0) (omega arith) (c .wide .result) (k .scale) (omega (arith, c .before .before .before .shared-slice-known2 .given (k .i))) (k .inv .1) }
+add-value c =
+    let c3 = c .before .before .before in
+    let c6 = c3 .before .before .before in
+    let k = c6 .loop in record { fits = N.sum-fits (k .inv .0) (omega arith) (c .wide .result) (k .scale) (omega (arith, c3 .shared-slice-known2 .given (k .i))) (k .inv .1) }
 
 sub-left : tie.Need-sub-left Inv-loop μ-loop
 sub-left c = search needs
@@ -41,7 +48,12 @@ loop-less : tie.Need-loop-less Inv-loop μ-loop
 loop-less c = omega arith
 
 loop-again : tie.Need-loop-again Inv-loop μ-loop
-loop-again c = let k = c .before .before .before .before .before .before .loop in (N.run-more (k .inv .0) (omega arith) (c .wide .result) (k .scale) (omega arith) (sym (c .before .before .is-name-byte .ensures) ∙ not-false _ (c .before .if2 .left)) (c .wide .ensures) (omega (arith, c .before .before .before .shared-slice-known2 .given (k .i))) (k .inv .1), N.scale-next (k .inv .0) (omega arith) (k .scale) (k .inv .1))
+loop-again c =
+    let c2 = c .before .before in
+    let c3 = c2 .before in
+    let c6 = c3 .before .before .before in
+    let k = c6 .loop in
+    (N.run-more (k .inv .0) (omega arith) (c .wide .result) (k .scale) (omega arith) (sym (c2 .is-name-byte .ensures) ∙ not-false _ (c .before .if2 .left)) (c .wide .ensures) (omega (arith, c3 .shared-slice-known2 .given (k .i))) (k .inv .1), N.scale-next (k .inv .0) (omega arith) (k .scale) (k .inv .1))
 
 returns : tie.Need-returns Inv-loop μ-loop
 returns c = let k = c .before .loop in record { left = k .left; run = k .inv .0; last = λ h. absurd (omega arith) }

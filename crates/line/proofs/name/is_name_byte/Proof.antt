@@ -1,3 +1,4 @@
+-- `line::name::is_name_byte` meets its contract. Assumes nothing.
 use native.Mathlib.Omega.{arith}
 use borrow.Author.Tests.{le-leb, lt-leb, eq-eqb, ne-eqb}
 use Rattle.line.proofs.name.is_name_byte.Statement.{statement}

@@ -1,3 +1,4 @@
+-- `line::name::read_name` meets its contract. Assumes nothing.
 use Rattle.line.proofs.Alone as A
 use borrow.Author.Needs.{needs}
 use Rattle.line.proofs.name.read_name.Statement.{statement}

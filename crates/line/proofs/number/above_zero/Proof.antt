@@ -1,3 +1,4 @@
+-- `line::number::above_zero` meets its contract. Assumes nothing.
 use Rattle.line.proofs.Numbers as N
 use borrow.Author.Needs.{needs}
 use Rattle.line.proofs.number.above_zero.Statement.{statement}

@@ -1,3 +1,4 @@
+-- `line::number::below_zero` meets its contract. Assumes nothing.
 use Rattle.line.proofs.Numbers as N
 use borrow.Author.Needs.{needs}
 use Rattle.line.proofs.number.below_zero.Statement.{statement}

@@ -1,3 +1,4 @@
+-- `line::number::magnitude` meets its contract. Assumes nothing.
 use Prim.Native.Nat.{ℕ, _-_, _≤_}
 use mathlib.Core.Logic.{⊎-elim}
 use native.Mathlib.Omega.{arith}
@@ -55,7 +56,11 @@ closed-requires : tie.Need-closed-requires Inv-loop μ-loop
 closed-requires c κs = search needs
 
 returns-2 : tie.Need-returns-2 Inv-loop μ-loop
-returns-2 c = let k = c .before .before .before .loop in record { got = k .inv .1 _ _ (N.digits-close (k .a) (c .closed .ensures) (c .before .at-most-cap .ensures) (λ l. ⊎-elim (λ w. absurd (omega arith)) (λ u. ⊎-elim (λ w. N.low (omega arith)) (λ w. N.high (omega arith)) u) (c .before .before .loop-test .came))); small = omega arith }
+returns-2 c =
+    let c2 = c .before .before in
+    let c3 = c2 .before in
+    let k = c3 .loop in
+    record { got = k .inv .1 _ _ (N.digits-close (k .a) (c .closed .ensures) (c .before .at-most-cap .ensures) (λ l. ⊎-elim (λ w. absurd (omega arith)) (λ u. ⊎-elim (λ w. N.low (omega arith)) (λ w. N.high (omega arith)) u) (c2 .loop-test .came))); small = omega arith }
 
 pub magnitude-spec : {M : Type 1} → statement M
 magnitude-spec =

@@ -1,3 +1,4 @@
+-- `line::number::number` meets its contract. Assumes nothing.
 use mir.Syntax.{w64}
 use mir.Val.{toZ, ofZ}
 use mathlib.Core.Path.{_≡_}
@@ -37,8 +38,14 @@ above-zero-requires : tie.Need-above-zero-requires
 above-zero-requires c κs = search needs
 
 returns-2 : tie.Need-returns-2
-returns-2 c = let g = c .before .before .before .before .before .before .before .args in let z = c .below-zero .result in let e : toZ w64 (ofZ w64 z) ≡ z = search needs in
-    rw (e, c .below-zero .ensures) (N.below (omega arith) (c .before .before .unsigned .ensures .got) (c .before .before .before .if2 .taken) (λ q. ⊎-elim (λ w. omega arith) (λ w. absurd (omega arith)) (c .before .if3 .came)) (λ q. ⊎-elim (λ w. absurd (omega arith)) (λ w. w .1) (c .before .if3 .came)))
+returns-2 c =
+    let c2 = c .before .before in
+    let c3 = c2 .before in
+    let c7 = c3 .before .before .before .before in
+    let g = c7 .args in
+    let z = c .below-zero .result in
+    let e : toZ w64 (ofZ w64 z) ≡ z = search needs in
+    rw (e, c .below-zero .ensures) (N.below (omega arith) (c2 .unsigned .ensures .got) (c3 .if2 .taken) (λ q. ⊎-elim (λ w. omega arith) (λ w. absurd (omega arith)) (c .before .if3 .came)) (λ q. ⊎-elim (λ w. absurd (omega arith)) (λ w. w .1) (c .before .if3 .came)))
 
 returns-3 : tie.Need-returns-3
 returns-3 c = let z = c .above-zero .result in let e : toZ w64 (ofZ w64 z) ≡ z = search needs in

@@ -1,3 +1,4 @@
+-- `line::number::rest` meets its contract. Assumes nothing.
 use Prim.Native.Nat.{ℕ, _-_}
 use lib.ListN.{length}
 use Rattle.line.specs.Reading.{Long}

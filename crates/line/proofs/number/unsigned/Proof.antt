@@ -1,3 +1,4 @@
+-- `line::number::unsigned` meets its contract. Assumes nothing.
 use mathlib.Core.Logic.{⊎-elim}
 use native.Mathlib.Omega.{arith}
 use Rattle.line.proofs.Walk as W
@@ -37,7 +38,10 @@ nowhere-requires : tie.Need-nowhere-requires
 nowhere-requires c κs = search needs
 
 returns-3 : tie.Need-returns-3
-returns-3 c = let g = c .before .before .before .args in record { got = W.got-none (N.no-digit (g .s .now) (g .at) (λ l. ⊎-elim (λ w. N.high (omega arith)) (λ u. ⊎-elim (λ w. N.low (omega arith)) (λ w. absurd (omega arith)) u) (c .before .if1 .came))) (omega arith); small = omega arith }
+returns-3 c =
+    let c3 = c .before .before .before in
+    let g = c3 .args in
+    record { got = W.got-none (N.no-digit (g .s .now) (g .at) (λ l. ⊎-elim (λ w. N.high (omega arith)) (λ u. ⊎-elim (λ w. N.low (omega arith)) (λ w. absurd (omega arith)) u) (c .before .if1 .came))) (omega arith); small = omega arith }
 
 pub unsigned-spec : {M : Type 1} → statement M
 unsigned-spec =

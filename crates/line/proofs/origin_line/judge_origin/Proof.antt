@@ -1,3 +1,4 @@
+-- `line::origin_line::judge_origin` meets its contract. Assumes nothing.
 use Rattle.angle.specs.Ranges.{originFault}
 use Rattle.line.specs.declared.OriginLine.the-variants.{Origin, Refused}
 use Rattle.line.proofs.Answers as A

@@ -1,3 +1,4 @@
+-- `line::point_line::judge_point` meets its contract. Assumes nothing.
 use Rattle.chain.specs.Faults.{pointFault}
 use Rattle.line.specs.declared.PointLine.the-variants.{Point, Refused}
 use Rattle.line.proofs.Answers as A

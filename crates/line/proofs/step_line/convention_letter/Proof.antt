@@ -1,3 +1,4 @@
+-- `line::step_line::convention_letter` meets its contract. Assumes nothing.
 use mathlib.Core.Path.{refl}
 use mathlib.Core.Logic.{⊎-elim, inl, inr}
 use mathlib.Core.List.{[], _∷_}

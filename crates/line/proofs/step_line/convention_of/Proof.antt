@@ -1,3 +1,4 @@
+-- `line::step_line::convention_of` meets its contract. Assumes nothing.
 use borrow.Author.Tests.{eq-eqb, ne-eqb}
 use Rattle.line.proofs.step_line.convention_of.Statement.{statement}
 use Rattle.line.proofs.step_line.convention_of.Tie as tie

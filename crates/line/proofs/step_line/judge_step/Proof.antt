@@ -1,3 +1,4 @@
+-- `line::step_line::judge_step` meets its contract. Assumes nothing.
 use Rattle.chain.specs.Faults.{stepFault}
 use Rattle.line.specs.declared.StepLine.the-variants.{Step, Refused}
 use Rattle.line.proofs.Answers as A

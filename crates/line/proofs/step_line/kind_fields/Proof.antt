@@ -1,3 +1,4 @@
+-- `line::step_line::kind_fields` meets its contract. Assumes nothing.
 use borrow.Author.Tests.{eq-eqb, ne-eqb}
 use mathlib.Core.Path.{refl}
 use Rattle.line.specs.Forms.{frameForm}

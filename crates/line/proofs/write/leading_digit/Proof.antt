@@ -1,3 +1,4 @@
+-- `line::write::leading_digit` meets its contract. Assumes nothing.
 use borrow.Author.Tests.{eq-eqb, ne-eqb}
 use Rattle.line.proofs.Texts as T
 use borrow.Author.Needs.{needs}

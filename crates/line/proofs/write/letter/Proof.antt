@@ -1,3 +1,4 @@
+-- `line::write::letter` meets its contract. Assumes nothing.
 use Rattle.line.proofs.Texts as T
 use borrow.Author.Needs.{needs}
 use Rattle.line.proofs.write.letter.Statement.{statement}

@@ -1,3 +1,4 @@
+-- `line::write::short` meets its contract. Assumes nothing.
 use Rattle.line.proofs.Texts as T
 use borrow.Author.Needs.{needs}
 use Rattle.line.proofs.write.short.Statement.{statement}
@@ -25,7 +26,15 @@ same-length : tie.Need-same-length
 same-length c = search needs
 
 returns : tie.Need-returns
-returns c = T.as-text (T.short-is _ (c .before .before .before .before .before .before .before .before .before .before .before .before .before .before .before .before .before .before .before .before .before .before .before .before .before .pre)) (T.«then» (c .before .before .before .before .before .before .before .before .before .before .before .before .before .before .before .before .before .before .before .before .before .before .leading-digit .ensures) (T.«then» (c .before .before .before .before .before .before .before .before .before .before .before .before .before .before .before .before .before .before .leading-digit2 .ensures) (T.«then» (c .before .before .before .before .before .before .before .before .before .before .before .before .before .before .leading-digit3 .ensures) (T.«then» (c .before .before .before .before .before .before .before .before .before .before .leading-digit4 .ensures) (T.«then» (c .before .before .before .before .before .before .leading-digit5 .ensures) (c .before .before .digit .ensures))))))
+returns c =
+    let c2 = c .before .before in
+    let c6 = c2 .before .before .before .before in
+    let c10 = c6 .before .before .before .before in
+    let c14 = c10 .before .before .before .before in
+    let c18 = c14 .before .before .before .before in
+    let c22 = c18 .before .before .before .before in
+    let c25 = c22 .before .before .before in
+    T.as-text (T.short-is _ (c25 .pre)) (T.«then» (c22 .leading-digit .ensures) (T.«then» (c18 .leading-digit2 .ensures) (T.«then» (c14 .leading-digit3 .ensures) (T.«then» (c10 .leading-digit4 .ensures) (T.«then» (c6 .leading-digit5 .ensures) (c2 .digit .ensures))))))
 
 pub short-spec : {M : Type 1} → statement M
 short-spec =

@@ -1,3 +1,4 @@
+-- `line::write::six_digits` meets its contract. Assumes nothing.
 use Rattle.line.proofs.Texts as T
 use borrow.Author.Needs.{needs}
 use Rattle.line.proofs.write.six_digits.Statement.{statement}
@@ -25,7 +26,14 @@ same-length : tie.Need-same-length
 same-length c = search needs
 
 returns : tie.Need-returns
-returns c = T.«then» (c .before .before .before .before .before .before .before .before .before .before .before .before .before .before .before .before .before .before .before .before .before .before .digit .ensures) (T.«then» (c .before .before .before .before .before .before .before .before .before .before .before .before .before .before .before .before .before .before .digit2 .ensures) (T.«then» (c .before .before .before .before .before .before .before .before .before .before .before .before .before .before .digit3 .ensures) (T.«then» (c .before .before .before .before .before .before .before .before .before .before .digit4 .ensures) (T.«then» (c .before .before .before .before .before .before .digit5 .ensures) (c .before .before .digit6 .ensures)))))
+returns c =
+    let c2 = c .before .before in
+    let c6 = c2 .before .before .before .before in
+    let c10 = c6 .before .before .before .before in
+    let c14 = c10 .before .before .before .before in
+    let c18 = c14 .before .before .before .before in
+    let c22 = c18 .before .before .before .before in
+    T.«then» (c22 .digit .ensures) (T.«then» (c18 .digit2 .ensures) (T.«then» (c14 .digit3 .ensures) (T.«then» (c10 .digit4 .ensures) (T.«then» (c6 .digit5 .ensures) (c2 .digit6 .ensures)))))
 
 pub six-digits-spec : {M : Type 1} → statement M
 six-digits-spec =

@@ -1,3 +1,4 @@
+-- `line::write::word` meets its contract. Assumes nothing.
 use Rattle.line.specs.Text.{letters, Wrote}
 use Prim.Native.Nat.{ℕ, _<_}
 use mathlib.Core.Path.{_≡_, refl, sym, _∙_}
@@ -34,7 +35,12 @@ loop-less : tie.Need-loop-less Inv-loop μ-loop
 loop-less c = search needs
 
 loop-again : tie.Need-loop-again Inv-loop μ-loop
-loop-again c = let k = c .before .before .before .before .before .before .loop in (omega arith, c .before .before .byte .kept .0 ∙ k .inv .1, λ m r g. k .inv .2 m r (T.as-text (sym (T.letters-on (k .left) (k .v) (omega arith) (c .before .before .before .before .if1 .left))) (T.«then» (c .before .before .byte .ensures) g)))
+loop-again c =
+    let c2 = c .before .before in
+    let c4 = c2 .before .before in
+    let c6 = c4 .before .before in
+    let k = c6 .loop in
+    (omega arith, c2 .byte .kept .0 ∙ k .inv .1, λ m r g. k .inv .2 m r (T.as-text (sym (T.letters-on (k .left) (k .v) (omega arith) (c4 .if1 .left))) (T.«then» (c2 .byte .ensures) g)))
 
 same-length : tie.Need-same-length Inv-loop μ-loop
 same-length c = c .before .loop .inv .1

@@ -1,3 +1,4 @@
+-- `line::write::write_grid` meets its contract. Assumes nothing.
 use mir.Syntax.{w64}
 use mir.Val.{toZ, ofZ}
 use mathlib.Core.Path.{_≡_}
@@ -22,8 +23,16 @@ same-length : tie.Need-same-length
 same-length c = search needs
 
 returns : tie.Need-returns
-returns c = let g = c .before .before .before .before .before .before .before .before .before .before .before .before .before .before .before .before .before .args in let a : toZ w64 (ofZ w64 (g .e)) ≡ g .e = search needs in let b : toZ w64 (ofZ w64 (g .n)) ≡ g .n = search needs in
-    T.says (T.«then» (c .before .before .before .before .before .before .before .before .before .before .before .before .before .before .letter .ensures) (T.«then» (c .before .before .before .before .before .before .before .before .before .before .name .ensures) (T.«then» (c .before .before .before .before .before .before .whole .ensures) (c .before .before .whole2 .ensures)))) (rw (a, b) (T.grid-is _ _ _))
+returns c =
+    let c2 = c .before .before in
+    let c6 = c2 .before .before .before .before in
+    let c10 = c6 .before .before .before .before in
+    let c14 = c10 .before .before .before .before in
+    let c17 = c14 .before .before .before in
+    let g = c17 .args in
+    let a : toZ w64 (ofZ w64 (g .e)) ≡ g .e = search needs in
+    let b : toZ w64 (ofZ w64 (g .n)) ≡ g .n = search needs in
+    T.says (T.«then» (c14 .letter .ensures) (T.«then» (c10 .name .ensures) (T.«then» (c6 .whole .ensures) (c2 .whole2 .ensures)))) (rw (a, b) (T.grid-is _ _ _))
 
 pub write-grid-spec : {M : Type 1} → statement M
 write-grid-spec =

@@ -1,6 +1,8 @@
+-- `line::write::write_point` meets its contract. Assumes nothing.
 use mir.Syntax.{w64}
 use mir.Val.{toZ, ofZ}
 use mathlib.Core.Path.{_≡_, _∙_}
+use Rattle.chain.specs.declared.Point.{Point}
 use Rattle.line.proofs.Texts as T
 use borrow.Author.Needs.{needs}
 use Rattle.line.proofs.write.write_point.Statement.{statement}
@@ -31,17 +33,58 @@ whole-requires-6 : tie.Need-whole-requires-6
 whole-requires-6 c κs = search needs
 
 same-length : tie.Need-same-length
-same-length c = c .before .before .whole6 .kept .0 ∙ c .before .before .before .before .before .before .before .whole5 .kept .0 ∙ c .before .before .before .before .before .before .before .before .before .before .before .before .whole4 .kept .0 ∙ c .before .before .before .before .before .before .before .before .before .before .before .before .before .before .before .before .before .whole3 .kept .0 ∙ c .before .before .before .before .before .before .before .before .before .before .before .before .before .before .before .before .before .before .before .before .before .before .whole2 .kept .0 ∙ c .before .before .before .before .before .before .before .before .before .before .before .before .before .before .before .before .before .before .before .before .before .before .before .before .before .before .before .whole .kept .0 ∙ c .before .before .before .before .before .before .before .before .before .before .before .before .before .before .before .before .before .before .before .before .before .before .before .before .before .before .before .before .before .before .before .before .name .kept .0 ∙ c .before .before .before .before .before .before .before .before .before .before .before .before .before .before .before .before .before .before .before .before .before .before .before .before .before .before .before .before .before .before .before .before .before .before .before .before .letter .kept .0
+same-length c =
+    let c2 = c .before .before in
+    let c7 = c2 .before .before .before .before .before in
+    let c12 = c7 .before .before .before .before .before in
+    let c17 = c12 .before .before .before .before .before in
+    let c22 = c17 .before .before .before .before .before in
+    let c27 = c22 .before .before .before .before .before in
+    let c32 = c27 .before .before .before .before .before in
+    let c36 = c32 .before .before .before .before in
+    c2 .whole6 .kept .0 ∙ c7 .whole5 .kept .0 ∙ c12 .whole4 .kept .0 ∙ c17 .whole3 .kept .0 ∙ c22 .whole2 .kept .0 ∙ c27 .whole .kept .0 ∙ c32 .name .kept .0 ∙ c36 .letter .kept .0
+
+-- the point's numbers, as the machine reads them
+module _ (s : tie.Start) where
+  abbrev p : Point
+  p = s .args .p
+
+  issue : toZ w64 (ofZ w64 (p .issue)) ≡ p .issue
+  issue = search needs
+
+  datum : toZ w64 (ofZ w64 (p .realization .datum)) ≡ p .realization .datum
+  datum = search needs
+
+  epoch : toZ w64 (ofZ w64 (p .realization .epoch)) ≡ p .realization .epoch
+  epoch = search needs
+
+  x : toZ w64 (ofZ w64 (p .position .x)) ≡ p .position .x
+  x = search needs
+
+  y : toZ w64 (ofZ w64 (p .position .y)) ≡ p .position .y
+  y = search needs
+
+  z : toZ w64 (ofZ w64 (p .position .z)) ≡ p .position .z
+  z = search needs
 
 returns : tie.Need-returns
-returns c = let p = c .before .before .before .before .before .before .before .before .before .before .before .before .before .before .before .before .before .before .before .before .before .before .before .before .before .before .before .before .before .before .before .before .before .before .before .before .before .before .before .args .p in
-    let e0 : toZ w64 (ofZ w64 (p .issue)) ≡ p .issue = search needs in
-    let e1 : toZ w64 (ofZ w64 (p .realization .datum)) ≡ p .realization .datum = search needs in
-    let e2 : toZ w64 (ofZ w64 (p .realization .epoch)) ≡ p .realization .epoch = search needs in
-    let e3 : toZ w64 (ofZ w64 (p .position .x)) ≡ p .position .x = search needs in
-    let e4 : toZ w64 (ofZ w64 (p .position .y)) ≡ p .position .y = search needs in
-    let e5 : toZ w64 (ofZ w64 (p .position .z)) ≡ p .position .z = search needs in
-    T.says (T.«then» (c .before .before .before .before .before .before .before .before .before .before .before .before .before .before .before .before .before .before .before .before .before .before .before .before .before .before .before .before .before .before .before .before .before .before .before .before .letter .ensures) (T.«then» (c .before .before .before .before .before .before .before .before .before .before .before .before .before .before .before .before .before .before .before .before .before .before .before .before .before .before .before .before .before .before .before .before .name .ensures) (T.«then» (c .before .before .before .before .before .before .before .before .before .before .before .before .before .before .before .before .before .before .before .before .before .before .before .before .before .before .before .whole .ensures) (T.«then» (c .before .before .before .before .before .before .before .before .before .before .before .before .before .before .before .before .before .before .before .before .before .before .whole2 .ensures) (T.«then» (c .before .before .before .before .before .before .before .before .before .before .before .before .before .before .before .before .before .whole3 .ensures) (T.«then» (c .before .before .before .before .before .before .before .before .before .before .before .before .whole4 .ensures) (T.«then» (c .before .before .before .before .before .before .before .whole5 .ensures) (c .before .before .whole6 .ensures)))))))) (rw (e0, e1, e2, e3, e4, e5) (T.point-is p))
+returns c =
+    let c2 = c .before .before in
+    let c7 = c2 .before .before .before .before .before in
+    let c12 = c7 .before .before .before .before .before in
+    let c17 = c12 .before .before .before .before .before in
+    let c22 = c17 .before .before .before .before .before in
+    let c27 = c22 .before .before .before .before .before in
+    let c32 = c27 .before .before .before .before .before in
+    let c36 = c32 .before .before .before .before in
+    let s = c36 .before .before .before in
+    T.says
+    (T.«then» (c36 .letter .ensures)
+    (T.«then» (c32 .name .ensures)
+    (T.«then» (c27 .whole .ensures)
+    (T.«then» (c22 .whole2 .ensures)
+    (T.«then» (c17 .whole3 .ensures) (T.«then» (c12 .whole4 .ensures) (T.«then» (c7 .whole5 .ensures) (c2 .whole6 .ensures))))))))
+    (rw (issue s, datum s, epoch s, x s, y s, z s) (T.point-is (p s)))
 
 pub write-point-spec : {M : Type 1} → statement M
 write-point-spec =

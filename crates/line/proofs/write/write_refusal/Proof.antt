@@ -1,3 +1,4 @@
+-- `line::write::write_refusal` meets its contract. Assumes nothing.
 use Rattle.line.proofs.Texts as T
 use borrow.Author.Needs.{needs}
 use Rattle.line.proofs.write.write_refusal.Statement.{statement}
@@ -25,7 +26,14 @@ same-length : tie.Need-same-length
 same-length c = search needs
 
 returns : tie.Need-returns
-returns c = T.says (T.«then» (c .before .before .before .before .before .before .before .before .before .before .before .before .before .before .before .before .before .before .before .letter .ensures) (T.«then» (c .before .before .before .before .before .before .before .before .before .before .before .before .before .before .before .natural .ensures) (T.«then» (c .before .before .before .before .before .before .before .before .before .before .before .byte .ensures) (T.«then» (c .before .before .before .before .before .before .natural2 .ensures) (c .before .before .byte2 .ensures))))) (rw (c .before .before .before .before .before .before .before .wide .ensures) (T.refusal-is _ _))
+returns c =
+    let c2 = c .before .before in
+    let c6 = c2 .before .before .before .before in
+    let c7 = c6 .before in
+    let c11 = c7 .before .before .before .before in
+    let c15 = c11 .before .before .before .before in
+    let c19 = c15 .before .before .before .before in
+    T.says (T.«then» (c19 .letter .ensures) (T.«then» (c15 .natural .ensures) (T.«then» (c11 .byte .ensures) (T.«then» (c6 .natural2 .ensures) (c2 .byte2 .ensures))))) (rw (c7 .wide .ensures) (T.refusal-is _ _))
 
 pub write-refusal-spec : {M : Type 1} → statement M
 write-refusal-spec =

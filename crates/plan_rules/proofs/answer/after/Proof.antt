@@ -1,10 +1,9 @@
+-- `plan_rules::answer::after` meets its contract. Assumes nothing.
 use mathlib.Core.Path.{refl}
 use Rattle.plan_rules.specs.State.{afterIn}
 use borrow.Author.Needs.{needs}
 use Rattle.plan_rules.proofs.answer.after.Statement.{statement}
 use Rattle.plan_rules.proofs.answer.after.Tie as tie
-use Rattle.plan_rules.proofs.answer.after.Reads as reads
-use Rattle.plan_rules.proofs.answer.after.Lts as lts
 
 add-t3 : tie.Need-add-t3
 add-t3 c = search needs

@@ -1,4 +1,5 @@
-use mathlib.Core.Path.{_≡_, refl, sym, _∙_, ap}
+-- `plan_rules::answer::answer_geodetic` meets its contract. Assumes nothing.
+use mathlib.Core.Path.{refl, sym, _∙_, ap}
 use mathlib.Core.Bool.{Bool}
 use lib.Dec.{eqb}
 use Rattle.refusal.specs.Order.{pick}
@@ -6,12 +7,6 @@ use Rattle.plan_rules.proofs.Laws.{no-origin, gave-refusal}
 use borrow.Author.Needs.{needs}
 use Rattle.plan_rules.proofs.answer.answer_geodetic.Statement.{statement}
 use Rattle.plan_rules.proofs.answer.answer_geodetic.Tie as tie
-use Rattle.plan_rules.proofs.answer.answer_geodetic.Reads as reads
-use Rattle.plan_rules.proofs.answer.answer_geodetic.Lts as lts
-use Rattle.line.proofs.read_geodetic.Reads as read-geodetic-reads
-use Rattle.plan_rules.proofs.answer.lay.Reads as lay-reads
-use Rattle.plan_rules.proofs.answer.ordered.Reads as ordered-reads
-use Rattle.plan_rules.proofs.answer.refuse.Reads as refuse-reads
 
 read-geodetic-requires : tie.Need-read-geodetic-requires
 read-geodetic-requires c κs = tt
@@ -35,7 +30,12 @@ same-length : tie.Need-same-length
 same-length c = search needs
 
 returns : tie.Need-returns
-returns c = λ p h. let e = sym (c .before .before .before .before .before .before .before .before .before .read-geodetic .ensures) ∙ c .before .before .before .before .before .before .before .fault .given .1 in let n = c .before .before .before .before .before .before .before .fault .given .0 .0 .number in let w = ap (λ (b : Bool). pick (eqb n 1) 1 (pick b 8 n)) (no-origin _ _ (p .origin) (h .origin)) ∙ sym (c .before .before .before .before .ordered .ensures) in rw (e, w) (gave-refusal h _ refl _ _ _ _ _ (c .before .before .refuse .ensures .0) (c .before .before .refuse .ensures .1))
+returns c =
+    let c2 = c .before .before in
+    let c4 = c2 .before .before in
+    let c7 = c4 .before .before .before in
+    let c9 = c7 .before .before in
+    λ p h. let e = sym (c9 .read-geodetic .ensures) ∙ c7 .fault .given .1 in let n = c7 .fault .given .0 .0 .number in let w = ap (λ (b : Bool). pick (eqb n 1) 1 (pick b 8 n)) (no-origin _ _ (p .origin) (h .origin)) ∙ sym (c4 .ordered .ensures) in rw (e, w) (gave-refusal h _ refl _ _ _ _ _ (c2 .refuse .ensures .0) (c2 .refuse .ensures .1))
 
 same-length-2 : tie.Need-same-length-2
 same-length-2 c = search needs

@@ -1,15 +1,11 @@
-use mathlib.Core.Path.{_≡_, refl}
+-- `plan_rules::answer::answer_line` meets its contract. Assumes nothing.
+use mathlib.Core.Path.{refl}
 use borrow.Author.Tests.{eq-eqb, ne-eqb}
 use Rattle.plan_rules.specs.Plan.{answerOf, nextOf}
 use Rattle.plan_rules.proofs.Laws.{gave-refusal}
 use borrow.Author.Needs.{needs}
 use Rattle.plan_rules.proofs.answer.answer_line.Statement.{statement}
 use Rattle.plan_rules.proofs.answer.answer_line.Tie as tie
-use Rattle.plan_rules.proofs.answer.answer_line.Reads as reads
-use Rattle.plan_rules.proofs.answer.answer_line.Lts as lts
-use Rattle.plan_rules.proofs.answer.answer_geodetic.Reads as answer-geodetic-reads
-use Rattle.plan_rules.proofs.answer.answer_origin.Reads as answer-origin-reads
-use Rattle.plan_rules.proofs.answer.refuse.Reads as refuse-reads
 
 shared-slice-read-letter : tie.Need-shared-slice-read-letter
 shared-slice-read-letter c = search needs
@@ -42,7 +38,11 @@ same-length-3 c = search needs
 
 returns-3 : tie.Need-returns-3
 unfolding answerOf nextOf
-returns-3 c = λ p h. rw (ne-eqb _ 79 (c .before .before .before .before .before .if1 .left), ne-eqb _ 71 (c .before .before .before .before .if2 .left)) (gave-refusal h _ refl _ _ _ _ _ (c .before .before .refuse .ensures .0) (c .before .before .refuse .ensures .1))
+returns-3 c =
+    let c2 = c .before .before in
+    let c4 = c2 .before .before in
+    let c5 = c4 .before in
+    λ p h. rw (ne-eqb _ 79 (c5 .if1 .left), ne-eqb _ 71 (c4 .if2 .left)) (gave-refusal h _ refl _ _ _ _ _ (c2 .refuse .ensures .0) (c2 .refuse .ensures .1))
 
 pub answer-line-spec : {M : Type 1} → statement M
 answer-line-spec =

@@ -1,4 +1,5 @@
-use mathlib.Core.Path.{_≡_, refl, sym, _∙_, ap}
+-- `plan_rules::answer::answer_origin` meets its contract. Assumes nothing.
+use mathlib.Core.Path.{refl, sym, _∙_, ap}
 use mathlib.Core.Bool.{not}
 use Prim.Native.Nat.{ℕ}
 use lib.Dec.{eqb}
@@ -7,12 +8,6 @@ use Rattle.plan_rules.proofs.Laws.{origin-sound, gave-refusal}
 use borrow.Author.Needs.{needs}
 use Rattle.plan_rules.proofs.answer.answer_origin.Statement.{statement}
 use Rattle.plan_rules.proofs.answer.answer_origin.Tie as tie
-use Rattle.plan_rules.proofs.answer.answer_origin.Reads as reads
-use Rattle.plan_rules.proofs.answer.answer_origin.Lts as lts
-use Rattle.line.proofs.read_origin.Reads as read-origin-reads
-use Rattle.plan_rules.proofs.answer.ordered.Reads as ordered-reads
-use Rattle.plan_rules.proofs.answer.refuse.Reads as refuse-reads
-use Rattle.plan_rules.proofs.answer.take_origin.Reads as take-origin-reads
 
 read-origin-requires : tie.Need-read-origin-requires
 read-origin-requires c κs = tt
@@ -36,7 +31,12 @@ same-length : tie.Need-same-length
 same-length c = search needs
 
 returns : tie.Need-returns
-returns c = λ p h. let e = sym (c .before .before .before .before .before .before .before .before .before .read-origin .ensures) ∙ c .before .before .before .before .before .before .before .fault .given .1 in let n = c .before .before .before .before .before .before .before .fault .given .0 .0 .number in let w = ap (λ (l : ℕ). pick (eqb n 1) 1 (pick (not (eqb l 1)) 7 n)) (sym (h .line)) ∙ sym (c .before .before .before .before .ordered .ensures) in rw (e, w) (gave-refusal h _ refl _ _ _ _ _ (c .before .before .refuse .ensures .0) (c .before .before .refuse .ensures .1))
+returns c =
+    let c2 = c .before .before in
+    let c4 = c2 .before .before in
+    let c7 = c4 .before .before .before in
+    let c9 = c7 .before .before in
+    λ p h. let e = sym (c9 .read-origin .ensures) ∙ c7 .fault .given .1 in let n = c7 .fault .given .0 .0 .number in let w = ap (λ (l : ℕ). pick (eqb n 1) 1 (pick (not (eqb l 1)) 7 n)) (sym (h .line)) ∙ sym (c4 .ordered .ensures) in rw (e, w) (gave-refusal h _ refl _ _ _ _ _ (c2 .refuse .ensures .0) (c2 .refuse .ensures .1))
 
 same-length-2 : tie.Need-same-length-2
 same-length-2 c = search needs

@@ -1,9 +1,7 @@
+-- `plan_rules::answer::ordered` meets its contract. Assumes nothing.
 use borrow.Author.Tests.{eq-eqb, ne-eqb}
-use borrow.Author.Needs.{needs}
 use Rattle.plan_rules.proofs.answer.ordered.Statement.{statement}
 use Rattle.plan_rules.proofs.answer.ordered.Tie as tie
-use Rattle.plan_rules.proofs.answer.ordered.Reads as reads
-use Rattle.plan_rules.proofs.answer.ordered.Lts as lts
 
 returns : tie.Need-returns
 returns c = rw (eq-eqb (c .before .args .number) 1 (c .if1 .taken))

@@ -1,3 +1,4 @@
+-- `plan_rules::answer::take_origin` meets its contract. Assumes nothing.
 use mathlib.Core.Path.{_≡_, refl, sym, _∙_}
 use mathlib.Core.Bool.{true, false}
 use lib.Dec.{eqb}
@@ -6,10 +7,6 @@ use Rattle.plan_rules.proofs.Laws.{never-refused, is-made, gave-refusal
 use borrow.Author.Needs.{needs}
 use Rattle.plan_rules.proofs.answer.take_origin.Statement.{statement}
 use Rattle.plan_rules.proofs.answer.take_origin.Tie as tie
-use Rattle.plan_rules.proofs.answer.take_origin.Reads as reads
-use Rattle.plan_rules.proofs.answer.take_origin.Lts as lts
-use Rattle.angle.proofs.make_origin.Reads as make-origin-reads
-use Rattle.plan_rules.proofs.answer.refuse.Reads as refuse-reads
 
 refuse-requires : tie.Need-refuse-requires
 refuse-requires c κs = search needs
@@ -18,7 +15,10 @@ same-length : tie.Need-same-length
 same-length c = search needs
 
 returns : tie.Need-returns
-returns c = λ p h. let q : eqb (p .line) 1 ≡ false = ne-eqb (p .line) 1 (λ y. c .before .before .before .before .if1 .taken (h .line ∙ y)) in rw q (gave-refusal h _ refl _ _ _ _ _ (c .before .before .refuse .ensures .0) (c .before .before .refuse .ensures .1))
+returns c =
+    let c2 = c .before .before in
+    let c4 = c2 .before .before in
+    λ p h. let q : eqb (p .line) 1 ≡ false = ne-eqb (p .line) 1 (λ y. c4 .if1 .taken (h .line ∙ y)) in rw q (gave-refusal h _ refl _ _ _ _ _ (c2 .refuse .ensures .0) (c2 .refuse .ensures .1))
 
 make-origin-requires : tie.Need-make-origin-requires
 make-origin-requires c κs = tt
@@ -39,10 +39,19 @@ same-length-2 : tie.Need-same-length-2
 same-length-2 c = search needs
 
 returns-2 : tie.Need-returns-2
-returns-2 c = λ p h. absurd (never-refused _ _ (c .before .before .before .before .before .before .before .before .before .before .before .pre .1) (sym (c .before .before .before .before .before .before .before .make-origin .ensures) ∙ c .before .before .before .before .before .number .given .1))
+returns-2 c =
+    let c5 = c .before .before .before .before .before in
+    let c7 = c5 .before .before in
+    let c11 = c7 .before .before .before .before in
+    λ p h. absurd (never-refused _ _ (c11 .pre .1) (sym (c7 .make-origin .ensures) ∙ c5 .number .given .1))
 
 returns-3 : tie.Need-returns-3
-returns-3 c = λ p h. let q : eqb (p .line) 1 ≡ true = eq-eqb (p .line) 1 (sym (h .line) ∙ c .before .before .before .before .before .if1 .left) in rw q (gave-origin h (c .before .before .before .before .before .before .before .before .args .o) _ (c .before .before .before .before .before .before .before .before .pre .1) (is-made _ _ (c .before .before .before .before .before .before .before .before .pre .1) (sym (c .before .before .before .before .make-origin .ensures) ∙ c .before .before .origin .given .1)) _ _)
+returns-3 c =
+    let c2 = c .before .before in
+    let c4 = c2 .before .before in
+    let c5 = c4 .before in
+    let c8 = c5 .before .before .before in
+    λ p h. let q : eqb (p .line) 1 ≡ true = eq-eqb (p .line) 1 (sym (h .line) ∙ c5 .if1 .left) in rw q (gave-origin h (c8 .args .o) _ (c8 .pre .1) (is-made _ _ (c8 .pre .1) (sym (c4 .make-origin .ensures) ∙ c2 .origin .given .1)) _ _)
 
 pub take-origin-spec : {M : Type 1} → statement M
 take-origin-spec =

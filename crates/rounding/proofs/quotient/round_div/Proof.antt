@@ -1,10 +1,8 @@
 -- `rounding::quotient::round_div` meets its contract: over 1 a number is itself. Assumes nothing.
 use native.Mathlib.Omega.{arith}
 use mathlib.Core.Path.{_≡_, refl, sym, _∙_, ap}
-use mathlib.Core.Bool.{true, false}
-use lib.IntN.{ℤ, pos, natAbs, _+ℤ_, _*ℤ_}
+use lib.IntN.{ℤ, pos, natAbs}
 use lib.Signed.{ltZ}
-use Rattle.refusal.specs.Order.{pick}
 use Rattle.rounding.specs.Zn.{v, k, _⊕_, _⊗_, eq, unle, unlt}
 use Rattle.rounding.specs.Machine.{rd, to₁, of₃, test, lt-true, lt-false}
 use Rattle.rounding.specs.Quotient.{mixed, roundDiv, round-one}

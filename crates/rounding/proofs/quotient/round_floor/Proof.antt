@@ -3,7 +3,7 @@ use native.Mathlib.Omega.{arith}
 use mathlib.Core.Path.{_≡_, refl, _∙_}
 use mir.Syntax.{w64}
 use mir.Val.{SFits, toZ, ofZ}
-use lib.IntN.{ℤ, pos, _+ℤ_, _-ℤ_}
+use lib.IntN.{pos, _+ℤ_, _-ℤ_}
 use lib.Signed.{ltZ, leZ}
 use Rattle.rounding.specs.Zn.{v, k, unle, unlt, unabs, abs, _⊕_, _⊖_}
 use Rattle.rounding.specs.Machine.{fits, fits-top, rd, rd+, rd-, fit+, fit-, test, lt-true, lt-false, le-true, le-false}

@@ -1,10 +1,9 @@
 -- `rounding::quotient::round_mixed` meets its contract: the tests are those of its definition. Assumes nothing.
 use native.Mathlib.Omega.{arith}
-use mathlib.Core.Path.{_≡_, refl, sym, _∙_}
-use mathlib.Core.Bool.{true, false, _||_}
-use lib.IntN.{ℤ, pos, negsuc}
+use mathlib.Core.Path.{_≡_, refl, _∙_}
+use mathlib.Core.Bool.{false}
+use lib.IntN.{pos, negsuc}
 use lib.Signed.{ltZ}
-use Rattle.refusal.specs.Order.{pick}
 use Rattle.rounding.specs.Zn.{v, k, k-, unle, abs}
 use Rattle.rounding.specs.Machine.{rd, to₂, of₃, test, lt-false}
 use Rattle.rounding.specs.Quotient.{mixed}

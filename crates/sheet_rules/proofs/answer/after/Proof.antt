@@ -1,11 +1,9 @@
+-- `sheet_rules::answer::after` meets its contract. Assumes nothing.
 use Rattle.sheet_rules.specs.State.{afterIn}
 use borrow.Author.Needs.{needs}
 use mathlib.Core.Path.{refl}
-use mathlib.Core.Logic.{⊎-elim}
 use Rattle.sheet_rules.proofs.answer.after.Statement.{statement}
 use Rattle.sheet_rules.proofs.answer.after.Tie as tie
-use Rattle.sheet_rules.proofs.answer.after.Reads as reads
-use Rattle.sheet_rules.proofs.answer.after.Lts as lts
 
 add-t6 : tie.Need-add-t6
 add-t6 c = search needs

@@ -1,15 +1,10 @@
-use mathlib.Core.Path.{_≡_, refl}
+-- `sheet_rules::answer::answer_line` meets its contract. Assumes nothing.
 use borrow.Author.Tests.{eq-eqb, ne-eqb}
 use Rattle.sheet_rules.specs.Sheet.{answerOf, nextOf}
 use Rattle.sheet_rules.proofs.Laws.{gave-refusal}
 use borrow.Author.Needs.{needs}
 use Rattle.sheet_rules.proofs.answer.answer_line.Statement.{statement}
 use Rattle.sheet_rules.proofs.answer.answer_line.Tie as tie
-use Rattle.sheet_rules.proofs.answer.answer_line.Reads as reads
-use Rattle.sheet_rules.proofs.answer.answer_line.Lts as lts
-use Rattle.sheet_rules.proofs.answer.answer_point.Reads as answer-point-reads
-use Rattle.sheet_rules.proofs.answer.answer_step.Reads as answer-step-reads
-use Rattle.sheet_rules.proofs.answer.refuse.Reads as refuse-reads
 
 shared-slice-read-letter : tie.Need-shared-slice-read-letter
 shared-slice-read-letter c = search needs
@@ -42,7 +37,11 @@ same-length-3 c = search needs
 
 returns-3 : tie.Need-returns-3
 unfolding answerOf nextOf
-returns-3 c = λ s h. rw (ne-eqb _ 83 (c .before .before .before .before .before .if1 .left), ne-eqb _ 80 (c .before .before .before .before .if2 .left)) (gave-refusal h _ _ _ _ _ (h .refused) (h .closed) _ _ _ _ (c .before .before .refuse .ensures .0) (c .before .before .refuse .ensures .1))
+returns-3 c =
+    let c2 = c .before .before in
+    let c4 = c2 .before .before in
+    let c5 = c4 .before in
+    λ s h. rw (ne-eqb _ 83 (c5 .if1 .left), ne-eqb _ 80 (c4 .if2 .left)) (gave-refusal h _ _ _ _ _ (h .refused) (h .closed) _ _ _ _ (c2 .refuse .ensures .0) (c2 .refuse .ensures .1))
 
 pub answer-line-spec : {M : Type 1} → statement M
 answer-line-spec =

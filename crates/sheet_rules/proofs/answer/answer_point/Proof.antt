@@ -1,16 +1,11 @@
-use mathlib.Core.Path.{_≡_, refl, sym, _∙_, ap}
+-- `sheet_rules::answer::answer_point` meets its contract. Assumes nothing.
+use mathlib.Core.Path.{sym, _∙_, ap}
 use mathlib.Core.Bool.{Bool, not, _||_}
 use lib.Dec.{eqb}
-use Rattle.line.specs.Lines.{readPoint}
 use Rattle.sheet_rules.proofs.Laws.{point-sound, gave-refusal}
 use borrow.Author.Needs.{needs}
 use Rattle.sheet_rules.proofs.answer.answer_point.Statement.{statement}
 use Rattle.sheet_rules.proofs.answer.answer_point.Tie as tie
-use Rattle.sheet_rules.proofs.answer.answer_point.Reads as reads
-use Rattle.sheet_rules.proofs.answer.answer_point.Lts as lts
-use Rattle.line.proofs.read_point.Reads as read-point-reads
-use Rattle.sheet_rules.proofs.answer.convert_point.Reads as convert-point-reads
-use Rattle.sheet_rules.proofs.answer.refuse.Reads as refuse-reads
 
 read-point-requires : tie.Need-read-point-requires
 read-point-requires c κs = tt
@@ -31,7 +26,11 @@ same-length : tie.Need-same-length
 same-length c = search needs
 
 returns : tie.Need-returns
-returns c = λ s h. let e = sym (c .before .before .before .before .before .before .before .before .read-point .ensures) ∙ c .before .before .before .before .before .before .fault .given .1 in rw e (gave-refusal h _ _ _ _ _ (h .refused) (ap (λ (b : Bool). b || not (eqb (c .before .before .before .before .before .before .fault .given .0 .0 .number) 1)) (h .closed)) _ _ _ _ (c .before .before .refuse .ensures .0) (c .before .before .refuse .ensures .1))
+returns c =
+    let c2 = c .before .before in
+    let c6 = c2 .before .before .before .before in
+    let c8 = c6 .before .before in
+    λ s h. let e = sym (c8 .read-point .ensures) ∙ c6 .fault .given .1 in rw e (gave-refusal h _ _ _ _ _ (h .refused) (ap (λ (b : Bool). b || not (eqb (c6 .fault .given .0 .0 .number) 1)) (h .closed)) _ _ _ _ (c2 .refuse .ensures .0) (c2 .refuse .ensures .1))
 
 same-length-2 : tie.Need-same-length-2
 same-length-2 c = search needs

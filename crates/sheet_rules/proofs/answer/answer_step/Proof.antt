@@ -1,15 +1,9 @@
-use mathlib.Core.Path.{_≡_, refl, sym, _∙_}
-use Rattle.line.specs.Lines.{readStep}
-use Rattle.line.specs.declared.StepLine.the-variants as step-line
+-- `sheet_rules::answer::answer_step` meets its contract. Assumes nothing.
+use mathlib.Core.Path.{refl, sym, _∙_}
 use Rattle.sheet_rules.proofs.Laws.{step-sound, gave-refusal}
 use borrow.Author.Needs.{needs}
 use Rattle.sheet_rules.proofs.answer.answer_step.Statement.{statement}
 use Rattle.sheet_rules.proofs.answer.answer_step.Tie as tie
-use Rattle.sheet_rules.proofs.answer.answer_step.Reads as reads
-use Rattle.sheet_rules.proofs.answer.answer_step.Lts as lts
-use Rattle.line.proofs.read_step.Reads as read-step-reads
-use Rattle.sheet_rules.proofs.answer.refuse.Reads as refuse-reads
-use Rattle.sheet_rules.proofs.answer.take_step.Reads as take-step-reads
 
 read-step-requires : tie.Need-read-step-requires
 read-step-requires c κs = tt
@@ -30,7 +24,11 @@ same-length : tie.Need-same-length
 same-length c = search needs
 
 returns : tie.Need-returns
-returns c = λ s h. let e = sym (c .before .before .before .before .before .before .before .read-step .ensures) ∙ c .before .before .before .before .before .fault .given .1 in rw e (gave-refusal h _ _ _ _ _ refl (h .closed) _ _ _ _ (c .before .before .refuse .ensures .0) (c .before .before .refuse .ensures .1))
+returns c =
+    let c2 = c .before .before in
+    let c5 = c2 .before .before .before in
+    let c7 = c5 .before .before in
+    λ s h. let e = sym (c7 .read-step .ensures) ∙ c5 .fault .given .1 in rw e (gave-refusal h _ _ _ _ _ refl (h .closed) _ _ _ _ (c2 .refuse .ensures .0) (c2 .refuse .ensures .1))
 
 same-length-2 : tie.Need-same-length-2
 same-length-2 c = search needs

@@ -1,15 +1,10 @@
+-- `sheet_rules::answer::convert_point` meets its contract. Assumes nothing.
 use mathlib.Core.Path.{_≡_, refl, sym, _∙_}
 use mathlib.Core.Bool.{true, false, or-true}
-use Rattle.sheet_rules.proofs.Laws.{converts, gave-refusal, gave-point}
+use Rattle.sheet_rules.proofs.Laws.{answered, gave-refusal, gave-point}
 use borrow.Author.Needs.{needs}
 use Rattle.sheet_rules.proofs.answer.convert_point.Statement.{statement}
 use Rattle.sheet_rules.proofs.answer.convert_point.Tie as tie
-use Rattle.sheet_rules.proofs.answer.convert_point.Reads as reads
-use Rattle.sheet_rules.proofs.answer.convert_point.Lts as lts
-use Rattle.chain.proofs.forward_ready.Reads as forward-ready-reads
-use Rattle.line.proofs.write_point.Reads as write-point-reads
-use Rattle.sheet_rules.proofs.answer.after.Reads as after-reads
-use Rattle.sheet_rules.proofs.answer.refuse.Reads as refuse-reads
 
 refuse-requires : tie.Need-refuse-requires
 refuse-requires c κs = search needs
@@ -18,7 +13,10 @@ same-length : tie.Need-same-length
 same-length c = search needs
 
 returns : tie.Need-returns
-returns c = λ s h. let q : s .refused ≡ true = sym (h .refused) ∙ c .before .before .before .before .if1 .taken in rw q (gave-refusal h _ _ _ _ _ refl (sym (or-true (s .closed))) _ _ _ _ (c .before .before .refuse .ensures .0) (c .before .before .refuse .ensures .1))
+returns c =
+    let c2 = c .before .before in
+    let c4 = c2 .before .before in
+    λ s h. let q : s .refused ≡ true = sym (h .refused) ∙ c4 .if1 .taken in rw q (gave-refusal h _ _ _ _ _ refl (sym (or-true (s .closed))) _ _ _ _ (c2 .refuse .ensures .0) (c2 .refuse .ensures .1))
 
 forward-ready-requires : tie.Need-forward-ready-requires
 forward-ready-requires c κs = tt
@@ -42,13 +40,23 @@ same-length-2 : tie.Need-same-length-2
 same-length-2 c = search needs
 
 returns-2 : tie.Need-returns-2
-returns-2 c = λ s h. let q : s .refused ≡ false = sym (h .refused) ∙ c .before .before .before .before .before .before .before .before .before .before .if1 .left in let e = sym (converts h (c .before .before .before .before .before .before .before .before .before .before .before .before .args .point) (c .before .before .before .before .before .before .before .before .before .before .before .before .pre .1)) ∙ sym (c .before .before .before .before .before .before .before .forward-ready .ensures) ∙ c .before .before .before .before .before .number .given .1 in rw (q, e) (gave-refusal h _ _ _ _ _ refl (sym (or-true (s .closed))) _ _ _ _ (c .before .before .refuse2 .ensures .0) (c .before .before .refuse2 .ensures .1))
+returns-2 c = λ s h.
+    let f = c .before .before .before .before .before .before .before in
+    let q : s .refused ≡ false = sym (h .refused) ∙ f .before .before .before .if1 .left in
+    let b = f .before .before .before .before .before in
+    let e = answered h (b .args .point) (b .pre .1) (f .forward-ready .ensures) (c .before .before .before .before .before .number .given .1) in
+    rw (q, e) (gave-refusal h _ _ _ _ _ refl (sym (or-true (s .closed))) _ _ _ _ (c .before .before .refuse2 .ensures .0) (c .before .before .refuse2 .ensures .1))
 
 same-length-3 : tie.Need-same-length-3
 same-length-3 c = search needs
 
 returns-3 : tie.Need-returns-3
-returns-3 c = λ s h. let q : s .refused ≡ false = sym (h .refused) ∙ c .before .before .before .before .before .before .before .before .before .before .before .if1 .left in let e = sym (converts h (c .before .before .before .before .before .before .before .before .before .before .before .before .before .args .point) (c .before .before .before .before .before .before .before .before .before .before .before .before .before .pre .1)) ∙ sym (c .before .before .before .before .before .before .before .before .forward-ready .ensures) ∙ c .before .before .before .before .before .before .converted .given .1 in rw (q, e) (gave-point h _ _ _ _ _ refl (sym (or-true (s .closed))) _ _ _ _ (c .before .before .before .write-point .ensures) (c .after .ensures))
+returns-3 c = λ s h.
+    let f = c .before .before .before .before .before .before .before .before in
+    let q : s .refused ≡ false = sym (h .refused) ∙ f .before .before .before .if1 .left in
+    let b = f .before .before .before .before .before in
+    let e = answered h (b .args .point) (b .pre .1) (f .forward-ready .ensures) (c .before .before .before .before .before .before .converted .given .1) in
+    rw (q, e) (gave-point h _ _ _ _ _ refl (sym (or-true (s .closed))) _ _ _ _ (c .before .before .before .write-point .ensures) (c .after .ensures))
 
 pub convert-point-spec : {M : Type 1} → statement M
 convert-point-spec =

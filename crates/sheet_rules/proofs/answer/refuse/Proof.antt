@@ -1,10 +1,7 @@
+-- `sheet_rules::answer::refuse` meets its contract. Assumes nothing.
 use borrow.Author.Needs.{needs}
 use Rattle.sheet_rules.proofs.answer.refuse.Statement.{statement}
 use Rattle.sheet_rules.proofs.answer.refuse.Tie as tie
-use Rattle.sheet_rules.proofs.answer.refuse.Reads as reads
-use Rattle.sheet_rules.proofs.answer.refuse.Lts as lts
-use Rattle.line.proofs.write_refusal.Reads as write-refusal-reads
-use Rattle.sheet_rules.proofs.answer.after.Reads as after-reads
 
 write-refusal-requires : tie.Need-write-refusal-requires
 write-refusal-requires c κs = tt

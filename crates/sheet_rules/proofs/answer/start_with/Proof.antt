@@ -1,9 +1,7 @@
-use borrow.Author.Needs.{needs}
+-- `sheet_rules::answer::start_with` meets its contract. Assumes nothing.
 use borrow.Author.Tests.{eq-eqb, ne-eqb}
 use Rattle.sheet_rules.proofs.answer.start_with.Statement.{statement}
 use Rattle.sheet_rules.proofs.answer.start_with.Tie as tie
-use Rattle.sheet_rules.proofs.answer.start_with.Reads as reads
-use Rattle.sheet_rules.proofs.answer.start_with.Lts as lts
 
 returns : tie.Need-returns
 returns c = rw (eq-eqb (c .before .args .length) 0 (c .if1 .taken))

@@ -1,10 +1,8 @@
+-- `sheet_rules::answer::with_step` meets its contract. Assumes nothing.
 use borrow.Author.Needs.{needs}
 use Rattle.sheet_rules.specs.State.{withIn}
 use Rattle.sheet_rules.proofs.answer.with_step.Statement.{statement}
 use Rattle.sheet_rules.proofs.answer.with_step.Tie as tie
-use Rattle.sheet_rules.proofs.answer.with_step.Reads as reads
-use Rattle.sheet_rules.proofs.answer.with_step.Lts as lts
-use Rattle.sheet_rules.proofs.answer.start_with.Reads as start-with-reads
 
 start-with-requires : tie.Need-start-with-requires
 start-with-requires c κs = search needs

@@ -1,6 +1,5 @@
 -- `chain::steps::convert::forward` meets its contract: the chain decides first, then the point, then the walk. Assumes nothing.
 use mathlib.Core.Path.{_≡_, sym, _∙_, ap}
-use mathlib.Core.Bool.{not}
 use mathlib.Core.List.{List}
 use Rattle.refusal.specs.Order.{first}
 use Rattle.chain.specs.declared.Realization.{Realization}
@@ -61,7 +60,9 @@ end-of-requires : tie.Need-end-of-requires
 end-of-requires c κs = chain-holds (c .before .before .before .before .before .before .args .chain) (sym (c .before .before .before .before .before .chain-fault .ensures) ∙ c .before .before .before .before .if1 .left) .0
 
 forward-walk-requires : tie.Need-forward-walk-requires
-forward-walk-requires c κs = (sound (c .before .before), entry-area (c .before .before .before .before .before .before .before .args .point) (wanted (c .before .before .before .before .before .before .before)) (sym (found (c .before .before)) ∙ c .before .if2 .left))
+forward-walk-requires c κs =
+    let c7 = c .before .before .before .before .before .before .before in
+    (sound (c .before .before), entry-area (c7 .args .point) (wanted (c .before .before .before .before .before .before .before)) (sym (found (c .before .before)) ∙ c .before .if2 .left))
 
 returns-3 : tie.Need-returns-3
 unfolding forwardOf

@@ -1,6 +1,5 @@
 -- `chain::steps::convert::inverse` meets its contract: the chain decides first, then the point, then the walk. Assumes nothing.
 use mathlib.Core.Path.{_≡_, sym, _∙_, ap}
-use mathlib.Core.Bool.{not}
 use mathlib.Core.List.{List, reverse}
 use Rattle.refusal.specs.Order.{first}
 use Rattle.chain.specs.declared.Realization.{Realization}
@@ -61,7 +60,9 @@ start-of-requires : tie.Need-start-of-requires
 start-of-requires c κs = tt
 
 inverse-walk-requires : tie.Need-inverse-walk-requires
-inverse-walk-requires c κs = (sound (c .before .before), entry-area (c .before .before .before .before .before .before .before .args .point) (wanted (c .before .before .before .before .before .before .before)) (sym (found (c .before .before)) ∙ c .before .if2 .left))
+inverse-walk-requires c κs =
+    let c7 = c .before .before .before .before .before .before .before in
+    (sound (c .before .before), entry-area (c7 .args .point) (wanted (c .before .before .before .before .before .before .before)) (sym (found (c .before .before)) ∙ c .before .if2 .left))
 
 returns-3 : tie.Need-returns-3
 unfolding inverseOf

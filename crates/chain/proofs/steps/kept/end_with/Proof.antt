@@ -1,9 +1,7 @@
+-- `chain::steps::kept::end_with` meets its contract. Assumes nothing.
 use borrow.Author.Tests.{eq-eqb, ne-eqb}
-use borrow.Author.Needs.{needs}
 use Rattle.chain.proofs.steps.kept.end_with.Statement.{statement}
 use Rattle.chain.proofs.steps.kept.end_with.Tie as tie
-use Rattle.chain.proofs.steps.kept.end_with.Reads as reads
-use Rattle.chain.proofs.steps.kept.end_with.Lts as lts
 
 returns : tie.Need-returns
 returns c = rw (eq-eqb (c .before .args .length) 0 (c .if1 .taken))

@@ -1,4 +1,5 @@
-use mathlib.Core.Path.{_≡_, _∙_}
+-- `chain::steps::kept::fixed_in_range` meets its contract. Assumes nothing.
+use mathlib.Core.Path.{_∙_}
 use mathlib.Core.Bool.{_&&_}
 use lib.IntN.{ℤ}
 use Rattle.rounding.specs.Machine.{told, of₃}
@@ -7,16 +8,15 @@ use Rattle.chain.specs.Prepared.{readyRange}
 use borrow.Author.Needs.{needs}
 use Rattle.chain.proofs.steps.kept.fixed_in_range.Statement.{statement}
 use Rattle.chain.proofs.steps.kept.fixed_in_range.Tie as tie
-use Rattle.chain.proofs.steps.kept.fixed_in_range.Reads as reads
-use Rattle.chain.proofs.steps.kept.fixed_in_range.Lts as lts
-use Rattle.chain.proofs.ranges.three_within.Reads as three-within-reads
 
 three-within-requires : tie.Need-three-within-requires
 three-within-requires c κs = search needs
 
 returns : tie.Need-returns
 unfolding readyRange
-returns c = let t = c .before .before .before .struct-told .given in c .three-within .ensures ∙ of₃ (λ (x y z : ℤ). upTo 100000000 x && upTo 100000000 y && upTo 100000000 z) (told (t .0 .1)) (told (t .1 .0 .1)) (told (t .1 .1 .0 .1))
+returns c =
+    let t = c .before .before .before .struct-told .given in
+    c .three-within .ensures ∙ of₃ (λ (x y z : ℤ). upTo 100000000 x && upTo 100000000 y && upTo 100000000 z) (told (t .0 .1)) (told (t .1 .0 .1)) (told (t .1 .1 .0 .1))
 
 pub fixed-in-range-spec : {M : Type 1} → statement M
 fixed-in-range-spec = tie.close (tie.spec three-within-requires returns)

@@ -1,13 +1,9 @@
-use mathlib.Core.Path.{_≡_, refl, sym, _∙_}
+-- `chain::steps::kept::make_ready` meets its contract. Assumes nothing.
+use mathlib.Core.Path.{refl, sym, _∙_}
 use borrow.Author.Tests.{lt-ltb, le-ltb, eq-eqb, ne-eqb}
 use borrow.Author.Needs.{needs}
 use Rattle.chain.proofs.steps.kept.make_ready.Statement.{statement}
 use Rattle.chain.proofs.steps.kept.make_ready.Tie as tie
-use Rattle.chain.proofs.steps.kept.make_ready.Reads as reads
-use Rattle.chain.proofs.steps.kept.make_ready.Lts as lts
-use Rattle.chain.proofs.faults.step_fault.Reads as step-fault-reads
-use Rattle.chain.proofs.steps.kept.put_ready.Reads as put-ready-reads
-use Rattle.chain.proofs.steps.prepare.Reads as prepare-reads
 
 returns : tie.Need-returns
 returns c = rw (le-ltb (c .before .args .index) 8 (c .if1 .taken)) refl
@@ -25,7 +21,13 @@ put-ready-requires : tie.Need-put-ready-requires
 put-ready-requires c κs = search needs
 
 returns-3 : tie.Need-returns-3
-returns-3 c = rw (lt-ltb (c .before .before .before .before .before .before .args .index) 8 (c .before .before .before .before .before .if1 .left), eq-eqb _ 0 (sym (c .before .before .before .before .step-fault .ensures) ∙ c .before .before .before .if2 .left)) (record { ready = c .before .before .prepare .result; prepares = c .before .before .prepare .ensures; numbers = c .put-ready .ensures })
+returns-3 c =
+    let c2 = c .before .before in
+    let c3 = c2 .before in
+    let c4 = c3 .before in
+    let c5 = c4 .before in
+    let c6 = c5 .before in
+    rw (lt-ltb (c6 .args .index) 8 (c5 .if1 .left), eq-eqb _ 0 (sym (c4 .step-fault .ensures) ∙ c3 .if2 .left)) (record { ready = c2 .prepare .result; prepares = c2 .prepare .ensures; numbers = c .put-ready .ensures })
 
 pub make-ready-spec : {M : Type 1} → statement M
 make-ready-spec =

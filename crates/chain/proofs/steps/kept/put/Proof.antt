@@ -1,12 +1,11 @@
-use Prim.Native.Nat.{ℕ, suc, _+_, _*_}
+-- `chain::steps::kept::put` meets its contract. Assumes nothing.
+use Prim.Native.Nat.{suc, _+_, _*_}
 use mathlib.Core.Path.{_≡_}
 use native.Mathlib.Omega.{arith}
 use Rattle.rounding.specs.Machine.{rd}
 use borrow.Author.Needs.{needs}
 use Rattle.chain.proofs.steps.kept.put.Statement.{statement}
 use Rattle.chain.proofs.steps.kept.put.Tie as tie
-use Rattle.chain.proofs.steps.kept.put.Reads as reads
-use Rattle.chain.proofs.steps.kept.put.Lts as lts
 
 mul-at : tie.Need-mul-at
 mul-at c = search needs
@@ -81,7 +80,17 @@ element-set-from-g : tie.Need-element-set-from-g
 element-set-from-g c = search needs
 
 returns : tie.Need-returns
-returns c = let f = c .fits in let i = 8 * c .args .index in let b1 : i + 1 ≡ suc i = omega arith in let b2 : i + 2 ≡ suc (suc i) = omega arith in let b3 : i + 3 ≡ suc (suc (suc i)) = omega arith in let b4 : i + 4 ≡ suc (suc (suc (suc i))) = omega arith in let b5 : i + 5 ≡ suc (suc (suc (suc (suc i)))) = omega arith in let b6 : i + 6 ≡ suc (suc (suc (suc (suc (suc i))))) = omega arith in let b7 : i + 7 ≡ suc (suc (suc (suc (suc (suc (suc i)))))) = omega arith in rw (b1, b2, b3, b4, b5, b6, b7, rd (f .form), rd (f .a), rd (f .b), rd (f .c), rd (f .d), rd (f .e), rd (f .f), rd (f .g))
+returns c =
+    let f = c .fits in
+    let i = 8 * c .args .index in
+    let b1 : i + 1 ≡ suc i = omega arith in
+    let b2 : i + 2 ≡ suc (suc i) = omega arith in
+    let b3 : i + 3 ≡ suc (suc (suc i)) = omega arith in
+    let b4 : i + 4 ≡ suc (suc (suc (suc i))) = omega arith in
+    let b5 : i + 5 ≡ suc (suc (suc (suc (suc i)))) = omega arith in
+    let b6 : i + 6 ≡ suc (suc (suc (suc (suc (suc i))))) = omega arith in
+    let b7 : i + 7 ≡ suc (suc (suc (suc (suc (suc (suc i)))))) = omega arith in
+    rw (b1, b2, b3, b4, b5, b6, b7, rd (f .form), rd (f .a), rd (f .b), rd (f .c), rd (f .d), rd (f .e), rd (f .f), rd (f .g))
 
 pub put-spec : {M : Type 1} → statement M
 put-spec =

@@ -1,11 +1,8 @@
-use mathlib.Core.Path.{_≡_, _∙_}
+-- `chain::steps::kept::put_ready` meets its contract. Assumes nothing.
 use Rattle.rounding.specs.Machine.{told}
 use borrow.Author.Needs.{needs}
 use Rattle.chain.proofs.steps.kept.put_ready.Statement.{statement}
 use Rattle.chain.proofs.steps.kept.put_ready.Tie as tie
-use Rattle.chain.proofs.steps.kept.put_ready.Reads as reads
-use Rattle.chain.proofs.steps.kept.put_ready.Lts as lts
-use Rattle.chain.proofs.steps.kept.put.Reads as put-reads
 
 enum-known-r : tie.Need-enum-known-r
 enum-known-r c = search needs
@@ -26,13 +23,23 @@ put-requires-3 : tie.Need-put-requires-3
 put-requires-3 c κs = search needs
 
 returns : tie.Need-returns
-returns c = let t = c .before .before .before .struct-told .given in rw (c .before .before .before .before .before .before .r .given .1, c .put .ensures, told (t .0 .1), told (t .1 .0 .1), told (t .1 .1 .0 .1))
+returns c =
+    let t = c .before .before .before .struct-told .given in
+    rw (c .before .before .before .before .before .before .r .given .1, c .put .ensures, told (t .0 .1), told (t .1 .0 .1), told (t .1 .1 .0 .1))
 
 returns-2 : tie.Need-returns-2
-returns-2 c = let t = c .before .before .before .before .before .before .before .struct-told4 .given in rw (c .before .before .before .before .before .before .before .before .before .before .r2 .given .1, c .put2 .ensures, told (t .0 .1), told (t .1 .0 .1), told (t .1 .1 .0 .1), told (t .1 .1 .1 .0 .1), told (t .1 .1 .1 .1 .0 .1), told (t .1 .1 .1 .1 .1 .0 .1), told (t .1 .1 .1 .1 .1 .1 .0 .1))
+returns-2 c =
+    let c7 = c .before .before .before .before .before .before .before in
+    let c10 = c7 .before .before .before in
+    let t = c7 .struct-told4 .given in
+    rw (c10 .r2 .given .1, c .put2 .ensures, told (t .0 .1), told (t .1 .0 .1), told (t .1 .1 .0 .1), told (t .1 .1 .1 .0 .1), told (t .1 .1 .1 .1 .0 .1), told (t .1 .1 .1 .1 .1 .0 .1), told (t .1 .1 .1 .1 .1 .1 .0 .1))
 
 returns-3 : tie.Need-returns-3
-returns-3 c = let t = c .before .before .before .before .struct-told11 .given in rw (c .before .before .before .before .before .before .before .r3 .given .1, c .put3 .ensures, told (t .0 .1), told (t .1 .0 .1), told (t .1 .1 .0 .1), told (t .1 .1 .1 .0 .1))
+returns-3 c =
+    let c4 = c .before .before .before .before in
+    let c7 = c4 .before .before .before in
+    let t = c4 .struct-told11 .given in
+    rw (c7 .r3 .given .1, c .put3 .ensures, told (t .0 .1), told (t .1 .0 .1), told (t .1 .1 .0 .1), told (t .1 .1 .1 .0 .1))
 
 pub put-ready-spec : {M : Type 1} → statement M
 put-ready-spec =

@@ -1,3 +1,4 @@
+-- `chain::steps::kept::ready_at` meets its contract. Assumes nothing.
 use Prim.Native.Nat.{ℕ, _+_, _*_}
 use mathlib.Core.Path.{_≡_, ap}
 use native.Mathlib.Omega.{arith}
@@ -10,9 +11,6 @@ use Rattle.chain.specs.Prepared.{readyAt}
 use borrow.Author.Needs.{needs}
 use Rattle.chain.proofs.steps.kept.ready_at.Statement.{statement}
 use Rattle.chain.proofs.steps.kept.ready_at.Tie as tie
-use Rattle.chain.proofs.steps.kept.ready_at.Reads as reads
-use Rattle.chain.proofs.steps.kept.ready_at.Lts as lts
-use Rattle.chain.proofs.steps.kept.ready_of.Reads as ready-of-reads
 
 mul-at : tie.Need-mul-at
 mul-at c = search needs
@@ -91,7 +89,17 @@ ready-of-requires c κs = search needs
 
 returns : tie.Need-returns
 unfolding readyAt
-returns c = let e : 8 * c .before .before .before .before .before .before .before .before .before .args .index ≡ 8 * c .before .before .before .before .before .before .before .before .before .args .index + 0 = omega arith in c .ready-of .ensures ∙ eight (told (c .before .before .before .before .before .before .before .before .ready-of-arg .given) ∙ ap (λ (n : ℕ). getD (c .before .before .before .before .before .before .before .before .before .args .numbers .now) n (pos 0)) e) (told (c .before .before .before .before .before .before .before .ready-of-arg2 .given)) (told (c .before .before .before .before .before .before .ready-of-arg3 .given)) (told (c .before .before .before .before .before .ready-of-arg4 .given)) (told (c .before .before .before .before .ready-of-arg5 .given)) (told (c .before .before .before .ready-of-arg6 .given)) (told (c .before .before .ready-of-arg7 .given)) (told (c .before .ready-of-arg8 .given))
+returns c =
+    let c2 = c .before .before in
+    let c3 = c2 .before in
+    let c4 = c3 .before in
+    let c5 = c4 .before in
+    let c6 = c5 .before in
+    let c7 = c6 .before in
+    let c8 = c7 .before in
+    let c9 = c8 .before in
+    let e : 8 * c9 .args .index ≡ 8 * c9 .args .index + 0 = omega arith in
+    c .ready-of .ensures ∙ eight (told (c8 .ready-of-arg .given) ∙ ap (λ (n : ℕ). getD (c9 .args .numbers .now) n (pos 0)) e) (told (c7 .ready-of-arg2 .given)) (told (c6 .ready-of-arg3 .given)) (told (c5 .ready-of-arg4 .given)) (told (c4 .ready-of-arg5 .given)) (told (c3 .ready-of-arg6 .given)) (told (c2 .ready-of-arg7 .given)) (told (c .before .ready-of-arg8 .given))
 
 pub ready-at-spec : {M : Type 1} → statement M
 ready-at-spec =

@@ -1,13 +1,9 @@
-use mathlib.Core.Path.{_≡_, sym, _∙_, ap}
+-- `chain::steps::kept::ready_in_range` meets its contract. Assumes nothing.
+use mathlib.Core.Path.{sym, _∙_, ap}
 use Rattle.chain.specs.Prepared.{readyRange}
 use borrow.Author.Needs.{needs}
 use Rattle.chain.proofs.steps.kept.ready_in_range.Statement.{statement}
 use Rattle.chain.proofs.steps.kept.ready_in_range.Tie as tie
-use Rattle.chain.proofs.steps.kept.ready_in_range.Reads as reads
-use Rattle.chain.proofs.steps.kept.ready_in_range.Lts as lts
-use Rattle.chain.proofs.steps.kept.fixed_in_range.Reads as fixed-in-range-reads
-use Rattle.chain.proofs.steps.kept.scale_in_range.Reads as scale-in-range-reads
-use Rattle.chain.proofs.steps.kept.turn_in_range.Reads as turn-in-range-reads
 
 enum-known-r : tie.Need-enum-known-r
 enum-known-r c = search needs

@@ -1,4 +1,5 @@
-use mathlib.Core.Path.{_≡_, _∙_, ap, ap₂}
+-- `chain::steps::kept::scale_in_range` meets its contract. Assumes nothing.
+use mathlib.Core.Path.{_∙_, ap, ap₂}
 use mathlib.Core.Bool.{_&&_}
 use lib.IntN.{ℤ}
 use Rattle.rounding.specs.Machine.{told, of₃}
@@ -7,10 +8,6 @@ use Rattle.chain.specs.Prepared.{readyRange}
 use borrow.Author.Needs.{needs}
 use Rattle.chain.proofs.steps.kept.scale_in_range.Statement.{statement}
 use Rattle.chain.proofs.steps.kept.scale_in_range.Tie as tie
-use Rattle.chain.proofs.steps.kept.scale_in_range.Reads as reads
-use Rattle.chain.proofs.steps.kept.scale_in_range.Lts as lts
-use Rattle.chain.proofs.ranges.three_within.Reads as three-within-reads
-use Rattle.chain.proofs.ranges.within.Reads as within-reads
 
 three-within-requires : tie.Need-three-within-requires
 three-within-requires c κs = search needs
@@ -20,7 +17,11 @@ within-requires c κs = search needs
 
 returns : tie.Need-returns
 unfolding readyRange
-returns c = let t = c .before .before .before .before .before .struct-told .given in ap₂ _&&_ (c .before .before .three-within .ensures ∙ of₃ (λ (x y z : ℤ). upTo 1971000000000000000 x && upTo 1971000000000000000 y && upTo 1971000000000000000 z) (told (t .0 .1)) (told (t .1 .0 .1)) (told (t .1 .1 .0 .1))) (c .within .ensures ∙ ap (upTo 1202000) (told (t .1 .1 .1 .0 .1)))
+returns c =
+    let c2 = c .before .before in
+    let c5 = c2 .before .before .before in
+    let t = c5 .struct-told .given in
+    ap₂ _&&_ (c2 .three-within .ensures ∙ of₃ (λ (x y z : ℤ). upTo 1971000000000000000 x && upTo 1971000000000000000 y && upTo 1971000000000000000 z) (told (t .0 .1)) (told (t .1 .0 .1)) (told (t .1 .1 .0 .1))) (c .within .ensures ∙ ap (upTo 1202000) (told (t .1 .1 .1 .0 .1)))
 
 pub scale-in-range-spec : {M : Type 1} → statement M
 scale-in-range-spec = tie.close (tie.spec three-within-requires within-requires returns)

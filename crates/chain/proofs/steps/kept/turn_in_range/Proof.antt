@@ -1,4 +1,5 @@
-use mathlib.Core.Path.{_≡_, _∙_, ap, ap₂}
+-- `chain::steps::kept::turn_in_range` meets its contract. Assumes nothing.
+use mathlib.Core.Path.{_∙_, ap, ap₂}
 use mathlib.Core.Bool.{_&&_}
 use lib.IntN.{ℤ}
 use Rattle.rounding.specs.Machine.{told, of₃}
@@ -7,10 +8,6 @@ use Rattle.chain.specs.Prepared.{readyRange}
 use borrow.Author.Needs.{needs}
 use Rattle.chain.proofs.steps.kept.turn_in_range.Statement.{statement}
 use Rattle.chain.proofs.steps.kept.turn_in_range.Tie as tie
-use Rattle.chain.proofs.steps.kept.turn_in_range.Reads as reads
-use Rattle.chain.proofs.steps.kept.turn_in_range.Lts as lts
-use Rattle.chain.proofs.ranges.three_within.Reads as three-within-reads
-use Rattle.chain.proofs.ranges.within.Reads as within-reads
 
 three-within-requires : tie.Need-three-within-requires
 three-within-requires c κs = search needs
@@ -23,7 +20,12 @@ within-requires c κs = search needs
 
 returns : tie.Need-returns
 unfolding readyRange
-returns c = let t = c .before .before .before .before .before .before .before .before .before .struct-told .given in ap₂ _&&_ (c .before .before .before .before .before .before .three-within .ensures ∙ of₃ (λ (x y z : ℤ). upTo 100000000 x && upTo 100000000 y && upTo 100000000 z) (told (t .0 .1)) (told (t .1 .0 .1)) (told (t .1 .1 .0 .1))) (ap₂ _&&_ (c .before .before .three-within2 .ensures ∙ of₃ (λ (x y z : ℤ). upTo 4848137 x && upTo 4848137 y && upTo 4848137 z) (told (t .1 .1 .1 .0 .1)) (told (t .1 .1 .1 .1 .0 .1)) (told (t .1 .1 .1 .1 .1 .0 .1))) (c .within .ensures ∙ ap (upTo 2000000) (told (t .1 .1 .1 .1 .1 .1 .0 .1))))
+returns c =
+    let c2 = c .before .before in
+    let c6 = c2 .before .before .before .before in
+    let c9 = c6 .before .before .before in
+    let t = c9 .struct-told .given in
+    ap₂ _&&_ (c6 .three-within .ensures ∙ of₃ (λ (x y z : ℤ). upTo 100000000 x && upTo 100000000 y && upTo 100000000 z) (told (t .0 .1)) (told (t .1 .0 .1)) (told (t .1 .1 .0 .1))) (ap₂ _&&_ (c2 .three-within2 .ensures ∙ of₃ (λ (x y z : ℤ). upTo 4848137 x && upTo 4848137 y && upTo 4848137 z) (told (t .1 .1 .1 .0 .1)) (told (t .1 .1 .1 .1 .0 .1)) (told (t .1 .1 .1 .1 .1 .0 .1))) (c .within .ensures ∙ ap (upTo 2000000) (told (t .1 .1 .1 .1 .1 .1 .0 .1))))
 
 pub turn-in-range-spec : {M : Type 1} → statement M
 turn-in-range-spec =

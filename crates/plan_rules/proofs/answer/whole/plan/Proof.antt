@@ -1,23 +1,18 @@
-use Prim.Native.Nat.{_+_, _-_, _≤_, _<_}
-use mathlib.Core.Path.{_≡_, refl, sym, _∙_, ap}
+-- `plan_rules::answer::whole::plan` meets its contract. Assumes nothing.
+use Prim.Native.Nat.{ℕ, _+_, _-_, _≤_, _<_}
+use mathlib.Core.Path.{_≡_, refl, _∙_}
+use mathlib.Core.List.{List}
 use native.Mathlib.Omega.{arith}
 use lib.ListN.{length, take, drop}
 use borrow.Author.Tests.{lt-ltb, le-ltb}
 use Rattle.listing.specs.Fold.{printed}
 use Rattle.listing.proofs.Laws.{line-goes-on, line-fits, line-length, left-all, left-turn, left-none}
-use Rattle.plan_rules.specs.declared.State.{State}
-use Rattle.plan_rules.specs.Plan.{Plan, fresh, rules, nextOf, planOf}
+use Rattle.plan_rules.specs.Plan.{fresh, rules, nextOf, planOf}
 use Rattle.plan_rules.proofs.Laws.{Midway, next-line}
 use Rattle.plan_rules.proofs.Room.{prints-plan}
 use borrow.Author.Needs.{needs}
 use Rattle.plan_rules.proofs.answer.whole.plan.Statement.{statement}
 use Rattle.plan_rules.proofs.answer.whole.plan.Tie as tie
-use Rattle.plan_rules.proofs.answer.whole.plan.Reads as reads
-use Rattle.plan_rules.proofs.answer.whole.plan.Lts as lts
-use Rattle.line.proofs.write_refusal.Reads as write-refusal-reads
-use Rattle.listing.proofs.line_end.Reads as line-end-reads
-use Rattle.plan_rules.proofs.answer.answer_line.Reads as answer-line-reads
-use Rattle.plan_rules.proofs.answer.whole.fresh.Reads as fresh-reads
 
 abbrev Inv-loop : tie.InvT-loop
 Inv-loop input out₀ state₀ at₀ place₀ out state at place = (place ≤ length input) × (state .line ≤ place + 1) × (length out ≡ length out₀) × Midway input out₀ out state at place
@@ -44,30 +39,74 @@ loop-holds c = let f = c .fresh .ensures in (omega arith, omega (arith, f .line)
 line-end-requires : tie.Need-line-end-requires Inv-loop μ-loop
 line-end-requires c κs = search needs
 
+-- the line at hand
+module _ (c : tie.After-line-end Inv-loop μ-loop) where
+  abbrev input : List ℕ
+  input = c .before .before .before .before .before .before .before .args .input .now
+
+  abbrev place : ℕ
+  place = c .before .before .loop .place
+
+  abbrev end : ℕ
+  end = c .line-end .result
+
+  abbrev line : List ℕ
+  line = take (end - place) (drop place input)
+
+  here : place < length input
+  here = omega arith
+
+  begins : place < end
+  begins = line-goes-on input place end (c .line-end .ensures) here
+
+  ends : end ≤ length input
+  ends = line-fits input place end (c .line-end .ensures) here
+
+  size : length line ≡ end - place
+  size = line-length input place end (c .line-end .ensures) here
+
 sub-answer-line : tie.Need-sub-answer-line Inv-loop μ-loop
-sub-answer-line c = let h : c .before .before .loop .place < length (c .before .before .before .before .before .before .before .args .input .now) = omega arith in omega (arith, line-goes-on (c .before .before .before .before .before .before .before .args .input .now) (c .before .before .loop .place) (c .line-end .result) (c .line-end .ensures) h)
+sub-answer-line c = omega (arith, begins c)
 
 part-answer-line-start : tie.Need-part-answer-line-start Inv-loop μ-loop
-part-answer-line-start c = let h : c .before .before .loop .place < length (c .before .before .before .before .before .before .before .args .input .now) = omega arith in omega (arith, line-goes-on (c .before .before .before .before .before .before .before .args .input .now) (c .before .before .loop .place) (c .line-end .result) (c .line-end .ensures) h)
+part-answer-line-start c = omega (arith, begins c)
 
 part-answer-line-end : tie.Need-part-answer-line-end Inv-loop μ-loop
-part-answer-line-end c = let h : c .before .before .loop .place < length (c .before .before .before .before .before .before .before .args .input .now) = omega arith in omega (arith, line-fits (c .before .before .before .before .before .before .before .args .input .now) (c .before .before .loop .place) (c .line-end .result) (c .line-end .ensures) h)
+part-answer-line-end c = omega (arith, ends c)
 
 answer-line-requires : tie.Need-answer-line-requires Inv-loop μ-loop
-answer-line-requires c κs = let h : c .before .before .before .before .loop .place < length (c .before .before .before .before .before .before .before .before .before .args .input .now) = omega arith in (omega (arith, c .before .before .before .before .before .before .if1 .left), omega (arith, line-goes-on (c .before .before .before .before .before .before .before .before .before .args .input .now) (c .before .before .before .before .loop .place) (c .before .before .line-end .result) (c .before .before .line-end .ensures) h, line-length (c .before .before .before .before .before .before .before .before .before .args .input .now) (c .before .before .before .before .loop .place) (c .before .before .line-end .result) (c .before .before .line-end .ensures) h))
+answer-line-requires c κs =
+    let t = c .before .before in
+    (omega (arith, here t, t .before .before .before .before .if1 .left), omega (arith, begins t, size t))
 
 loop-less : tie.Need-loop-less Inv-loop μ-loop
-loop-less c = let h : c .before .before .before .before .before .before .before .before .loop .place < length (c .before .before .before .before .before .before .before .before .before .before .before .before .before .args .input .now) = omega arith in omega (arith, line-goes-on (c .before .before .before .before .before .before .before .before .before .before .before .before .before .args .input .now) (c .before .before .before .before .before .before .before .before .loop .place) (c .before .before .before .before .before .before .line-end .result) (c .before .before .before .before .before .before .line-end .ensures) h, line-fits (c .before .before .before .before .before .before .before .before .before .before .before .before .before .args .input .now) (c .before .before .before .before .before .before .before .before .loop .place) (c .before .before .before .before .before .before .line-end .result) (c .before .before .before .before .before .before .line-end .ensures) h)
+loop-less c = let t = c .before .before .before .before .before .before in omega (arith, begins t, ends t)
 
 loop-again : tie.Need-loop-again Inv-loop μ-loop
-loop-again c = let k = c .before .before .before .before .before .before .before .before .loop in let s = c .before .before .before .before .before .before .before .before .before .before .before .before .before .args .input .now in let e = c .before .before .before .before .before .before .line-end in let h : k .place < length s = omega arith in let w = k .inv .3 .plan in let g = c .before .before .before .answer-line .ensures w (k .inv .3 .holds) in (line-fits s (k .place) (e .result) (e .ensures) h, omega (arith, line-goes-on s (k .place) (e .result) (e .ensures) h, g .holds .line, next-line w (take (e .result - k .place) (drop (k .place) s)), k .inv .3 .holds .line), c .before .before .before .answer-line .kept .1 .1 .0 ∙ k .inv .2, record { plan = nextOf w (take (e .result - k .place) (drop (k .place) s)); holds = g .holds; left = left-turn rules fresh s _ (k .place) (e .result) w _ _ _ _ (e .ensures) h (g .wrote) (k .inv .3 .left) })
+loop-again c =
+    let t = c .before .before .before .before .before .before in
+    let k = t .before .before .loop in
+    let w = k .inv .3 .plan in
+    let a = c .before .before .before .answer-line in
+    let g = a .ensures w (k .inv .3 .holds) in (
+      ends t,
+      omega (arith, begins t, g .holds .line, next-line w (line t), k .inv .3 .holds .line),
+      a .kept .1 .1 .0 ∙ k .inv .2,
+      record {
+        plan = nextOf w (line t);
+        holds = g .holds;
+        left = left-turn rules fresh (input t) _ (place t) (end t) w _ _ _ _ (t .line-end .ensures) (here t) (g .wrote) (k .inv .3 .left);
+      },
+    )
 
 same-length-2 : tie.Need-same-length-2 Inv-loop μ-loop
 same-length-2 c = c .before .loop .inv .2
 
 returns-2 : tie.Need-returns-2 Inv-loop μ-loop
 unfolding planOf printed
-returns-2 c = let k = c .before .loop in prints-plan (rw (le-ltb _ _ (c .before .before .before .if1 .left)) (left-none rules fresh _ _ (k .place) (k .inv .3 .plan) _ _ (omega arith) (k .inv .3 .left)))
+returns-2 c =
+    let k = c .before .loop in
+    prints-plan (rw (le-ltb _ _ (c .before .before .before .if1 .left)) (left-none rules fresh _ _ (k .place) (k .inv .3 .plan) _ _ (omega arith) (k .inv .3 .left)))
 
 pub plan-spec : {M : Type 1} → statement M
 plan-spec =

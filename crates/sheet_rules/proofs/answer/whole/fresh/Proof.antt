@@ -1,9 +1,7 @@
+-- `sheet_rules::answer::whole::fresh` meets its contract. Assumes nothing.
 use Rattle.sheet_rules.proofs.Laws.{hold-fresh}
-use borrow.Author.Needs.{needs}
 use Rattle.sheet_rules.proofs.answer.whole.fresh.Statement.{statement}
 use Rattle.sheet_rules.proofs.answer.whole.fresh.Tie as tie
-use Rattle.sheet_rules.proofs.answer.whole.fresh.Reads as reads
-use Rattle.sheet_rules.proofs.answer.whole.fresh.Lts as lts
 
 returns : tie.Need-returns
 returns c = λ l e. hold-fresh _ l e

@@ -14,7 +14,7 @@ use Rattle.line.proofs.Texts.{«then», nothing}
 use Rattle.line.proofs.Lengths.{length-refusal}
 use native.Mathlib.Numerals.{add-one}
 use native.Mathlib.Omega.{arith}
-use borrow.Author.Tests.{eq-eqb, ne-eqb, eqb-true, ltb-true, ltb-false}
+use borrow.Author.Tests.{eq-eqb, ne-eqb, eqb-true, ltb-true, ltb-false, lt-ltb, le-ltb}
 use Rattle.refusal.specs.Numbers as refusal
 use Rattle.refusal.specs.Order.{pick}
 use Rattle.listing.specs.Lines.{feed, push, lines, firstLength, lineEnd}
@@ -125,6 +125,16 @@ module _ {S : Type 0} (r : Rules S) (st₀ : S) (s out₀ : List ℕ) where
   pub left-none : (p : ℕ) (st : S) (out : List ℕ) (o : ℕ) → length s ≤ p → Left r st₀ s out₀ st p out o → Wrote out₀ 0 (run r st₀ (lines s)) out o
   unfolding run lines Left
   left-none p st out o h l = l out o (rw (drop-of-length-le s h) (nothing out o))
+
+-- ---- a whole input: one that is too long, and any other
+module _ {S : Type 0} (r : Rules S) (st : S) (input : List ℕ) where
+  pub printed-long : most < length input → printed r st input ≡ refusalText 0 refusal.long
+  unfolding printed
+  printed-long h = rw (lt-ltb most (length input) h)
+
+  pub printed-lines : length input ≤ most → printed r st input ≡ run r st (lines input)
+  unfolding printed
+  printed-lines h = rw (le-ltb most (length input) h)
 
 -- ---- the room for what is printed
 -- every line has a byte

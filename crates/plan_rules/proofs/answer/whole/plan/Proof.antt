@@ -4,9 +4,7 @@ use mathlib.Core.Path.{_≡_, refl, _∙_}
 use mathlib.Core.List.{List}
 use native.Mathlib.Omega.{arith}
 use lib.ListN.{length, take, drop}
-use borrow.Author.Tests.{lt-ltb, le-ltb}
-use Rattle.listing.specs.Fold.{printed}
-use Rattle.listing.proofs.Laws.{line-goes-on, line-fits, line-length, left-all, left-turn, left-none}
+use Rattle.listing.proofs.Laws.{line-goes-on, line-fits, line-length, left-all, left-turn, left-none, printed-long, printed-lines}
 use Rattle.plan_rules.specs.Plan.{fresh, rules, nextOf, planOf}
 use Rattle.plan_rules.proofs.Laws.{Midway, next-line}
 use Rattle.plan_rules.proofs.Room.{prints-plan}
@@ -27,8 +25,11 @@ same-length : tie.Need-same-length Inv-loop μ-loop
 same-length c = search needs
 
 returns : tie.Need-returns Inv-loop μ-loop
-unfolding planOf printed
-returns c = prints-plan (rw (lt-ltb _ _ (c .before .before .before .before .if1 .taken)) (c .before .before .write-refusal .ensures))
+unfolding planOf
+returns c =
+    let t = c .before .before .before .before in
+    prints-plan
+    (rw (printed-long rules fresh (t .before .before .before .args .input .now) (omega (arith, t .if1 .taken))) (c .before .before .write-refusal .ensures))
 
 fresh-requires : tie.Need-fresh-requires Inv-loop μ-loop
 fresh-requires c κs = search needs
@@ -103,10 +104,13 @@ same-length-2 : tie.Need-same-length-2 Inv-loop μ-loop
 same-length-2 c = c .before .loop .inv .2
 
 returns-2 : tie.Need-returns-2 Inv-loop μ-loop
-unfolding planOf printed
+unfolding planOf
 returns-2 c =
     let k = c .before .loop in
-    prints-plan (rw (le-ltb _ _ (c .before .before .before .if1 .left)) (left-none rules fresh _ _ (k .place) (k .inv .3 .plan) _ _ (omega arith) (k .inv .3 .left)))
+    let t = c .before .before .before in
+    prints-plan
+    (rw (printed-lines rules fresh (t .before .before .before .args .input .now) (omega (arith, t .if1 .left)))
+    (left-none rules fresh _ _ (k .place) (k .inv .3 .plan) _ _ (omega arith) (k .inv .3 .left)))
 
 pub plan-spec : {M : Type 1} → statement M
 plan-spec =

@@ -12,10 +12,10 @@ use lib.Ieee.{Float, binary64, unlike, round, add, mul, sub, div, ofInt, fits}
 use lib.Ieee.Fits.{div-fits}
 use lib.Ieee.Scale.{finite}
 use lib.Ieee.Positive.{num}
-use Rattle.bounds.specs.Size.{sign, sign-round, div-sign}
-use Rattle.bounds.specs.Among.{Ends, Among, point, is-finite, num-above, closed, within}
-use Rattle.bounds.specs.Formula.{var, over, nil, All, none, also, value, bounds, test, proved}
-use Rattle.bounds.specs.Zero.{wholes, whole-among, Upto, sub-self, add-zero-is}
+use Rattle.bounds.proofs.Size.{sign, sign-round, div-sign}
+use Rattle.bounds.proofs.Among.{Ends, Among, point, is-finite, num-above, closed, within}
+use Rattle.bounds.proofs.Formula.{var, over, nil, All, none, also, value, bounds, test, proved}
+use Rattle.bounds.proofs.Zero.{wholes, whole-among, Upto, sub-self, add-zero-is}
 use Rattle.angle.specs.Floats.{near, #, k, radians, metres}
 use Rattle.angle.specs.Ranges.{outside, farApart, originTests, pointTests, cassiniTests, originFault}
 use Rattle.angle.specs.Series.{sineOf, cosineOf}

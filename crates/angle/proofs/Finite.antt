@@ -17,9 +17,9 @@ use Rattle.refusal.specs.Order.{first, unless}
 use Rattle.rounding.specs.Decimals.{tooLarge, wholeOf, roundedOf}
 use Rattle.rounding.specs.declared.decimals.Rounded.the-variants.{Whole}
 use Rattle.rounding.proofs.Places.{few}
-use Rattle.bounds.specs.Among.{Ends, Among, is-finite, neg-among}
-use Rattle.bounds.specs.Formula.{var, lit, plus, minus, times, over, All, none, also, value, bounds, test, proved}
-use Rattle.bounds.specs.Zero.{wholes, Upto}
+use Rattle.bounds.proofs.Among.{Ends, Among, is-finite, neg-among}
+use Rattle.bounds.proofs.Formula.{var, lit, plus, minus, times, over, All, none, also, value, bounds, test, proved}
+use Rattle.bounds.proofs.Zero.{wholes, Upto}
 use Rattle.angle.specs.Floats.{near, #, whole, k, radians, metres}
 use Rattle.angle.specs.Ranges.{cartesianTests, originTests, pointTests, cassiniTests}
 use Rattle.angle.specs.Series.{reciprocal, sineOf, cosineOf}

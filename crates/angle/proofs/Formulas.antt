@@ -2,7 +2,7 @@
 use mathlib.Core.List.{List, [], _∷_}
 use Prim.Native.Nat.{ℕ}
 use lib.Ieee.{Float}
-use Rattle.bounds.specs.Formula.{Formula, var, lit, plus, minus, times, over}
+use Rattle.bounds.proofs.Formula.{Formula, var, lit, plus, minus, times, over}
 use Rattle.angle.specs.Floats.{near, #}
 use Rattle.angle.specs.Series.{sineTable, cosineTable}
 

@@ -9,9 +9,9 @@ use lib.Dec.{T}
 use lib.IntN.{ℤ, pos}
 use lib.Ieee.{Float, binary64, round, neg, div, mul, sub}
 use lib.Ieee.Scale.{finite}
-use Rattle.bounds.specs.Among.{Ends, Among, point, closed, within}
-use Rattle.bounds.specs.Formula.{var, lit, times, over, none, also, value, bounds, test, proved}
-use Rattle.bounds.specs.Zero.{wholes, Upto, ofInt-among}
+use Rattle.bounds.proofs.Among.{Ends, Among, point, closed, within}
+use Rattle.bounds.proofs.Formula.{var, lit, times, over, none, also, value, bounds, test, proved}
+use Rattle.bounds.proofs.Zero.{wholes, Upto, ofInt-among}
 use Rattle.angle.specs.Floats.{near, #, whole, k, radians, metres}
 use Rattle.angle.specs.Series.{reciprocal, hornerFrom, horner, sineOf, cosineOf}
 use Rattle.angle.specs.Ranges.{badCode}

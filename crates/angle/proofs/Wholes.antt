@@ -12,7 +12,7 @@ use lib.Signed.{ltZ}
 use lib.Ieee.{binary64, inFloat}
 use mir.Syntax.{w64}
 use mir.Val.{SFits}
-use Rattle.bounds.specs.Zero.{Upto}
+use Rattle.bounds.proofs.Zero.{Upto}
 use Rattle.angle.specs.Ranges.{outside, farApart}
 
 or-false : (a b : Bool) → (a || b) ≡ false → (a ≡ false) × (b ≡ false)

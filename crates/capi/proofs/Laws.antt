@@ -9,7 +9,7 @@ use lib.Seq.{sets, sets-eq}
 use lib.Signed.{mag}
 use mir.Syntax.{w64}
 use mir.Val.{toZ, ofZ}
-use Rattle.rounding.specs.Machine.{told}
+use Rattle.rounding.proofs.Machine.{told}
 use Rattle.capi.specs.Outcome.{Outcome, wrongLength, refused, gives, Answered}
 
 -- all elements of an array are stored, from the first on

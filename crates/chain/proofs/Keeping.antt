@@ -13,7 +13,7 @@ use lib.ListN.{length, getD, set, length-set, length-append}
 use lib.Seq.{sets, take-length, length-sets, getD-set-same, getD-set-other}
 use Rattle.refusal.specs.Numbers as refusal
 use Rattle.refusal.specs.Order.{_gives_, first, pick, unless}
-use Rattle.rounding.specs.Zn.{v, k, neg, le, unabs}
+use Rattle.rounding.proofs.Zn.{v, k, neg, le, unabs}
 use Rattle.chain.specs.declared.Position.{Position}
 use Rattle.refusal.proofs.Orders.{orElse, first-append, both-pass, head-holds, step-passed}
 use Rattle.chain.specs.declared.Realization.{Realization}

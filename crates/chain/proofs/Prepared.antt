@@ -5,9 +5,10 @@ use Prim.Native.Nat.{ℕ, _+_, _*_, _≤_}
 use lib.Dec.{lit<}
 use native.Mathlib.Omega.{arith}
 use lib.IntN.{ℤ, pos, negℤ, natAbs, _+ℤ_, _-ℤ_, _*ℤ_}
-use Rattle.rounding.specs.Zn.{v, k, _⊕_, _⊖_, _⊗_, eq, abs, unabs, abs-neg, mul-le}
-use Rattle.rounding.specs.Machine.{of₃, of₄}
-use Rattle.rounding.specs.Quotient.{roundDiv, round-one, round-near}
+use Rattle.rounding.proofs.Zn.{v, k, _⊕_, _⊖_, _⊗_, eq, abs, unabs, abs-neg, mul-le}
+use Rattle.rounding.proofs.Machine.{of₃, of₄}
+use Rattle.rounding.specs.Quotient.{roundDiv}
+use Rattle.rounding.proofs.Fractions.{round-one, round-near}
 use Rattle.chain.specs.declared.Position.{Position}
 use Rattle.chain.specs.declared.Shift as shift'
 use Rattle.chain.specs.declared.Velocity as velocity'

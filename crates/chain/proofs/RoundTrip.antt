@@ -8,8 +8,8 @@ use native.Mathlib.Omega.{arith}
 use lib.Dec.{lit≤}
 use lib.ListN.{length, length-take}
 use lib.IntN.{ℤ, natAbs, _-ℤ_}
-use Rattle.rounding.specs.Zn.{v, eq, unabs, _⊖_}
-use Rattle.rounding.specs.Machine.{of₃}
+use Rattle.rounding.proofs.Zn.{v, eq, unabs, _⊖_}
+use Rattle.rounding.proofs.Machine.{of₃}
 use Rattle.chain.specs.declared.Position.{Position}
 use Rattle.chain.specs.declared.Realization.{Realization}
 use Rattle.chain.specs.declared.Id.{Id}

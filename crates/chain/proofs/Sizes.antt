@@ -9,8 +9,8 @@ use lib.Dec.{lit<, lit≤}
 use lib.IntN.{ℤ, pos, negℤ, natAbs, _-ℤ_, _*ℤ_}
 use lib.ListN.{getD}
 use Rattle.refusal.specs.Order.{pick}
-use Rattle.rounding.specs.Zn.{v, k, _⊖_, _⊗_, abs, unabs, unle, mul-le, add-le, abs-neg}
-use Rattle.rounding.specs.Quotient.{round-near}
+use Rattle.rounding.proofs.Zn.{v, k, _⊖_, _⊗_, abs, unabs, unle, mul-le, add-le, abs-neg}
+use Rattle.rounding.proofs.Fractions.{round-near}
 use Rattle.chain.specs.declared.Realization.{Realization}
 use Rattle.chain.specs.declared.Shift as shift'
 use Rattle.chain.specs.declared.Velocity as velocity'

@@ -6,8 +6,9 @@ use Prim.Native.Nat.{ℕ, _+_, _*_, _<_, _≤_}
 use native.Mathlib.Nat as NatL
 use native.Mathlib.Omega.{arith}
 use lib.IntN.{ℤ, pos, natAbs, _+ℤ_, _-ℤ_, _*ℤ_}
-use Rattle.rounding.specs.Zn.{P, N, v, k, _⊕_, _⊖_, _⊗_, eq, uneq, abs, unabs, mul-le, add-le, dist}
-use Rattle.rounding.specs.Quotient.{roundDiv, round-apart, round-near}
+use Rattle.rounding.proofs.Zn.{P, N, v, k, _⊕_, _⊖_, _⊗_, eq, uneq, abs, unabs, mul-le, add-le, dist}
+use Rattle.rounding.specs.Quotient.{roundDiv}
+use Rattle.rounding.proofs.Fractions.{round-apart, round-near}
 use Rattle.chain.specs.declared.Position.{Position}
 use Rattle.chain.specs.Parts.{Part, Parts, linear, part, gain, plus, minus, forwardBy, again, inverseBy}
 use Rattle.chain.specs.Axes.{Axis, onX, onY, onZ, coordinate, partOn, Small}

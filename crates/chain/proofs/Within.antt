@@ -6,8 +6,8 @@ use native.Mathlib.Omega.{arith}
 use lib.IntN.{ℤ, pos, negℤ, natAbs}
 use lib.Dec.{lit≤}
 use lib.Signed.{leZ, _≤ℤ_}
-use Rattle.rounding.specs.Zn.{v, eq, abs, unabs, unle, abs-neg}
-use Rattle.rounding.specs.Machine.{le-true}
+use Rattle.rounding.proofs.Zn.{v, eq, abs, unabs, unle, abs-neg}
+use Rattle.rounding.proofs.Machine.{le-true}
 use Rattle.chain.specs.declared.Position.{Position}
 use Rattle.chain.specs.declared.Realization.{Realization}
 use Rattle.chain.specs.Ranges.{within, upTo, equal, areaX, areaY, areaZ}

@@ -9,7 +9,7 @@ use lib.Ieee.{binary64, inFloat, ofBits, round}
 use mir.Syntax.{w64}
 use mir.Val.{SFits, toZ, ofZ}
 use mir.ValLaws.{toZ-ofZ}
-use Rattle.bounds.specs.Zero.{Upto}
+use Rattle.bounds.proofs.Zero.{Upto}
 use Rattle.angle.specs.Floats.{near, radians}
 use Rattle.angle.specs.Cartesian.{cartesianAt}
 use Rattle.angle.proofs.Tests.{read-back}

@@ -7,7 +7,7 @@ use lib.Ieee.{binary64, inFloat}
 use mir.Syntax.{w64}
 use mir.Val.{SFits, toZ, ofZ}
 use mir.ValLaws.{toZ-ofZ}
-use Rattle.bounds.specs.Zero.{Upto}
+use Rattle.bounds.proofs.Zero.{Upto}
 use Rattle.angle.specs.Floats.{radians}
 use Rattle.angle.specs.Cassini.{cassiniAt}
 use Rattle.angle.proofs.Tests.{read-back}

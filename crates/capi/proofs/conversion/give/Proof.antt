@@ -3,7 +3,7 @@ use borrow.Author.Needs.{needs}
 use mathlib.Core.Path.{_∙_, ap}
 use native.Mathlib.Omega.{arith}
 use lib.ListN.{length-set}
-use Rattle.rounding.specs.Machine.{told}
+use Rattle.rounding.proofs.Machine.{told}
 use Rattle.capi.specs.Calls.{ofAnswer}
 use Rattle.capi.proofs.Laws.{declined, numbers}
 use Rattle.capi.specs.Chains.{pointNumbers}

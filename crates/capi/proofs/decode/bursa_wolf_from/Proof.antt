@@ -1,7 +1,7 @@
 -- `capi::decode::bursa_wolf_from` meets its contract: each number is read where it stands. Assumes nothing.
 use borrow.Author.Needs.{needs}
 use Rattle.capi.specs.Chains.{bursaWolfFrom}
-use Rattle.rounding.specs.Machine.{told}
+use Rattle.rounding.proofs.Machine.{told}
 use Rattle.capi.proofs.decode.bursa_wolf_from.Statement.{statement}
 use Rattle.capi.proofs.decode.bursa_wolf_from.Tie as tie
 

@@ -1,7 +1,7 @@
 -- `capi::decode::step_from` meets its contract: each number is read where it stands. Assumes nothing.
 use borrow.Author.Needs.{needs}
 use Rattle.capi.specs.Chains.{stepFrom}
-use Rattle.rounding.specs.Machine.{told}
+use Rattle.rounding.proofs.Machine.{told}
 use Rattle.capi.proofs.decode.step_from.Statement.{statement}
 use Rattle.capi.proofs.decode.step_from.Tie as tie
 

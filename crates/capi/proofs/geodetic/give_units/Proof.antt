@@ -3,7 +3,7 @@ use borrow.Author.Needs.{needs}
 use mathlib.Core.Path.{_∙_, ap}
 use Rattle.capi.specs.Calls.{ofUnits}
 use Rattle.capi.proofs.Laws.{declined, numbers}
-use Rattle.rounding.specs.Machine.{told}
+use Rattle.rounding.proofs.Machine.{told}
 use Rattle.capi.proofs.geodetic.give_units.Statement.{statement}
 use Rattle.capi.proofs.geodetic.give_units.Tie as tie
 

@@ -3,7 +3,7 @@ use borrow.Author.Needs.{needs}
 use mathlib.Core.Path.{_∙_, ap}
 use Rattle.capi.specs.Calls.{ofGrid}
 use Rattle.capi.proofs.Laws.{declined, given}
-use Rattle.rounding.specs.Machine.{told}
+use Rattle.rounding.proofs.Machine.{told}
 use Rattle.capi.proofs.grid.give_metres.Statement.{statement}
 use Rattle.capi.proofs.grid.give_metres.Tie as tie
 

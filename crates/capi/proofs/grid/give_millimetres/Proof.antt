@@ -3,7 +3,7 @@ use borrow.Author.Needs.{needs}
 use mathlib.Core.Path.{_∙_, ap}
 use Rattle.capi.specs.Calls.{ofMillimetres}
 use Rattle.capi.proofs.Laws.{declined, numbers}
-use Rattle.rounding.specs.Machine.{told}
+use Rattle.rounding.proofs.Machine.{told}
 use Rattle.capi.proofs.grid.give_millimetres.Statement.{statement}
 use Rattle.capi.proofs.grid.give_millimetres.Tie as tie
 

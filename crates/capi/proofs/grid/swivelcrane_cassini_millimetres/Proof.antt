@@ -2,7 +2,7 @@
 use borrow.Author.Tests.{eq-eqb, ne-eqb}
 use borrow.Author.Needs.{needs}
 use mathlib.Core.Path.{sym, _∙_, ap}
-use Rattle.rounding.specs.Machine.{rd, told}
+use Rattle.rounding.proofs.Machine.{rd, told}
 use Rattle.angle.specs.Cassini.{cassiniMillimetresOf}
 use Rattle.capi.specs.Calls.{ofMillimetres, millimetresCall}
 use Rattle.capi.proofs.Laws.{by, wrong}

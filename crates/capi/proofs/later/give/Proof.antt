@@ -1,7 +1,7 @@
 -- `capi::later::give` meets its contract: a refusal writes nothing, and what is given is stored. Assumes nothing.
 use borrow.Author.Needs.{needs}
 use mathlib.Core.Path.{_∙_, ap}
-use Rattle.rounding.specs.Machine.{told}
+use Rattle.rounding.proofs.Machine.{told}
 use Rattle.capi.specs.Calls.{ofVerdict}
 use Rattle.capi.proofs.Laws.{declined, given}
 use Rattle.capi.proofs.later.give.Statement.{statement}

@@ -2,7 +2,7 @@
 use borrow.Author.Tests.{eq-eqb, ne-eqb}
 use borrow.Author.Needs.{needs}
 use mathlib.Core.Path.{sym, ap}
-use Rattle.rounding.specs.Machine.{told}
+use Rattle.rounding.proofs.Machine.{told}
 use Rattle.capi.specs.Calls.{ofVerdict, laterCall}
 use Rattle.capi.proofs.Laws.{by, wrong}
 use Rattle.capi.proofs.later.swivelcrane_later.Statement.{statement}

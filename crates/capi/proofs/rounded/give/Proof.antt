@@ -3,9 +3,9 @@ use borrow.Author.Needs.{needs}
 use mathlib.Core.Path.{_∙_, ap}
 use Rattle.capi.specs.Calls.{ofRounded}
 use Rattle.capi.proofs.Laws.{declined, numbers}
-use Rattle.rounding.specs.Machine.{told}
+use Rattle.rounding.proofs.Machine.{told}
 use mathlib.Core.Path.{_∙_, ap}
-use Rattle.rounding.specs.Machine.{told}
+use Rattle.rounding.proofs.Machine.{told}
 use Rattle.capi.specs.Calls.{ofRounded}
 use Rattle.capi.proofs.Laws.{declined, given}
 use Rattle.capi.proofs.rounded.give.Statement.{statement}

@@ -2,7 +2,7 @@
 use borrow.Author.Needs.{needs}
 use borrow.Author.Tests.{eq-eqb, ne-eqb}
 use mathlib.Core.Path.{sym, ap}
-use Rattle.rounding.specs.Machine.{told}
+use Rattle.rounding.proofs.Machine.{told}
 use Rattle.capi.specs.Calls.{ofRounded, roundCall}
 use Rattle.capi.proofs.Laws.{by, wrong}
 use Rattle.capi.proofs.rounded.swivelcrane_round.Statement.{statement}

@@ -6,7 +6,7 @@ use native.Mathlib.Omega.{arith}
 use borrow.Author.Needs.{needs}
 use lib.ListN.{length, take, drop, getD}
 use Rattle.refusal.specs.Order.{first}
-use Rattle.rounding.specs.Zn.{k}
+use Rattle.rounding.proofs.Zn.{k}
 use Rattle.chain.specs.declared.Step.{Step}
 use lib.ListN.{length-map}
 use Rattle.chain.specs.Faults.{stepTests, joinTest, laterTests, stepsTests, stepFault}

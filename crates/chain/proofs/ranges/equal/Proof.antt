@@ -1,6 +1,6 @@
 -- `chain::ranges::equal` meets its contract. Assumes nothing.
 use mathlib.Core.Path.{_∙_}
-use Rattle.rounding.specs.Machine.{rd, of₃}
+use Rattle.rounding.proofs.Machine.{rd, of₃}
 use Rattle.chain.specs.Ranges.{within}
 use Rattle.chain.proofs.ranges.equal.Statement.{statement}
 use Rattle.chain.proofs.ranges.equal.Tie as tie

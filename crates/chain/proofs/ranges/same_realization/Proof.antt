@@ -1,7 +1,7 @@
 -- `chain::ranges::same_realization` meets its contract. Assumes nothing.
 use mathlib.Core.Path.{_∙_, ap₂}
 use mathlib.Core.Bool.{_&&_}
-use Rattle.rounding.specs.Machine.{told}
+use Rattle.rounding.proofs.Machine.{told}
 use Rattle.chain.specs.Ranges.{equal}
 use Rattle.chain.specs.Faults.{sameRealization}
 use Rattle.chain.proofs.ranges.same_realization.Statement.{statement}

@@ -1,7 +1,7 @@
 -- `chain::ranges::three_within` meets its contract. Assumes nothing.
 use mathlib.Core.Path.{_∙_, ap₂}
 use mathlib.Core.Bool.{_&&_}
-use Rattle.rounding.specs.Machine.{rd, fits, of₃}
+use Rattle.rounding.proofs.Machine.{rd, fits, of₃}
 use Rattle.chain.specs.Ranges.{within}
 use Rattle.chain.proofs.ranges.three_within.Statement.{statement}
 use Rattle.chain.proofs.ranges.three_within.Tie as tie

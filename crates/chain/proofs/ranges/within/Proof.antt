@@ -2,7 +2,7 @@
 use mathlib.Core.Path.{ap₂}
 use mathlib.Core.Bool.{_&&_}
 use lib.Signed.{leZ}
-use Rattle.rounding.specs.Machine.{rd}
+use Rattle.rounding.proofs.Machine.{rd}
 use Rattle.chain.specs.Ranges.{within}
 use Rattle.chain.proofs.ranges.within.Statement.{statement}
 use Rattle.chain.proofs.ranges.within.Tie as tie

@@ -5,8 +5,8 @@ use native.Mathlib.Omega.{arith}
 use lib.IntN.{pos, natAbs, _+ℤ_, _*ℤ_}
 use mir.Syntax.{w64}
 use mir.Val.{SFits}
-use Rattle.rounding.specs.Zn.{mul-le, add-le}
-use Rattle.rounding.specs.Machine.{rd, fits, rd+, rd*, fit+, fit*}
+use Rattle.rounding.proofs.Zn.{mul-le, add-le}
+use Rattle.rounding.proofs.Machine.{rd, fits, rd+, rd*, fit+, fit*}
 use lib.Dec.{lit<}
 use Rattle.chain.specs.Parts.{atEpoch}
 use Rattle.chain.proofs.steps.at_epoch.Statement.{statement}

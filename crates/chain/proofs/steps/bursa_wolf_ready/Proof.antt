@@ -2,7 +2,7 @@
 use mathlib.Core.Path.{sym, _∙_, ap, subst⁻¹}
 use Prim.Native.Nat.{_≤_}
 use lib.IntN.{ℤ, natAbs}
-use Rattle.rounding.specs.Machine.{told, rd, to₁}
+use Rattle.rounding.proofs.Machine.{told, rd, to₁}
 use Rattle.chain.specs.declared.steps.Turn.{Turn}
 use Rattle.chain.specs.Faults.{kindRange}
 use Rattle.chain.specs.Parts.{signed, radians}

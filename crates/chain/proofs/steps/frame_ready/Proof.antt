@@ -8,8 +8,8 @@ use lib.IntN.{ℤ, pos, negℤ, natAbs, _-ℤ_}
 use lib.ListN.{getD}
 use mir.Syntax.{w64}
 use mir.Val.{SFits, toZ, ofZ}
-use Rattle.rounding.specs.Zn.{abs-neg}
-use Rattle.rounding.specs.Machine.{told, rd, fits, rd-, fit-, rd0-, fit0-, to₃, of₃}
+use Rattle.rounding.proofs.Zn.{abs-neg}
+use Rattle.rounding.proofs.Machine.{told, rd, fits, rd-, fit-, rd0-, fit0-, to₃, of₃}
 use native.Mathlib.Nat.{le-trans}
 use lib.Dec.{lit≤, lit<}
 use Rattle.chain.specs.declared.Kind.{Kind}

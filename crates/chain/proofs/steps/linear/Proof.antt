@@ -5,8 +5,8 @@ use native.Mathlib.Omega.{arith}
 use lib.IntN.{natAbs, _+ℤ_, _*ℤ_}
 use mir.Syntax.{w64}
 use mir.Val.{SFits, toZ, ofZ}
-use Rattle.rounding.specs.Zn.{mul-le, add-le}
-use Rattle.rounding.specs.Machine.{rd, fits, rd+, rd*, fit+, fit*}
+use Rattle.rounding.proofs.Zn.{mul-le, add-le}
+use Rattle.rounding.proofs.Machine.{rd, fits, rd+, rd*, fit+, fit*}
 use native.Mathlib.Nat.{le-refl}
 use Rattle.chain.specs.Axes.{onX, onY, onZ}
 use Rattle.chain.proofs.steps.linear.Statement.{statement}

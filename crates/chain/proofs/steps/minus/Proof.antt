@@ -4,8 +4,8 @@ use native.Mathlib.Omega.{arith}
 use lib.IntN.{_-ℤ_}
 use mir.Syntax.{w64}
 use mir.Val.{SFits, toZ, ofZ}
-use Rattle.rounding.specs.Zn.{v, _⊖_, abs, unabs}
-use Rattle.rounding.specs.Machine.{rd, fits, rd-, fit-, of₃}
+use Rattle.rounding.proofs.Zn.{v, _⊖_, abs, unabs}
+use Rattle.rounding.proofs.Machine.{rd, fits, rd-, fit-, of₃}
 use Rattle.chain.specs.Parts.{minus}
 use Rattle.chain.specs.Axes.{Axis, onX, onY, onZ, coordinate}
 use Rattle.chain.proofs.Prepared.{position}

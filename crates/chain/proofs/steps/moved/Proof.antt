@@ -4,8 +4,8 @@ use Prim.Native.Nat.{_*_}
 use lib.IntN.{pos, _*ℤ_}
 use mir.Syntax.{w64}
 use mir.Val.{SFits}
-use Rattle.rounding.specs.Zn.{v, mul-le}
-use Rattle.rounding.specs.Machine.{rd, fits, rd*, fit*}
+use Rattle.rounding.proofs.Zn.{v, mul-le}
+use Rattle.rounding.proofs.Machine.{rd, fits, rd*, fit*}
 use lib.Dec.{lit<}
 use Rattle.rounding.specs.Quotient.{quotientOf}
 use Rattle.chain.proofs.steps.moved.Statement.{statement}

@@ -5,8 +5,8 @@ use native.Mathlib.Omega.{arith}
 use lib.IntN.{pos, _*ℤ_}
 use mir.Syntax.{w64}
 use mir.Val.{SFits}
-use Rattle.rounding.specs.Zn.{mul-le}
-use Rattle.rounding.specs.Machine.{rd, fits, rd*, fit*}
+use Rattle.rounding.proofs.Zn.{mul-le}
+use Rattle.rounding.proofs.Machine.{rd, fits, rd*, fit*}
 use lib.Dec.{lit<}
 use Rattle.rounding.specs.Quotient.{quotientOf}
 use Rattle.chain.specs.Parts.{radians}

@@ -6,7 +6,7 @@ use borrow.Author.Needs.{needs}
 use lib.IntN.{pos}
 use lib.ListN.{getD}
 use Rattle.refusal.specs.Order.{pick}
-use Rattle.rounding.specs.Machine.{rd, fits}
+use Rattle.rounding.proofs.Machine.{rd, fits}
 use Rattle.chain.specs.Ranges.{equal}
 use Rattle.chain.specs.Rows.{rows, rowIndex, rowOf}
 use Rattle.chain.proofs.steps.row.Statement.{statement}

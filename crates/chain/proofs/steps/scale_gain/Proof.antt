@@ -5,8 +5,8 @@ use native.Mathlib.Omega.{arith}
 use lib.IntN.{ℤ, natAbs, _+ℤ_, _*ℤ_}
 use mir.Syntax.{w64}
 use mir.Val.{toZ, ofZ}
-use Rattle.rounding.specs.Zn.{k}
-use Rattle.rounding.specs.Machine.{rd, fits, to₃, of₃}
+use Rattle.rounding.proofs.Zn.{k}
+use Rattle.rounding.proofs.Machine.{rd, fits, to₃, of₃}
 use Rattle.rounding.specs.Quotient.{roundDiv}
 use Rattle.chain.specs.Axes.{Axis, onX, onY, onZ, coordinate}
 use Rattle.chain.proofs.Prepared.{position, slope-gain}

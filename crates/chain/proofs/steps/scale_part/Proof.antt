@@ -4,8 +4,8 @@ use Prim.Native.Nat.{_+_, _*_, _≤_}
 use lib.IntN.{pos, natAbs, _+ℤ_, _*ℤ_}
 use mir.Syntax.{w64}
 use mir.Val.{SFits}
-use Rattle.rounding.specs.Zn.{k, mul-le, add-le}
-use Rattle.rounding.specs.Machine.{rd, fits, rd+, rd*, fit+, fit*}
+use Rattle.rounding.proofs.Zn.{k, mul-le, add-le}
+use Rattle.rounding.proofs.Machine.{rd, fits, rd+, rd*, fit+, fit*}
 use lib.Dec.{lit<}
 use Rattle.rounding.specs.Quotient.{quotientOf}
 use Rattle.chain.proofs.steps.scale_part.Statement.{statement}

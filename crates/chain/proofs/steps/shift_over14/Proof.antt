@@ -6,8 +6,8 @@ use borrow.Author.Needs.{needs}
 use lib.IntN.{ℤ, pos, natAbs, _*ℤ_}
 use mir.Syntax.{w64}
 use mir.Val.{SFits, toZ, ofZ}
-use Rattle.rounding.specs.Zn.{mul-le}
-use Rattle.rounding.specs.Machine.{rd, fits, rd*, fit*, rd0-, fit0-, of₃}
+use Rattle.rounding.proofs.Zn.{mul-le}
+use Rattle.rounding.proofs.Machine.{rd, fits, rd*, fit*, rd0-, fit0-, of₃}
 use lib.Dec.{lit<}
 use Rattle.chain.specs.Parts.{atEpoch}
 use Rattle.chain.proofs.Prepared.{overOf, over}

@@ -1,6 +1,6 @@
 -- `chain::steps::shift_ready` meets its contract. Assumes nothing.
 use mathlib.Core.Path.{subst⁻¹}
-use Rattle.rounding.specs.Machine.{told, of₃}
+use Rattle.rounding.proofs.Machine.{told, of₃}
 use Rattle.chain.specs.declared.Position.{Position}
 use Rattle.chain.specs.Ready.{Prepares}
 use Rattle.chain.proofs.Prepared.{position, shift-prepares}

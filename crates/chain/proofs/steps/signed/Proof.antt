@@ -5,8 +5,8 @@ use borrow.Author.Needs.{needs}
 use lib.IntN.{negℤ}
 use mir.Syntax.{w64}
 use mir.Val.{SFits}
-use Rattle.rounding.specs.Zn.{abs-neg}
-use Rattle.rounding.specs.Machine.{rd, fits, rd0-, fit0-}
+use Rattle.rounding.proofs.Zn.{abs-neg}
+use Rattle.rounding.proofs.Machine.{rd, fits, rd0-, fit0-}
 use Rattle.chain.specs.declared.Convention.{Convention}
 use Rattle.chain.specs.Parts.{signed}
 use Rattle.chain.proofs.steps.signed.Statement.{statement}

@@ -5,8 +5,8 @@ use native.Mathlib.Omega.{arith}
 use lib.IntN.{ℤ, pos, negℤ, natAbs, _-ℤ_}
 use mir.Syntax.{w64}
 use mir.Val.{SFits, toZ, ofZ}
-use Rattle.rounding.specs.Zn.{k, abs-neg}
-use Rattle.rounding.specs.Machine.{rd, fits, rd0-, fit0-, to₄, of₃, of₄}
+use Rattle.rounding.proofs.Zn.{k, abs-neg}
+use Rattle.rounding.proofs.Machine.{rd, fits, rd0-, fit0-, to₄, of₃, of₄}
 use Rattle.chain.specs.declared.steps.Turn.{Turn}
 use Rattle.chain.specs.Parts.{linear, part, gain, over11}
 use Rattle.chain.specs.Ready.{TurnOk, PartOk}

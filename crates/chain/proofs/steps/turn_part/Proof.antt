@@ -3,11 +3,11 @@ use mathlib.Core.Path.{_≡_, refl, _∙_}
 use native.Mathlib.Omega.{arith}
 use borrow.Author.Needs.{needs}
 use lib.IntN.{ℤ, pos, _+ℤ_, _*ℤ_}
-use Rattle.rounding.specs.Zn.{k}
-use Rattle.rounding.specs.Machine.{rd, fits, of₃}
+use Rattle.rounding.proofs.Zn.{k}
+use Rattle.rounding.proofs.Machine.{rd, fits, of₃}
 use Rattle.rounding.specs.Quotient.{mixedOf}
 use Rattle.chain.specs.Parts.{linear, part}
-use Rattle.rounding.specs.Floor.{mixed-usable}
+use Rattle.rounding.proofs.Floors.{mixed-usable}
 use lib.Signed.{leZ-yes}
 use Rattle.chain.proofs.steps.turn_part.Statement.{statement}
 use Rattle.chain.proofs.steps.turn_part.Tie as tie

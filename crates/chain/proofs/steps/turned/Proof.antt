@@ -5,7 +5,7 @@ use native.Mathlib.Omega.{arith}
 use lib.IntN.{ℤ, natAbs}
 use mir.Syntax.{w64}
 use mir.Val.{toZ, ofZ}
-use Rattle.rounding.specs.Machine.{rd, fits, to₁}
+use Rattle.rounding.proofs.Machine.{rd, fits, to₁}
 use Rattle.chain.specs.Parts.{signed, radians}
 use Rattle.chain.proofs.Sizes.{signed-size}
 use Rattle.chain.proofs.steps.turned.Statement.{statement}

@@ -4,7 +4,7 @@ use Prim.Native.Nat.{_≤_}
 use lib.IntN.{ℤ, natAbs, _-ℤ_, _*ℤ_}
 use mir.Syntax.{w64}
 use mir.Val.{SFits, toZ, ofZ}
-use Rattle.rounding.specs.Machine.{told, rd, fits, rd-, fit-, to₂, of₃}
+use Rattle.rounding.proofs.Machine.{told, rd, fits, rd-, fit-, to₂, of₃}
 use lib.Dec.{lit<}
 use Rattle.rounding.specs.Quotient.{roundDiv}
 use Rattle.chain.specs.declared.Position.{Position}

@@ -1,5 +1,5 @@
 -- `plan_rules::answer::lay` meets its contract. Assumes nothing.
-use Rattle.rounding.specs.Machine.{told}
+use Rattle.rounding.proofs.Machine.{told}
 use mathlib.Core.Path.{_≡_, sym, _∙_}
 use borrow.Author.Tests.{not-true, not-false}
 use Rattle.angle.specs.declared.GridMillimetres.{GridMillimetres}

@@ -3,7 +3,7 @@ use mathlib.Core.Path.{_≡_, sym, _∙_, ap}
 use Prim.Native.Nat.{ℕ, suc, _-_}
 use native.Mathlib.Omega.{arith}
 use lib.ListN.{length, take}
-use Rattle.rounding.specs.Zn.{k}
+use Rattle.rounding.proofs.Zn.{k}
 use lib.ListN.{length-map}
 use Rattle.chain.specs.Convert.{endOf}
 use Rattle.chain.proofs.Places.{end-at}

@@ -6,7 +6,7 @@ use Prim.Native.Nat.{ℕ, _+_, _-_, _≤_}
 use native.Mathlib.Omega.{arith}
 use borrow.Author.Tests.{not-true, not-false}
 use lib.ListN.{length, take, drop, getD}
-use Rattle.rounding.specs.Zn.{k}
+use Rattle.rounding.proofs.Zn.{k}
 use Rattle.chain.specs.declared.Position.{Position}
 use Rattle.chain.specs.declared.Step.{Step}
 use Rattle.chain.proofs.Prepared.{position}

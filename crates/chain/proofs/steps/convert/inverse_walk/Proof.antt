@@ -6,8 +6,8 @@ use Prim.Native.Nat.{ℕ, _+_, _-_, _≤_}
 use native.Mathlib.Omega.{arith}
 use borrow.Author.Tests.{not-true, not-false}
 use lib.ListN.{length, take, getD}
-use Rattle.rounding.specs.Zn.{k}
-use Rattle.rounding.specs.Machine.{test}
+use Rattle.rounding.proofs.Zn.{k}
+use Rattle.rounding.proofs.Machine.{test}
 use Rattle.chain.specs.declared.Position.{Position}
 use Rattle.chain.specs.declared.Step.{Step}
 use Rattle.chain.proofs.Prepared.{position}

@@ -2,7 +2,7 @@
 use Prim.Native.Nat.{suc, _+_, _*_}
 use mathlib.Core.Path.{_≡_}
 use native.Mathlib.Omega.{arith}
-use Rattle.rounding.specs.Machine.{rd}
+use Rattle.rounding.proofs.Machine.{rd}
 use borrow.Author.Needs.{needs}
 use Rattle.chain.proofs.steps.kept.put.Statement.{statement}
 use Rattle.chain.proofs.steps.kept.put.Tie as tie

@@ -1,5 +1,5 @@
 -- `chain::steps::kept::put_ready` meets its contract. Assumes nothing.
-use Rattle.rounding.specs.Machine.{told}
+use Rattle.rounding.proofs.Machine.{told}
 use borrow.Author.Needs.{needs}
 use Rattle.chain.proofs.steps.kept.put_ready.Statement.{statement}
 use Rattle.chain.proofs.steps.kept.put_ready.Tie as tie

@@ -5,7 +5,7 @@ use native.Mathlib.Omega.{arith}
 use lib.IntN.{pos}
 use lib.ListN.{getD}
 use mathlib.Core.Path.{_∙_}
-use Rattle.rounding.specs.Machine.{told}
+use Rattle.rounding.proofs.Machine.{told}
 use Rattle.chain.proofs.Keeping.{eight}
 use Rattle.chain.specs.Prepared.{readyAt}
 use borrow.Author.Needs.{needs}

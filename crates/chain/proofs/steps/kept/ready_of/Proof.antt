@@ -2,7 +2,7 @@
 use mathlib.Core.Path.{_≡_, sym, _∙_, ap}
 use mathlib.Core.Bool.{true, false}
 use lib.IntN.{pos}
-use Rattle.rounding.specs.Machine.{rd}
+use Rattle.rounding.proofs.Machine.{rd}
 use Rattle.chain.specs.Ranges.{equal}
 use borrow.Author.Needs.{needs}
 use Rattle.chain.proofs.steps.kept.ready_of.Statement.{statement}

@@ -13,7 +13,7 @@ use Rattle.chain.specs.declared.Step.{Step}
 use Rattle.chain.specs.declared.Chain.{Chain}
 use Rattle.chain.specs.declared.Answer.the-variants.{Converted, Refused}
 use Rattle.chain.specs.Faults.{sameRealization, inArea, pointTests, stepTests, stepFault, joinTest, laterTests, stepsTests, chainTests, stepsOf}
-use Rattle.chain.specs.Convert.{Walk, at, outside, placeTests, conversionTests, movedTo, answerOf, convert}
+use Rattle.chain.specs.Convert.{Walk, at, left, placeTests, conversionTests, movedTo, answerOf, convert}
 
 -- no step is refused by itself
 abbrev pub Sound : List Step → Type 0
@@ -105,7 +105,7 @@ module _ (c : Chain) (p : Point) (wanted reached : Realization) where
   answered zero (at x) q e =
       let f : movedTo p reached x ≡ q = cc in
       (refl, ap (λ (t : Point). at (t .position)) f, sym f ∙ ap (λ (t : Point). movedTo p reached (t .position)) f)
-  answered zero outside q e = (refl, cc, cc)
+  answered zero left q e = (refl, cc, cc)
   answered (suc n) w q e = (cc, cc, cc)
 
   pub converted : (w : Walk) (q : Point) → convert c p wanted reached w ≡ Converted q → Conversion c p wanted reached w q

@@ -19,7 +19,7 @@ use Rattle.chain.specs.declared.Answer.the-variants.{Converted, Refused}
 use Rattle.chain.specs.Ranges.{within, givenRange, issueRange}
 use Rattle.chain.specs.Faults.{realizationRange, agrees, givenPosition, inArea, pointRange, pointTests, pointFault, laterTests, stepsTests, chainTests, stepsOf}
 use Rattle.chain.specs.Axes.{onX, onY, onZ}
-use Rattle.chain.specs.Convert.{Walk, at, outside, walk, forwardStep, startOf, endOf, placeTests, conversionTests, movedTo, answerOf, convert, forwardOf}
+use Rattle.chain.specs.Convert.{Walk, at, left, walk, forwardStep, startOf, endOf, placeTests, conversionTests, movedTo, answerOf, convert, forwardOf}
 use Rattle.chain.proofs.Within.{all, area-small}
 use Rattle.chain.proofs.Sizes.{step-ok}
 use Rattle.chain.proofs.Walk.{walk-area}
@@ -78,7 +78,7 @@ module _ (c : Chain) (p : Point) where
   from-walk : (r : Realization) (w : Walk) (k n : ℕ) → k < 100 → unless k Refused (answerOf p r w) ≡ Refused n → n < 100
   unfolding answerOf
   from-walk r (at q) zero n l e = let z : _≡_ {A = ℕ} 0 1 = cc in absurd (omega arith)
-  from-walk r outside zero n l e = let z : 11 ≡ n = cc in omega arith
+  from-walk r left zero n l e = let z : 11 ≡ n = cc in omega arith
   from-walk r w (suc k) n l e = let z : suc k ≡ n = cc in omega arith
 
   refused-short : (n : ℕ) → forwardOf c p ≡ Refused n → n < 100

@@ -10,7 +10,6 @@ use lib.IntN.{ℤ, pos, negℤ, natAbs, _-ℤ_, _*ℤ_}
 use lib.ListN.{getD}
 use Rattle.refusal.specs.Order.{pick}
 use Rattle.rounding.proofs.Zn.{v, k, _⊖_, _⊗_, abs, unabs, unle, mul-le, add-le, abs-neg}
-use Rattle.rounding.proofs.Fractions.{round-near}
 use Rattle.chain.specs.declared.Realization.{Realization}
 use Rattle.chain.specs.declared.Shift as shift'
 use Rattle.chain.specs.declared.Velocity as velocity'
@@ -23,10 +22,11 @@ use Rattle.chain.specs.declared.Step.{Step}
 use Rattle.chain.specs.Ranges.{within, equal, datumRange, epochRange, shiftRange, rotationRange, scaleRange, velocityRange}
 use Rattle.chain.specs.Faults.{agrees, realizationRange, kindRange, kindRule, stepRange, stepFault}
 use Rattle.chain.specs.Rows.{rows, rowIndex, rowOf, figure}
-use Rattle.chain.specs.Parts.{Parts, fixed, shiftParts, velocityParts, signed, radians, over11, over14, turnedParts, bursaWolfParts, atEpoch, shiftAt, scaleAt, scaledParts, frameParts, kindParts}
+use Rattle.chain.specs.Parts.{Parts, fixed, shiftParts, velocityParts, byConvention, rotation11, over11, over14, turnedParts, bursaWolfParts, atEpoch, shiftAt, scaleAt, scaledParts, frameParts, kindParts}
 use Rattle.chain.specs.Axes.{Axis, onX, onY, onZ, partOn}
 use Rattle.chain.proofs.Within.{both, all, bounds, up-to}
 use Rattle.refusal.proofs.Orders.{head-holds}
+use Rattle.chain.proofs.Rounding.{step-size}
 use Rattle.chain.proofs.StepLaws.{Mild, Milds, Flat, Flats}
 
 -- ---- what a step that is not refused keeps
@@ -103,18 +103,15 @@ frame-years r a ok =
         omega arith
 
 -- ---- rotations
-pub signed-size : (c : Convention) (r : ℤ) → natAbs (signed c r) ≡ natAbs r
-signed-size PositionVector r = refl
-signed-size CoordinateFrame r = abs-neg r
+pub convention-size : (c : Convention) (r : ℤ) → natAbs (byConvention c r) ≡ natAbs r
+convention-size PositionVector r = refl
+convention-size CoordinateFrame r = abs-neg r
 
 -- at most 1,000,000 of 0.00001" are at most 4,848,137 of 10^-11 radian
-pub radians-size : (r : ℤ) → natAbs r ≤ 1000000 → natAbs (radians r) ≤ 4848137
-unfolding radians
-radians-size r h =
-    let z = r *ℤ pos 484813681110 in
-    let b = unabs _ (mul-le r (pos 484813681110) 1000000 484813681110 h (omega arith)) (v z) in
-    let n = unabs 100000000000 (round-near (omega arith) z .near) (k 2 ⊗ (k 100000000000 ⊗ v (radians r) ⊖ v z)) in
-    abs (v (radians r)) (omega arith) (omega arith)
+pub rotation11-size : (r : ℤ) → natAbs r ≤ 1000000 → natAbs (rotation11 r) ≤ 4848137
+unfolding rotation11
+rotation11-size r h =
+    step-size (omega arith) 4848137 (r *ℤ pos 484813681110) (NatL.le-trans (mul-le r (pos 484813681110) 1000000 484813681110 h (omega arith)) (lit≤ tt))
 
 -- ---- the rows
 pub record RowOk (row : List ℤ) : Type 0 where
@@ -153,8 +150,8 @@ module _ (row : List ℤ) (ok : RowOk row) (dt : ℤ) (years : natAbs dt ≤ 900
 pub fixed-mild : (n : ℤ) (d : ℕ) → 0 < d → natAbs n ≤ 100000000 * d → Mild (fixed n d)
 fixed-mild n d h l = record { slope = omega arith; start = l }
 
-fixed-flat : (n : ℤ) (d : ℕ) → Flat (fixed n d)
-fixed-flat n d = record { flat = refl }
+fixed-flat : (n : ℤ) (d : ℕ) → 0 < d → Flat (fixed n d)
+fixed-flat n d h = record { over = h; flat = refl }
 
 over11-mild : (n a b c : ℤ) → natAbs n ≤ 100000000 → natAbs a + natAbs b + natAbs c ≤ 11696274 → Mild (over11 n a b c)
 over11-mild n a b c h l = record { slope = omega arith; start = mul-le n (pos 100000000000) 100000000 100000000000 h (omega arith) }
@@ -233,8 +230,8 @@ bursa-wolf-ok t e =
     }
 
 -- a rotation as a step's parts have it
-pub turned-size : (c : Convention) (r : ℤ) → natAbs r ≤ 1000000 → natAbs (radians (signed c r)) ≤ 4848137
-turned-size c r h = radians-size (signed c r) (omega (arith, signed-size c r))
+pub turned-size : (c : Convention) (r : ℤ) → natAbs r ≤ 1000000 → natAbs (rotation11 (byConvention c r)) ≤ 4848137
+turned-size c r h = rotation11-size (byConvention c r) (omega (arith, convention-size c r))
 
 pub turned-mild :
     (dx dy dz rx ry rz s : ℤ) →
@@ -266,7 +263,7 @@ kind-mild (Velocity t) r a ok =
 kind-mild (BursaWolf t) r a ok =
     let o = bursa-wolf-ok t (ok .range) in
     let c = t .convention in
-    turned-mild (t .dx) (t .dy) (t .dz) (radians (signed c (t .rx))) (radians (signed c (t .ry))) (radians (signed c (t .rz))) (t .s) (o .dx) (o .dy) (o .dz)
+    turned-mild (t .dx) (t .dy) (t .dz) (rotation11 (byConvention c (t .rx))) (rotation11 (byConvention c (t .ry))) (rotation11 (byConvention c (t .rz))) (t .s) (o .dx) (o .dy) (o .dz)
     (turned-size c (t .rx) (o .rx)) (turned-size c (t .ry) (o .ry)) (turned-size c (t .rz) (o .rz)) (o .s)
 kind-mild Frame r a ok =
     let row = rowOf (r .datum) in
@@ -279,8 +276,8 @@ kind-mild Frame r a ok =
 -- shifts and velocities are the same everywhere
 pub shift-flat : (t : shift'.Shift) (r a : Realization) → Flats (kindParts (Shift t) r a)
 unfolding kindParts shiftParts
-shift-flat t r a = flats _ (fixed-flat (t .dx) 1) (fixed-flat (t .dy) 1) (fixed-flat (t .dz) 1)
+shift-flat t r a = flats _ (fixed-flat (t .dx) 1 (omega arith)) (fixed-flat (t .dy) 1 (omega arith)) (fixed-flat (t .dz) 1 (omega arith))
 
 pub velocity-flat : (t : velocity'.Velocity) (r a : Realization) → Flats (kindParts (Velocity t) r a)
 unfolding kindParts velocityParts
-velocity-flat t r a = flats _ (fixed-flat _ 1000) (fixed-flat _ 1000) (fixed-flat _ 1000)
+velocity-flat t r a = flats _ (fixed-flat _ 1000 (omega arith)) (fixed-flat _ 1000 (omega arith)) (fixed-flat _ 1000 (omega arith))

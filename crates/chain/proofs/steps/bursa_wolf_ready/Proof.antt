@@ -5,7 +5,7 @@ use lib.IntN.{ℤ, natAbs}
 use Rattle.rounding.proofs.Machine.{told, rd, to₁}
 use Rattle.chain.specs.declared.steps.Turn.{Turn}
 use Rattle.chain.specs.Faults.{kindRange}
-use Rattle.chain.specs.Parts.{signed, radians}
+use Rattle.chain.specs.Parts.{byConvention, rotation11}
 use Rattle.chain.specs.Ready.{Prepares}
 use Rattle.chain.proofs.Sizes.{step-ok, bursa-wolf-ok}
 use Rattle.chain.proofs.Prepared.{turn-same, turn-prepares}
@@ -33,7 +33,7 @@ returns : tie.Need-returns
 returns c =
     let s = c .before .before .before .before .before .before .before in
     let t = c .before .before .before .before .before .before .struct-told .given in
-    let by : ℤ → ℤ = λ r. radians (signed (s .args .t .convention) r) in
+    let by : ℤ → ℤ = λ r. rotation11 (byConvention (s .args .t .convention) r) in
     let dx = told (t .1 .0 .1) in
     let dy = told (t .1 .1 .0 .1) in
     let dz = told (t .1 .1 .1 .0 .1) in

@@ -6,10 +6,10 @@ use mir.Syntax.{w64}
 use mir.Val.{SFits, toZ, ofZ}
 use Rattle.rounding.proofs.Machine.{told, rd, fits, rd-, fit-, to₂, of₃}
 use lib.Dec.{lit<}
-use Rattle.rounding.specs.Quotient.{roundDiv}
 use Rattle.chain.specs.declared.Position.{Position}
 use Rattle.chain.specs.declared.Kind.{Kind}
 use Rattle.chain.specs.Ready.{Prepares}
+use Rattle.chain.specs.Parts.{stepRound}
 use Rattle.chain.proofs.Sizes.{StepOk, step-ok, velocity-ok, velocity-years}
 use Rattle.chain.proofs.Prepared.{position, velocity-prepares}
 use Rattle.chain.specs.declared.Kind.the-variants.{Velocity}
@@ -80,7 +80,7 @@ returns : tie.Need-returns
 returns c =
     let s = c .before .before .before .before .before .before .before .before .before .before .before .before in
     let y = dt (c .before .before .before .before .before .before) in
-    let by : ℤ → ℤ → ℤ = λ u t. roundDiv (u *ℤ t) 1000 in
+    let by : ℤ → ℤ → ℤ = λ u t. stepRound (u *ℤ t) 1000 in
     subst⁻¹ (λ (g : Position). Prepares (s .args .step) (Fixed g))
     (of₃ position (rd (record { sfits = c .before .before .before .before .moved .ok }) ∙ c .before .before .before .before .moved .ensures ∙ ap₂ by (vx s) y)
     (rd (record { sfits = c .before .before .moved2 .ok }) ∙ c .before .before .moved2 .ensures ∙ ap₂ by (vy s) y)

@@ -21,7 +21,6 @@ use Rattle.chain.specs.Faults.{realizationRange, agrees, givenPosition, 
 use Rattle.chain.specs.Axes.{onX, onY, onZ}
 use Rattle.chain.specs.Convert.{Walk, at, left, walk, forwardStep, startOf, endOf, placeTests, conversionTests, movedTo, answerOf, convert, forwardOf}
 use Rattle.chain.proofs.Within.{all, area-small}
-use Rattle.chain.proofs.Sizes.{step-ok}
 use Rattle.chain.proofs.Walk.{walk-area}
 use Rattle.chain.proofs.Accepted.{Sound, converted}
 
@@ -35,7 +34,7 @@ record Dated (r : Realization) : Type 0 where
 end-dated : (r : Realization) (ss : List Step) → Sound ss → Dated r → Dated (endOf r ss)
 unfolding endOf
 end-dated r [] ok d = d
-end-dated r (s ∷ ss) ok d = let o = step-ok s (ok .0) in end-dated (s .after) ss (ok .1) (record { range = o .after; agree = o .agreed })
+end-dated r (s ∷ ss) ok d = let o = ok .0 in end-dated (s .after) ss (ok .1) (record { range = o .after; agree = o .agreed })
 
 -- the area lies within the range of a coordinate
 given : (z : ℤ) → natAbs z ≤ 640000000000 → givenRange z ≡ true
@@ -47,7 +46,7 @@ area-given : (p : Position) → inArea p ≡ true → givenPosition p ≡ true
 unfolding givenPosition
 area-given p h = let s = area-small p h in rw (given (p .x) (s .on onX), given (p .y) (s .on onY), given (p .z) (s .on onZ))
 
-faultless : (p : Point) → issueRange (p .issue) ≡ true → Dated (p .realization) → givenPosition (p .position) ≡ true → pointFault p ≡ 0
+faultless : (p : Point) → issueRange (p .label .issue) ≡ true → Dated (p .realization) → givenPosition (p .position) ≡ true → pointFault p ≡ 0
 unfolding pointFault pointRange
 faultless p i d g = rw (i, d .range, g, d .agree)
 
@@ -58,7 +57,7 @@ module _ (c : Chain) (p : Point) where
       let ss = stepsOf c in
       let a = converted c p (startOf (p .realization) ss) (endOf (p .realization) ss) (walk forwardStep ss (p .position)) q e in
       let h = head-holds (pointRange p) 1 _ f in
-      let r = all (issueRange (p .issue)) (realizationRange (p .realization)) (givenPosition (p .position)) (h .0) in
+      let r = all (issueRange (p .label .issue)) (realizationRange (p .realization)) (givenPosition (p .position)) (h .0) in
       let d : Dated (p .realization) = record { range = r .1; agree = head-holds (agrees (p .realization)) 2 0 (h .1) .0 } in
       let i = walk-area forwardStep ss (p .position) (q .position) (a .accept .area) (a .ended) in
       ap pointFault (a .is) ∙ faultless (movedTo p (endOf (p .realization) ss) (q .position)) (r .0) (end-dated (p .realization) ss (a .accept .sound) d) (area-given (q .position) i)

@@ -13,7 +13,7 @@ use Rattle.chain.specs.declared.Position.{Position}
 use Rattle.chain.specs.declared.Realization.{Realization}
 use Rattle.chain.specs.declared.Kind.the-variants.{Shift}
 use Rattle.chain.specs.declared.Step.{Step}
-use Rattle.chain.specs.Faults.{stepFault, stepTests, joinTest, laterTests, stepsTests}
+use Rattle.chain.specs.Faults.{StepOk, stepTests, joinTest, laterTests, stepsTests}
 use Rattle.chain.specs.Convert.{onward, arrive, walk, startOf, endOf}
 use Rattle.refusal.proofs.Orders.{orElse, first-append}
 use Rattle.chain.proofs.Accepted.{Sound}
@@ -64,7 +64,7 @@ walk-down l i f p h =
     ∙ ap (λ (ss : List Step). walk f ss p) (reverse-append (take i l) (getD l i no-step ∷ []))
 
 -- each step of a sound chain is sound
-pub sound-at : (l : List Step) (n i : ℕ) → i < n → i < length l → Sound (take n l) → stepFault (getD l i no-step) ≡ 0
+pub sound-at : (l : List Step) (n i : ℕ) → i < n → i < length l → Sound (take n l) → StepOk (getD l i no-step)
 sound-at [] n i h k ok = absurd (NatL.not-suc-le-zero k)
 sound-at (x ∷ xs) zero i h k ok = absurd (NatL.not-suc-le-zero h)
 sound-at (x ∷ xs) (suc n) zero h k ok = ok .0

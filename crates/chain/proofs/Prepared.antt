@@ -18,14 +18,14 @@ use Rattle.chain.specs.declared.steps.Turn.{Turn}
 use Rattle.chain.specs.declared.steps.Scale.{Scale}
 use Rattle.chain.specs.declared.steps.Ready.{Ready}
 use Rattle.chain.specs.declared.steps.Ready.the-variants.{Fixed, Turned, Scaled}
-use Rattle.chain.specs.Faults.{stepFault}
+use Rattle.chain.specs.Faults.{KindOk, StepOk}
 use Rattle.chain.specs.Rows.{rowOf}
 use Rattle.chain.specs.Parts.{stepRound, Parts, linear, part, gain, fixed, byConvention, rotation11, shiftAt, scaleAt, shiftParts, velocityParts, bursaWolfParts, frameParts, kindParts, partsOf}
 use Rattle.chain.specs.Axes.{Axis, onX, onY, onZ, coordinate, partOn, Small}
 use Rattle.chain.specs.Ready.{readyParts, slopeParts, ReadyOk, Prepares}
 use Rattle.chain.proofs.Rounding.{step-size, step-whole}
 use Rattle.chain.proofs.StepLaws.{Mild, Milds, nothing, part-small}
-use Rattle.chain.proofs.Sizes.{StepOk, step-ok, milds, fixed-mild, turned-mild, shift-ok, velocity-ok, velocity-years, moved-size, bursa-wolf-ok, turned-size, row-ok, frame-years, shift-at-size, scale-at-size}
+use Rattle.chain.proofs.Sizes.{milds, fixed-mild, turned-mild, shift-ok, velocity-ok, velocity-years, moved-size, bursa-wolf-ok, turned-size, row-ok, frame-years, shift-at-size, scale-at-size}
 
 abbrev pub position : ℤ → ℤ → ℤ → Position
 position x y z = record { x = x; y = y; z = z }
@@ -129,9 +129,9 @@ small x y z hx hy hz = record { on = on }
     on onZ = hz
 
 -- ---- each kind made ready gains what its step gains
-module _ (s : Step) (ok : stepFault s ≡ 0) where
-  good : (kind : Kind) → s .kind ≡ kind → StepOk kind (s .before) (s .after)
-  good kind e = subst (λ (x : Kind). StepOk x (s .before) (s .after)) e (step-ok s ok)
+module _ (s : Step) (ok : StepOk s) where
+  good : (kind : Kind) → s .kind ≡ kind → KindOk kind (s .before) (s .after)
+  good kind e = subst (λ (x : Kind). KindOk x (s .before) (s .after)) e ok
 
   gains : (kind : Kind) → s .kind ≡ kind → (p : Position) → gain (kindParts kind (s .before) (s .after)) p ≡ gain (partsOf s) p
   gains kind e p = ap (λ (x : Kind). gain (kindParts x (s .before) (s .after)) p) (sym e)

@@ -20,7 +20,7 @@ use Rattle.chain.specs.declared.Kind.{Kind}
 use Rattle.chain.specs.declared.Kind.the-variants.{Shift, Velocity, BursaWolf, Frame}
 use Rattle.chain.specs.declared.Step.{Step}
 use Rattle.chain.specs.Ranges.{within, equal, datumRange, epochRange, shiftRange, rotationRange, scaleRange, velocityRange}
-use Rattle.chain.specs.Faults.{agrees, realizationRange, kindRange, kindRule, stepRange, stepFault}
+use Rattle.chain.specs.Faults.{KindOk, StepOk, agrees, realizationRange, kindRange, kindRule, stepRange, stepFault}
 use Rattle.chain.specs.Rows.{rows, rowIndex, rowOf, figure}
 use Rattle.chain.specs.Parts.{Parts, fixed, shiftParts, velocityParts, byConvention, rotation11, over11, over14, turnedParts, bursaWolfParts, atEpoch, shiftAt, scaleAt, scaledParts, frameParts, kindParts}
 use Rattle.chain.specs.Axes.{Axis, onX, onY, onZ, partOn}
@@ -30,15 +30,7 @@ use Rattle.chain.proofs.Rounding.{step-size}
 use Rattle.chain.proofs.StepLaws.{Mild, Milds, Flat, Flats}
 
 -- ---- what a step that is not refused keeps
-pub record StepOk (kind : Kind) (r a : Realization) : Type 0 where
-  pub range : kindRange kind ≡ true
-  pub before : realizationRange r ≡ true
-  pub after : realizationRange a ≡ true
-  pub agree : agrees r ≡ true
-  pub agreed : agrees a ≡ true
-  pub rule : kindRule kind r a ≡ true
-
-pub step-ok : (s : Step) → stepFault s ≡ 0 → StepOk (s .kind) (s .before) (s .after)
+pub step-ok : (s : Step) → stepFault s ≡ 0 → StepOk s
 unfolding stepFault stepRange
 step-ok s e =
     let f = head-holds (stepRange s) _ _ e in
@@ -71,7 +63,7 @@ apart lo hi x y h l =
     omega arith
 
 -- a velocity's years, in thousandths
-pub velocity-years : (t : velocity'.Velocity) (r a : Realization) → StepOk (Velocity t) r a → natAbs (a .epoch -ℤ r .epoch) ≤ 120000
+pub velocity-years : (t : velocity'.Velocity) (r a : Realization) → KindOk (Velocity t) r a → natAbs (a .epoch -ℤ r .epoch) ≤ 120000
 unfolding kindRule realizationRange
 velocity-years t r a ok =
     let f = all (equal (r .datum) (a .datum)) (not (equal (pos 0) (r .epoch))) (not (equal (pos 0) (a .epoch))) (ok .rule) in
@@ -85,7 +77,7 @@ beq-not true true e n = absurd (n refl)
 beq-not true false e n = e
 beq-not false y e n = refl
 
-pub frame-years : (r a : Realization) → StepOk Frame r a → natAbs (r .epoch -ℤ pos 2010000) ≤ 90000
+pub frame-years : (r a : Realization) → KindOk Frame r a → natAbs (r .epoch -ℤ pos 2010000) ≤ 90000
 unfolding kindRule realizationRange agrees
 frame-years r a ok =
     let f = all (within (pos 5) (r .datum) (pos 9)) (equal (pos 10) (a .datum)) (equal (r .epoch) (a .epoch)) (ok .rule) in
@@ -249,7 +241,7 @@ scaled-mild tx ty tz e hx hy hz he =
     (over14-mild tz (pos 0) (pos 0) (negℤ e) hz (omega (arith, abs-neg e)))
 
 -- ---- a step that is not refused is mild
-pub kind-mild : (kind : Kind) (r a : Realization) → StepOk kind r a → Milds (kindParts kind r a)
+pub kind-mild : (kind : Kind) (r a : Realization) → KindOk kind r a → Milds (kindParts kind r a)
 unfolding kindParts shiftParts velocityParts bursaWolfParts frameParts
 kind-mild (Shift t) r a ok =
     let o = shift-ok t (ok .range) in

@@ -54,9 +54,9 @@ placeTests p wanted = (not (sameRealization (p .realization) wanted) gives refus
 abbrev pub conversionTests : Chain → Point → Realization → List Test
 conversionTests c p wanted = chainTests c ++ (pointTests p ++ placeTests p wanted)
 
--- the point at another position: id and issue pass through
+-- the point at another position: its label (id and issue) passes through
 abbrev pub movedTo : Point → Realization → Position → Point
-movedTo p r q = record { id = p .id; issue = p .issue; realization = r; position = q }
+movedTo p r q = record { label = p .label; realization = r; position = q }
 
 unfoldable pub answerOf : Point → Realization → Walk → Answer
 answerOf p r (at q) = Converted (movedTo p r q)

@@ -24,10 +24,9 @@ abbrev pub inexactSteps : List Step → ℕ
 inexactSteps [] = 0
 inexactSteps (s ∷ ss) = inexact (s .kind) + inexactSteps ss
 
--- r is p come back: id, issue, datum and epoch equal, and no coordinate more than n units off
+-- r is p come back: label (id and issue), datum and epoch equal, and no coordinate more than n units off
 pub record Returned (n : ℕ) (p r : Point) : Type 0 where
-  pub id : r .id ≡ p .id
-  pub issue : r .issue ≡ p .issue
+  pub label : r .label ≡ p .label
   pub datum : r .realization .datum ≡ p .realization .datum
   pub epoch : r .realization .epoch ≡ p .realization .epoch
   pub x : natAbs (r .position .x -ℤ p .position .x) ≤ n

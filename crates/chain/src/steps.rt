@@ -3,7 +3,7 @@
 ghost use mathlib.Core.Path.{_≡_};
 ghost use Prim.Native.Nat.{_≤_};
 ghost use lib.IntN.{ℤ, pos, natAbs, negℤ, _+ℤ_, _*ℤ_};
-ghost use Rattle.chain.specs.Faults.{stepFault};
+ghost use Rattle.chain.specs.Faults.{StepOk};
 ghost use Rattle.chain.specs.Parts.{stepRound, byConvention, rotation11, atEpoch, part, over11, gain, plus, minus, forwardBy, again, inverseBy};
 ghost use Rattle.chain.specs.Rows.{rowOf};
 ghost use Rattle.chain.specs.Axes.{Small};
@@ -90,7 +90,7 @@ fn turned(convention: Convention, r: i64) -> i64
 }
 
 fn bursa_wolf_ready(step: Step, t: BursaWolf) -> Ready
-    requires { ⌜ (stepFault step ≡ 0) × (step .kind ≡ Kind.BursaWolf t) ⌝ }
+    requires { ⌜ (StepOk step) × (step .kind ≡ Kind.BursaWolf t) ⌝ }
     ensures { λ r. ⌜ Prepares step r ⌝ }
 {
     let c = t.convention;
@@ -109,7 +109,7 @@ fn bursa_wolf_ready(step: Step, t: BursaWolf) -> Ready
 }
 
 fn shift_ready(step: Step, t: Shift) -> Ready
-    requires { ⌜ (stepFault step ≡ 0) × (step .kind ≡ Kind.Shift t) ⌝ }
+    requires { ⌜ (StepOk step) × (step .kind ≡ Kind.Shift t) ⌝ }
     ensures { λ r. ⌜ Prepares step r ⌝ }
 {
     Ready::Fixed(Position {
@@ -128,7 +128,7 @@ fn moved(v: i64, dt: i64) -> i64
 }
 
 fn velocity_ready(step: Step, t: Velocity) -> Ready
-    requires { ⌜ (stepFault step ≡ 0) × (step .kind ≡ Kind.Velocity t) ⌝ }
+    requires { ⌜ (StepOk step) × (step .kind ≡ Kind.Velocity t) ⌝ }
     ensures { λ r. ⌜ Prepares step r ⌝ }
 {
     let before = step.before;
@@ -157,7 +157,7 @@ fn shift_over14(t: i64, tv: i64, dt: i64) -> i64
 }
 
 fn frame_ready(step: Step) -> Ready
-    requires { ⌜ (stepFault step ≡ 0) × (step .kind ≡ Kind.Frame) ⌝ }
+    requires { ⌜ (StepOk step) × (step .kind ≡ Kind.Frame) ⌝ }
     ensures { λ r. ⌜ Prepares step r ⌝ }
 {
     let before = step.before;
@@ -177,7 +177,7 @@ fn frame_ready(step: Step) -> Ready
 
 // A step that is not refused, made ready.
 fn prepare(step: Step) -> Ready
-    requires { ⌜ stepFault step ≡ 0 ⌝ }
+    requires { ⌜ StepOk step ⌝ }
     ensures { λ r. ⌜ Prepares step r ⌝ }
 {
     let kind = step.kind;

@@ -7,7 +7,7 @@ use Rattle.chain.specs.declared.steps.Turn.{Turn}
 use Rattle.chain.specs.Faults.{kindRange}
 use Rattle.chain.specs.Parts.{byConvention, rotation11}
 use Rattle.chain.specs.Ready.{Prepares}
-use Rattle.chain.proofs.Sizes.{step-ok, bursa-wolf-ok}
+use Rattle.chain.proofs.Sizes.{bursa-wolf-ok}
 use Rattle.chain.proofs.Prepared.{turn-same, turn-prepares}
 use Rattle.chain.specs.declared.steps.Ready.the-variants.{Turned}
 use Rattle.chain.proofs.Sizes.{BursaWolfOk}
@@ -16,7 +16,7 @@ use Rattle.chain.proofs.steps.bursa_wolf_ready.Tie as tie
 
 -- the step's numbers in their ranges
 ranges : (s : tie.Start) → BursaWolfOk (s .args .t)
-ranges s = bursa-wolf-ok (s .args .t) (sym (ap kindRange (s .pre .1)) ∙ step-ok (s .args .step) (s .pre .0) .range)
+ranges s = bursa-wolf-ok (s .args .t) (sym (ap kindRange (s .pre .1)) ∙ s .pre .0 .range)
 
 turned-requires : tie.Need-turned-requires
 turned-requires c κs = let s = c .before in to₁ (λ (r : ℤ). natAbs r ≤ 1000000) (told {z = s .args .t .rx} (c .struct-told .given .1 .1 .1 .1 .0 .1)) (ranges s .rx)

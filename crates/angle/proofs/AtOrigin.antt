@@ -14,8 +14,8 @@ use lib.Ieee.Scale.{finite}
 use lib.Ieee.Positive.{num}
 use Rattle.bounds.proofs.Size.{sign, sign-round, div-sign}
 use Rattle.bounds.proofs.Among.{Ends, Among, point, is-finite, num-above, closed, within}
-use Rattle.bounds.proofs.Formula.{var, over, nil, All, none, also, value, bounds, test, proved}
-use Rattle.bounds.proofs.Zero.{wholes, whole-among, Upto, sub-self, add-zero-is}
+use Rattle.bounds.proofs.Formula.{var, over, All, none, also, value, bounds, test, proved}
+use Rattle.bounds.proofs.Zero.{wholes, whole-among, nought, Upto, sub-self, add-zero-is}
 use Rattle.angle.specs.Floats.{near, #, k, radians, metres}
 use Rattle.angle.specs.Ranges.{outside, farApart, originTests, pointTests, cassiniTests, originFault}
 use Rattle.angle.specs.Series.{sineOf, cosineOf}
@@ -31,17 +31,17 @@ use Rattle.angle.proofs.Wholes.{natural, natural-upto, upto}
 
 -- ---- what is added is a zero
 abbrev ends : List Ends
-ends = from 1 256 1 128 ∷ most 3 20 ∷ from 98 100 102 100 ∷ most 6379000 1 ∷ point nil ∷ point nil ∷ []
+ends = from 1 256 1 128 ∷ most 3 20 ∷ from 98 100 102 100 ∷ most 6379000 1 ∷ nought ∷ nought ∷ []
 
-east-test : T (test (bounds ends eastF) (point nil))
+east-test : T (test (bounds ends eastF) nought)
 unfolding test bounds near
 east-test = tt
 
-north-test : T (test (bounds ends northF) (point nil))
+north-test : T (test (bounds ends northF) nought)
 unfolding test bounds near
 north-test = tt
 
-zero-test : T (within (point (radians (pos 0))) (point nil))
+zero-test : T (within (point (radians (pos 0))) nought)
 unfolding within radians k near mul ofInt round
 zero-test = tt
 
@@ -86,7 +86,7 @@ unfolding metres
 metres-fits z = div-fits binary64 (ofInt binary64 z) (# 1000)
 
 -- x plus a zero is x, for a false easting or northing
-kept : (z : ℤ) (x : Float) → Upto 2000000000 z → Among x (point nil) → add binary64 (metres z) x ≡ metres z
+kept : (z : ℤ) (x : Float) → Upto 2000000000 z → Among x nought → add binary64 (metres z) x ≡ metres z
 kept z x h X = add-zero-is (metres z) x (metres-fits z) (is-finite (metres-among z h)) (metres-sign z h) X
 
 -- ---- the formulas at the origin
@@ -118,14 +118,14 @@ module _ (o : OriginNumbers) (p : Passed (originTests o)) where
       (also (sine-latitude (ellipsoidOf (o .ellipsoid)) (o .latitude) E lat)
       (also (cosine-latitude (ellipsoidOf (o .ellipsoid)) (o .latitude) E lat)
       (also (radius-among (ellipsoidOf (o .ellipsoid)) (o .latitude) E lat)
-      (also (closed (radians (pos 0)) (point nil) zero-test) (also (sub-self M (is-finite (arc-among (ellipsoidOf (o .ellipsoid)) (o .latitude) E lat))) none)))))
+      (also (closed (radians (pos 0)) nought zero-test) (also (sub-self M (is-finite (arc-among (ellipsoidOf (o .ellipsoid)) (o .latitude) E lat))) none)))))
 
   laid : cassiniWith (originMade o) s c ν M (radians (pos 0)) ≡ Metres (metres (o .«false_easting»)) (metres (o .«false_northing»))
   unfolding value cassiniWith originMade
   laid =
       ap₂ Metres
-      (kept (o .«false_easting») (value (e ∷ s ∷ c ∷ ν ∷ radians (pos 0) ∷ sub binary64 M M ∷ []) eastF) (upto 2000000000 1999999999 2000000000 (o .«false_easting») (lit≤ tt) (lit≤ tt) (p .1 .0)) (proved all eastF (point nil) east-test))
-      (kept (o .«false_northing») (value (e ∷ s ∷ c ∷ ν ∷ radians (pos 0) ∷ sub binary64 M M ∷ []) northF) (upto 2000000000 1999999999 2000000000 (o .«false_northing») (lit≤ tt) (lit≤ tt) (p .1 .1 .0)) (proved all northF (point nil) north-test))
+      (kept (o .«false_easting») (value (e ∷ s ∷ c ∷ ν ∷ radians (pos 0) ∷ sub binary64 M M ∷ []) eastF) (upto 2000000000 1999999999 2000000000 (o .«false_easting») (lit≤ tt) (lit≤ tt) (p .1 .0)) (proved all eastF nought east-test))
+      (kept (o .«false_northing») (value (e ∷ s ∷ c ∷ ν ∷ radians (pos 0) ∷ sub binary64 M M ∷ []) northF) (upto 2000000000 1999999999 2000000000 (o .«false_northing») (lit≤ tt) (lit≤ tt) (p .1 .1 .0)) (proved all northF nought north-test))
 
   at : cassiniAt (originMade o) (o .latitude) (o .longitude) ≡ Metres (metres (o .«false_easting»)) (metres (o .«false_northing»))
   unfolding cassiniAt originMade

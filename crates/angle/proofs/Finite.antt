@@ -17,7 +17,7 @@ use Rattle.refusal.specs.Order.{first, unless}
 use Rattle.rounding.specs.Decimals.{tooLarge, wholeOf, roundedOf}
 use Rattle.rounding.specs.declared.decimals.Rounded.the-variants.{Whole}
 use Rattle.rounding.proofs.Places.{few}
-use Rattle.bounds.proofs.Among.{Ends, Among, is-finite, neg-among}
+use Rattle.bounds.proofs.Among.{Ends, Among, is-finite, neg-among, untold}
 use Rattle.bounds.proofs.Formula.{var, lit, plus, minus, times, over, All, none, also, value, bounds, test, proved}
 use Rattle.bounds.proofs.Zero.{wholes, Upto}
 use Rattle.angle.specs.Floats.{near, #, whole, k, radians, metres}
@@ -212,7 +212,7 @@ grid-bounded o lat lon =
 
 -- ---- no rounding refuses: the bounds are below 10,000,000
 -- y is the whole number b, as a computed fact
-not-large : (b : ℕ) (x y : Float) → num y ≡ b → den y ≡ 1 → b < 10000000 → Among x (record { lo = near 0 1; hi = y }) → tooLarge x ≡ false
+not-large : (b : ℕ) (x y : Float) → num y ≡ b → den y ≡ 1 → b < 10000000 → Among x (record { lo = near 0 1; hi = y; side = untold }) → tooLarge x ≡ false
 unfolding tooLarge
 not-large b nan y N D l h = absurd (is-finite h)
 not-large b (inf s) y N D l h = absurd (is-finite h)

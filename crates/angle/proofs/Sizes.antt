@@ -9,7 +9,7 @@ use lib.Dec.{T}
 use lib.IntN.{ℤ, pos}
 use lib.Ieee.{Float, binary64, round, neg, div, mul, sub}
 use lib.Ieee.Scale.{finite}
-use Rattle.bounds.proofs.Among.{Ends, Among, point, closed, within}
+use Rattle.bounds.proofs.Among.{Ends, Among, untold, point, closed, within}
 use Rattle.bounds.proofs.Formula.{var, lit, times, over, none, also, value, bounds, test, proved}
 use Rattle.bounds.proofs.Zero.{wholes, Upto, ofInt-among}
 use Rattle.angle.specs.Floats.{near, #, whole, k, radians, metres}
@@ -22,7 +22,7 @@ use Rattle.angle.proofs.Wholes.{Natural, natural}
 
 -- from a / b to c / d in size
 abbrev pub from : ℕ → ℕ → ℕ → ℕ → Ends
-from a b c d = record { lo = near a b; hi = near c d }
+from a b c d = record { lo = near a b; hi = near c d; side = untold }
 
 -- at most c / d in size
 abbrev pub most : ℕ → ℕ → Ends

@@ -14,18 +14,20 @@ use lib.Ieee.Scale.{finite}
 use lib.Ieee.Positive.{num}
 use Rattle.bounds.proofs.Size.{sign, sign-round, div-sign}
 use Rattle.bounds.proofs.Among.{Ends, Among, point, is-finite, num-above, closed, within}
-use Rattle.bounds.proofs.Formula.{var, over, All, none, also, value, bounds, test, proved}
+use Rattle.bounds.proofs.Formula.{var, over, All, none, also, value, tested, proved}
 use Rattle.bounds.proofs.Zero.{wholes, whole-among, nought, Upto, sub-self, add-zero-is}
-use Rattle.angle.specs.Floats.{near, #, k, radians, metres}
+use Rattle.elementary.specs.Floats.{near, #}
+use Rattle.angle.specs.Units.{k, radians, metres}
 use Rattle.angle.specs.Ranges.{outside, farApart, originTests, pointTests, cassiniTests, originFault}
-use Rattle.angle.specs.Series.{sineOf, cosineOf}
+use Rattle.elementary.specs.Series.{sineOf, cosineOf}
 use Rattle.angle.specs.Ellipsoids.{ellipsoidOf, primeVertical, meridianArc}
 use Rattle.angle.specs.Cassini.{originMade, cassiniWith, cassiniAt, cassiniOf}
 use Rattle.angle.specs.declared.OriginNumbers.{OriginNumbers}
 use Rattle.angle.specs.declared.Grid.the-variants.{Metres, Refused}
 use Rattle.refusal.proofs.Orders as orders
 use Rattle.refusal.proofs.Orders.{Passed, passed, both, unless-none}
-use Rattle.angle.proofs.Formulas.{n, eastF, northF}
+use Rattle.elementary.proofs.Formulas.{n}
+use Rattle.angle.proofs.Formulas.{eastF, northF}
 use Rattle.angle.proofs.Sizes.{from, most, Shaped, shaped, sine-latitude, cosine-latitude, radius-among, arc-among, metres-among}
 use Rattle.angle.proofs.Wholes.{natural, natural-upto, upto}
 
@@ -33,41 +35,41 @@ use Rattle.angle.proofs.Wholes.{natural, natural-upto, upto}
 abbrev ends : List Ends
 ends = from 1 256 1 128 ∷ most 3 20 ∷ from 98 100 102 100 ∷ most 6379000 1 ∷ nought ∷ nought ∷ []
 
-east-test : T (test (bounds ends eastF) nought)
-unfolding test bounds near
+east-test : T (tested ends eastF nought)
+unfolding tested
 east-test = tt
 
-north-test : T (test (bounds ends northF) nought)
-unfolding test bounds near
+north-test : T (tested ends northF nought)
+unfolding tested
 north-test = tt
 
 zero-test : T (within (point (radians (pos 0))) nought)
-unfolding within radians k near mul ofInt round
+unfolding within radians k mul ofInt round
 zero-test = tt
 
 -- ---- a false easting or northing is no -0
 thousand-finite : T (finite (# 1000))
-unfolding near round
+unfolding round
 thousand-finite = tt
 
 thousand-pos : 0 < num (# 1000)
-unfolding near round
+unfolding round
 thousand-pos = lit< tt
 
 thousand-sign : sign (# 1000) ≡ false
-unfolding near round
+unfolding round
 thousand-sign = refl
 
 small-pos : 0 < num (near 1 1000)
-unfolding near round
+unfolding round
 small-pos = lit< tt
 
 billions-finite : T (finite (round binary64 false 2000000000 1))
 unfolding round
 billions-finite = tt
 
-below-test : T (test (bounds (wholes 1 2000000000 ∷ []) (over (var 0) (n 1000))) (from 1 1000 2000000 1))
-unfolding test bounds near
+below-test : T (tested (wholes 1 2000000000 ∷ []) (over (var 0) (n 1000)) (from 1 1000 2000000 1))
+unfolding tested
 below-test = tt
 
 metres-sign : (z : ℤ) → Upto 2000000000 z → (0 < num (metres z)) ⊎ (sign (metres z) ≡ false)

@@ -4,7 +4,7 @@ ghost use Rattle.angle.specs.Ellipsoids.{figureOf, ellipsoidOf, primeVer
 use crate::Ellipsoid;
 use crate::Figure;
 use crate::faults::is_outside;
-use crate::series::sine;
+use elementary::sine;
 
 // Codes 1 to 4: GRS80, WGS84, Everest 1830 Modified, Everest 1967.
 const ELLIPSOIDS: [Figure; 4] = [

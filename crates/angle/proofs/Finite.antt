@@ -6,7 +6,7 @@ use mathlib.Core.Bool.{false}
 use Prim.Native.Nat.{ℕ, zero, suc, _+_, _-_, _*_, _≤_, _<_}
 use native.Mathlib.Nat.{mul-le-mul-right}
 use native.Mathlib.Omega.{arith}
-use borrow.Author.Tests.{lt-leb}
+use borrow.Author.Tests.{lt-leb, not-false}
 use lib.Dec.{T, lit≤, lit<}
 use lib.IntN.{ℤ, pos, _-ℤ_}
 use lib.Ieee.{Float, nan, inf, fin, binary64, round, neg, sub, div, up, down}
@@ -37,7 +37,8 @@ use Rattle.angle.specs.declared.GridMillimetres.the-variants.{Millimetre
 use Rattle.refusal.proofs.Orders.{Passed, passed}
 use Rattle.angle.proofs.Formulas.{sineF, cosineF, eastF, northF, axisF, polarF}
 use Rattle.angle.proofs.Sizes.{from, most, Shaped, shaped, radians-among, parts-among, sine-among, cosine-among, sine-latitude, cosine-latitude, radius-among, arc-among, metres-among}
-use Rattle.angle.proofs.Wholes.{natural, natural-upto, upto, sub-pos}
+use Rattle.ranges.proofs.Ranges.{natural}
+use Rattle.angle.proofs.Wholes.{natural-upto, upto, sub-pos}
 
 -- what is not refused passed every test
 given : {A : Type 0} (f : ℕ) (r : ℕ → A) (a : A) (P : A → Type 0) → ((i : ℕ) → P (r i)) → (f ≡ 0 → P a) → P (unless f r a)
@@ -95,24 +96,24 @@ module _ (code lat lon h : ℤ) (p : Passed (cartesianTests code lat lon h)) whe
   e = ellipsoidOf code
 
   E : Shaped e
-  E = shaped code (p .0)
+  E = shaped code (not-false _ (p .0))
 
   latitude : Upto 2880000000 lat
-  latitude = natural-upto (natural 0 2880000000 lat (p .1 .0))
+  latitude = natural-upto (natural 0 lat 2880000000 (not-false _ (p .1 .0)))
 
   abbrev w : Float
   w = radians (lon -ℤ pos 32400000000)
 
   past : Among w (most 53 100)
   past =
-      let l = natural 35640000000 43200000000 lon (p .1 .1 .0) in
+      let l = natural 35640000000 lon 43200000000 (not-false _ (p .1 .1 .0)) in
       let a = l .low in
       let b = l .high in
       let d : lon -ℤ pos 32400000000 ≡ pos (l .n - 32400000000) = ap (λ (z : ℤ). z -ℤ pos 32400000000) (l .is) ∙ sub-pos (l .n) 32400000000 (omega arith) in
       radians-among 10800000000 (most 53 100) (lon -ℤ pos 32400000000) past-finite past-test (subst (λ (z : ℤ). Upto 10800000000 z) (sym d) (omega arith))
 
   height : Among (div binary64 (whole h) (# 100000)) (most 9000 1)
-  height = parts-among 900000000 100000 (most 9000 1) h height-finite height-test (upto 900000000 49999999 900000000 h (lit≤ tt) (lit≤ tt) (p .1 .1 .1 .0))
+  height = parts-among 900000000 100000 (most 9000 1) h height-finite height-test (upto 900000000 49999999 h 900000000 (lit≤ tt) (lit≤ tt) (not-false _ (p .1 .1 .1 .0)))
 
   all : All (e .e2 ∷ primeVertical e (sineOf (radians lat)) ∷ div binary64 (whole h) (# 100000) ∷ sineOf (radians lat) ∷ cosineOf (radians lat) ∷ neg (sineOf w) ∷ cosineOf w ∷ []) space
   all =
@@ -167,17 +168,17 @@ module _ (o : OriginNumbers) (lat lon : ℤ) (p : Passed (originTests o)) (q : P
   g = ellipsoidOf (o .ellipsoid)
 
   G : Shaped g
-  G = shaped (o .ellipsoid) (p .0)
+  G = shaped (o .ellipsoid) (not-false _ (p .0))
 
   abbrev φ : Float
   φ = radians lat
 
   latitude′ : Upto 2880000000 lat
-  latitude′ = natural-upto (natural 0 2880000000 lat (q .0))
+  latitude′ = natural-upto (natural 0 lat 2880000000 (not-false _ (q .0)))
 
   difference : Among (radians (lon -ℤ o .longitude)) (most 7 100)
   difference =
-      radians-among 1440000000 (most 7 100) (lon -ℤ o .longitude) difference-finite difference-test (upto 1440000000 1439999999 1440000000 (lon -ℤ o .longitude) (lit≤ tt) (lit≤ tt) (q .1 .1 .0))
+      radians-among 1440000000 (most 7 100) (lon -ℤ o .longitude) difference-finite difference-test (upto 1440000000 1439999999 (lon -ℤ o .longitude) 1440000000 (lit≤ tt) (lit≤ tt) (not-false _ (q .1 .1 .0)))
 
   abbrev arcs : Float
   arcs = sub binary64 (meridianArc g φ) (meridianArc g (radians (o .latitude)))
@@ -185,7 +186,7 @@ module _ (o : OriginNumbers) (lat lon : ℤ) (p : Passed (originTests o)) (q : P
   arcs-among : Among arcs (most 1820000 1)
   unfolding value
   arcs-among =
-      proved (also (arc-among g lat G latitude′) (also (arc-among g (o .latitude) G (natural-upto (natural 0 2880000000 (o .latitude) (p .1 .1 .1 .0)))) none)) (minus (var 0) (var 1)) (most 1820000 1) arcs-test
+      proved (also (arc-among g lat G latitude′) (also (arc-among g (o .latitude) G (natural-upto (natural 0 (o .latitude) 2880000000 (not-false _ (p .1 .1 .1 .0))))) none)) (minus (var 0) (var 1)) (most 1820000 1) arcs-test
 
   -- with a false easting or northing
   laid : (z : ℤ) → Upto 2000000000 z → All (g .e2 ∷ sineOf φ ∷ cosineOf φ ∷ primeVertical g (sineOf φ) ∷ radians (lon -ℤ o .longitude) ∷ arcs ∷ metres z ∷ []) plane
@@ -198,8 +199,8 @@ module _ (o : OriginNumbers) (lat lon : ℤ) (p : Passed (originTests o)) (q : P
   place-bounded : GridBounded (cassiniAt (originMade o) lat lon)
   unfolding value cassiniAt cassiniWith originMade
   place-bounded = (
-    proved (laid (o .«false_easting») (upto 2000000000 1999999999 2000000000 (o .«false_easting») (lit≤ tt) (lit≤ tt) (p .1 .0))) (plus (var 6) eastF) (most 2500000 1) east-test,
-    proved (laid (o .«false_northing») (upto 2000000000 1999999999 2000000000 (o .«false_northing») (lit≤ tt) (lit≤ tt) (p .1 .1 .0))) (plus (var 6) northF) (most 3900000 1) north-test,
+    proved (laid (o .«false_easting») (upto 2000000000 1999999999 (o .«false_easting») 2000000000 (lit≤ tt) (lit≤ tt) (not-false _ (p .1 .0)))) (plus (var 6) eastF) (most 2500000 1) east-test,
+    proved (laid (o .«false_northing») (upto 2000000000 1999999999 (o .«false_northing») 2000000000 (lit≤ tt) (lit≤ tt) (not-false _ (p .1 .1 .0)))) (plus (var 6) northF) (most 3900000 1) north-test,
   )
 
 pub grid-bounded : (o : OriginNumbers) (lat lon : ℤ) → GridBounded (cassiniOf o lat lon)

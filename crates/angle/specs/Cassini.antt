@@ -7,7 +7,7 @@ use Rattle.rounding.specs.declared.decimals.Rounded.{Rounded}
 use Rattle.rounding.specs.declared.decimals.Rounded.the-variants.{Whole}
 use Rattle.rounding.specs.declared.decimals.Rounded.the-variants as rounded
 use Rattle.angle.specs.Floats.{_⊗_, _⊘_, _⊕_, _⊖_, near, #, radians, metres}
-use Rattle.angle.specs.Ranges.{outside, originFault, pointTests, cassiniTests}
+use Rattle.angle.specs.Ranges.{originFault, pointTests, cassiniTests}
 use Rattle.angle.specs.Series.{sineOf, cosineOf}
 use Rattle.angle.specs.Ellipsoids.{ellipsoidOf, primeVertical, meridianArc}
 use Rattle.angle.specs.declared.OriginNumbers.{OriginNumbers}
@@ -71,12 +71,12 @@ cassiniAt o latitude longitude =
 
 -- a point on a made origin, refused: 12, 13
 unfoldable pub cassiniFromOf : Origin → ℤ → ℤ → Grid
-unfolding outside cassiniAt
+unfolding cassiniAt
 cassiniFromOf o latitude longitude = unless (first (pointTests (o .longitude) latitude longitude)) Refused (cassiniAt o latitude longitude)
 
 -- refused: 2, 12, 13
 unfoldable pub cassiniOf : OriginNumbers → ℤ → ℤ → Grid
-unfolding outside originMade cassiniAt
+unfolding originMade cassiniAt
 cassiniOf o latitude longitude = unless (first (cassiniTests o latitude longitude)) Refused (cassiniAt (originMade o) latitude longitude)
 
 -- both, or the first refusal

@@ -1,7 +1,8 @@
 // Cassini-Soldner, forward, from a state origin.
 ghost use mathlib.Core.Path.{_≡_};
-ghost use mathlib.Core.Bool.{false};
-ghost use Rattle.angle.specs.Ranges.{badLatitude, badOffset, farApart, originFault};
+ghost use mathlib.Core.Bool.{true};
+ghost use Rattle.ranges.specs.Ranges.{latitudeRange, offsetRange};
+ghost use Rattle.angle.specs.Ranges.{nearby, originFault};
 ghost use Rattle.angle.specs.Floats.{metres as Floats·metres};
 ghost use Rattle.angle.specs.Cassini.{originMade, originOf, cassiniWith, cassiniAt, cassiniFromOf, cassiniOf, two, inMillimetres, cassiniMillimetresFromOf, cassiniMillimetresOf};
 use crate::Grid;
@@ -13,7 +14,6 @@ use crate::ellipsoids::ellipsoid;
 use crate::ellipsoids::meridian_arc;
 use crate::ellipsoids::prime_vertical;
 use crate::faults::angles_fault;
-use crate::faults::is_outside;
 use crate::faults::origin_fault;
 use crate::series::cosine;
 use crate::series::radians;
@@ -26,7 +26,7 @@ const APART: i64 = 1440000000;
 
 // Millimetres in metres, for a number in its range.
 fn metres(n: i64) -> f64
-    requires { ⌜ badOffset n ≡ false ⌝ }
+    requires { ⌜ offsetRange n ≡ true ⌝ }
     ensures { λ r. ⌜ r ≡ Floats·metres n ⌝ }
 {
     n as f64 / 1000.0
@@ -83,7 +83,7 @@ fn lay(o: Origin, s: f64, c: f64, nu: f64, m: f64, difference: f64) -> Grid
 
 // The same, for a latitude in its range and longitudes that are not too far apart.
 fn place(o: Origin, latitude: i64, longitude: i64) -> Grid
-    requires { ⌜ (badLatitude latitude ≡ false) × (farApart longitude (o .longitude) ≡ false) ⌝ }
+    requires { ⌜ (latitudeRange latitude ≡ true) × (nearby longitude (o .longitude) ≡ true) ⌝ }
     ensures { λ r. ⌜ r ≡ cassiniAt o latitude longitude ⌝ }
 {
     let e = o.ellipsoid;
@@ -106,7 +106,7 @@ pub fn cassini_from(origin: Origin, latitude: i64, longitude: i64) -> Grid
     if fault != 0 {
         return Grid::Refused(fault);
     }
-    if is_outside(origin.longitude, longitude - APART, longitude + APART) {
+    if !ranges::within(longitude - APART, origin.longitude, longitude + APART) {
         return Grid::Refused(refusal::APART);
     }
     place(origin, latitude, longitude)

@@ -1,12 +1,12 @@
--- `chain::ranges::given` meets its contract. Assumes nothing.
+-- `chain::points::given` meets its contract. Assumes nothing.
 use mathlib.Core.Path.{_∙_}
 use mathlib.Core.Bool.{_&&_}
 use lib.IntN.{ℤ}
 use Rattle.rounding.proofs.Machine.{told, of₃}
-use Rattle.chain.specs.Ranges.{upTo}
+use Rattle.ranges.specs.Ranges.{upTo}
 use Rattle.chain.specs.Faults.{givenPosition}
-use Rattle.chain.proofs.ranges.given.Statement.{statement}
-use Rattle.chain.proofs.ranges.given.Tie as tie
+use Rattle.chain.proofs.points.given.Statement.{statement}
+use Rattle.chain.proofs.points.given.Tie as tie
 
 three-within-requires : tie.Need-three-within-requires
 three-within-requires c κs = tt

@@ -1,12 +1,12 @@
--- `chain::ranges::realization_in_range` meets its contract. Assumes nothing.
+-- `chain::points::realization_in_range` meets its contract. Assumes nothing.
 use mathlib.Core.Path.{_∙_, ap, ap₂}
 use mathlib.Core.Bool.{_&&_, _||_}
 use lib.IntN.{ℤ, pos}
 use Rattle.rounding.proofs.Machine.{told}
-use Rattle.chain.specs.Ranges.{within, equal}
+use Rattle.ranges.specs.Ranges.{within, equal}
 use Rattle.chain.specs.Faults.{realizationRange}
-use Rattle.chain.proofs.ranges.realization_in_range.Statement.{statement}
-use Rattle.chain.proofs.ranges.realization_in_range.Tie as tie
+use Rattle.chain.proofs.points.realization_in_range.Statement.{statement}
+use Rattle.chain.proofs.points.realization_in_range.Tie as tie
 
 within-requires : tie.Need-within-requires
 within-requires c κs = tt

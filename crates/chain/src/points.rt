@@ -1,32 +1,12 @@
-// Whether numbers lie in their ranges. Tests are joined by `&` and `|`, so that each function is one expression with no branch.
+// Whether the numbers of points and of what they hold lie in their ranges. Tests are joined by `&` and `|`, so that each function is one expression with no
+// branch.
 ghost use mathlib.Core.Path.{_≡_};
-ghost use mathlib.Core.Bool.{_&&_};
-ghost use Rattle.chain.specs.Ranges.{within, equal};
 ghost use Rattle.chain.specs.Faults.{realizationRange, agrees, sameRealization, givenPosition, inArea, pointRange};
 use crate::Point;
 use crate::Position;
 use crate::Realization;
-
-// Whether lo <= z <= hi.
-pub(crate) fn within(lo: i64, z: i64, hi: i64) -> bool
-    ensures { λ r. ⌜ r ≡ within lo z hi ⌝ }
-{
-    (lo <= z) & (z <= hi)
-}
-
-// Whether two numbers are one.
-pub(crate) fn equal(a: i64, b: i64) -> bool
-    ensures { λ r. ⌜ r ≡ equal a b ⌝ }
-{
-    within(a, b, a)
-}
-
-// Whether three numbers lie in one range.
-pub(crate) fn three_within(lo: i64, hi: i64, x: i64, y: i64, z: i64) -> bool
-    ensures { λ r. ⌜ r ≡ (within lo x hi && within lo y hi && within lo z hi) ⌝ }
-{
-    within(lo, x, hi) & within(lo, y, hi) & within(lo, z, hi)
-}
+use ranges::equal;
+use ranges::within;
 
 // Whether datum and epoch are in their ranges.
 pub(crate) fn realization_in_range(r: Realization) -> bool
@@ -53,16 +33,14 @@ pub fn same_realization(a: Realization, b: Realization) -> bool
 pub(crate) fn given(p: Position) -> bool
     ensures { λ t. ⌜ t ≡ givenPosition p ⌝ }
 {
-    three_within(-640000000000, 640000000000, p.x, p.y, p.z)
+    ranges::three_within(-640000000000, p.x, p.y, p.z, 640000000000)
 }
 
 // Whether a position lies in the area.
 pub(crate) fn in_area(p: Position) -> bool
     ensures { λ t. ⌜ t ≡ inArea p ⌝ }
 {
-    within(-330000000000, p.x, -90000000000)
-        & within(540000000000, p.y, 640000000000)
-        & within(0, p.z, 90000000000)
+    ranges::in_area(p.x, p.y, p.z)
 }
 
 // Whether a point's numbers are in their ranges. The id is not looked at.

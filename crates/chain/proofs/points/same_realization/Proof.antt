@@ -1,11 +1,11 @@
--- `chain::ranges::same_realization` meets its contract. Assumes nothing.
+-- `chain::points::same_realization` meets its contract. Assumes nothing.
 use mathlib.Core.Path.{_∙_, ap₂}
 use mathlib.Core.Bool.{_&&_}
 use Rattle.rounding.proofs.Machine.{told}
-use Rattle.chain.specs.Ranges.{equal}
+use Rattle.ranges.specs.Ranges.{equal}
 use Rattle.chain.specs.Faults.{sameRealization}
-use Rattle.chain.proofs.ranges.same_realization.Statement.{statement}
-use Rattle.chain.proofs.ranges.same_realization.Tie as tie
+use Rattle.chain.proofs.points.same_realization.Statement.{statement}
+use Rattle.chain.proofs.points.same_realization.Tie as tie
 
 equal-requires : tie.Need-equal-requires
 equal-requires c κs = tt

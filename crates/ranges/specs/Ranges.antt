@@ -1,5 +1,6 @@
--- The table of ranges. All ends are allowed. Coordinates, shifts and heights are in units of 0.00001 m, rotations in 0.00001", scales in 10^-11, epochs in
--- thousandths of a year.
+-- The table of ranges: the one place that says which numbers the product takes. All ends are allowed. A range is said as `within low number high`, in this
+-- order everywhere. Coordinates, shifts and heights are in units of 0.00001 m, angles and rotations in 0.00001", scales in 10^-11, epochs in thousandths of a
+-- year, false eastings and northings in millimetres.
 use mathlib.Core.Bool.{Bool, _&&_, _||_}
 use Prim.Native.Nat.{ℕ}
 use lib.IntN.{ℤ, pos, negℤ}
@@ -16,6 +17,7 @@ upTo m z = within (negℤ (pos m)) z (pos m)
 abbrev pub equal : ℤ → ℤ → Bool
 equal a b = within a b a
 
+-- ---- positions and steps
 -- X, Y, Z as given
 abbrev pub givenRange : ℤ → Bool
 givenRange = upTo 640000000000
@@ -29,6 +31,10 @@ areaY y = within (pos 540000000000) y (pos 640000000000)
 
 abbrev pub areaZ : ℤ → Bool
 areaZ z = within (pos 0) z (pos 90000000000)
+
+-- the area: X, Y and Z
+abbrev pub area : ℤ → ℤ → ℤ → Bool
+area x y z = areaX x && areaY y && areaZ z
 
 -- dx, dy, dz
 abbrev pub shiftRange : ℤ → Bool
@@ -55,3 +61,21 @@ issueRange i = within (pos 1) i (pos 65535)
 -- an epoch, or 0 for none
 abbrev pub epochRange : ℤ → Bool
 epochRange e = equal (pos 0) e || within (pos 1980000) e (pos 2100000)
+
+-- ---- angles and projections
+-- a code of the table of ellipsoids
+abbrev pub ellipsoidRange : ℤ → Bool
+ellipsoidRange z = within (pos 1) z (pos 4)
+
+abbrev pub latitudeRange : ℤ → Bool
+latitudeRange z = within (pos 0) z (pos 2880000000)
+
+abbrev pub longitudeRange : ℤ → Bool
+longitudeRange z = within (pos 35640000000) z (pos 43200000000)
+
+abbrev pub heightRange : ℤ → Bool
+heightRange z = within (negℤ (pos 50000000)) z (pos 900000000)
+
+-- a false easting or northing
+abbrev pub offsetRange : ℤ → Bool
+offsetRange = upTo 2000000000

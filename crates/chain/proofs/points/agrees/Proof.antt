@@ -1,12 +1,12 @@
--- `chain::ranges::agrees` meets its contract. Assumes nothing.
+-- `chain::points::agrees` meets its contract. Assumes nothing.
 use mathlib.Core.Path.{_∙_, ap, ap₂}
 use mathlib.Core.Bool.{Bool·beq}
 use lib.IntN.{ℤ, pos}
 use Rattle.rounding.proofs.Machine.{told}
-use Rattle.chain.specs.Ranges.{within, equal}
+use Rattle.ranges.specs.Ranges.{within, equal}
 use Rattle.chain.specs.Faults.{agrees}
-use Rattle.chain.proofs.ranges.agrees.Statement.{statement}
-use Rattle.chain.proofs.ranges.agrees.Tie as tie
+use Rattle.chain.proofs.points.agrees.Statement.{statement}
+use Rattle.chain.proofs.points.agrees.Tie as tie
 
 equal-requires : tie.Need-equal-requires
 equal-requires c κs = tt

@@ -23,7 +23,7 @@ use Rattle.angle.specs.Series.{sineOf, cosineOf}
 use Rattle.angle.specs.Ellipsoids.{ellipsoidOf, primeVertical, meridianArc}
 use Rattle.angle.specs.Cassini.{originMade, cassiniWith, cassiniAt, cassiniOf}
 use Rattle.angle.specs.declared.OriginNumbers.{OriginNumbers}
-use Rattle.angle.specs.declared.Grid.the-variants.{Metres, Refused}
+use Rattle.angle.specs.declared.Projected.the-variants.{Metres, Refused}
 use Rattle.refusal.proofs.Orders as orders
 use Rattle.refusal.proofs.Orders.{Passed, passed, both, unless-none}
 use Rattle.angle.proofs.Formulas.{n, eastF, northF}

@@ -31,9 +31,9 @@ use Rattle.angle.specs.declared.OriginNumbers.{OriginNumbers}
 use Rattle.angle.specs.declared.Cartesian.{Cartesian}
 use Rattle.angle.specs.declared.Cartesian.the-variants as cartesian
 use Rattle.angle.specs.declared.CartesianUnits.the-variants.{Units}
-use Rattle.angle.specs.declared.Grid.{Grid}
-use Rattle.angle.specs.declared.Grid.the-variants as grid
-use Rattle.angle.specs.declared.GridMillimetres.the-variants.{Millimetres}
+use Rattle.angle.specs.declared.Projected.{Projected}
+use Rattle.angle.specs.declared.Projected.the-variants as projected
+use Rattle.angle.specs.declared.ProjectedMillimetres.the-variants.{Millimetres}
 use Rattle.refusal.proofs.Orders.{Passed, passed}
 use Rattle.angle.proofs.Formulas.{sineF, cosineF, eastF, northF, axisF, polarF}
 use Rattle.angle.proofs.Sizes.{from, most, Shaped, shaped, radians-among, parts-among, sine-among, cosine-among, sine-latitude, cosine-latitude, radius-among, arc-among, metres-among}
@@ -135,9 +135,9 @@ cartesian-bounded code lat lon h =
     (λ (z : first (cartesianTests code lat lon h) ≡ 0). position-bounded code lat lon h (passed (cartesianTests code lat lon h) tt z))
 
 -- ---- Cassini: |E| at most 2,500,000 m, |N| at most 3,900,000 m
-abbrev pub GridBounded : Grid → Type 0
-GridBounded (grid.Metres x y) = Among x (most 2500000 1) × Among y (most 3900000 1)
-GridBounded (grid.Refused i) = Unit {0}
+abbrev pub ProjectedBounded : Projected → Type 0
+ProjectedBounded (projected.Metres x y) = Among x (most 2500000 1) × Among y (most 3900000 1)
+ProjectedBounded (projected.Refused i) = Unit {0}
 
 difference-finite : T (finite (round binary64 false 1440000000 1))
 unfolding round
@@ -196,17 +196,17 @@ module _ (o : OriginNumbers) (lat lon : ℤ) (p : Passed (originTests o)) (q : P
       (also (cosine-latitude g lat G latitude′)
       (also (radius-among g lat G latitude′) (also difference (also arcs-among (also (metres-among z h) none))))))
 
-  place-bounded : GridBounded (cassiniAt (originMade o) lat lon)
+  place-bounded : ProjectedBounded (cassiniAt (originMade o) lat lon)
   unfolding value cassiniAt cassiniWith originMade
   place-bounded = (
     proved (laid (o .«false_easting») (upto 2000000000 1999999999 (o .«false_easting») 2000000000 (lit≤ tt) (lit≤ tt) (not-false _ (p .1 .0)))) (plus (var 6) eastF) (most 2500000 1) east-test,
     proved (laid (o .«false_northing») (upto 2000000000 1999999999 (o .«false_northing») 2000000000 (lit≤ tt) (lit≤ tt) (not-false _ (p .1 .1 .0)))) (plus (var 6) northF) (most 3900000 1) north-test,
   )
 
-pub grid-bounded : (o : OriginNumbers) (lat lon : ℤ) → GridBounded (cassiniOf o lat lon)
+pub projected-bounded : (o : OriginNumbers) (lat lon : ℤ) → ProjectedBounded (cassiniOf o lat lon)
 unfolding cassiniOf
-grid-bounded o lat lon =
-    given (first (cassiniTests o lat lon)) grid.Refused (cassiniAt (originMade o) lat lon) GridBounded (λ i. tt)
+projected-bounded o lat lon =
+    given (first (cassiniTests o lat lon)) projected.Refused (cassiniAt (originMade o) lat lon) ProjectedBounded (λ i. tt)
     (λ (z : first (cassiniTests o lat lon) ≡ 0).
     let p : Passed (cassiniTests o lat lon) = passed (cassiniTests o lat lon) tt z in
     place-bounded o lat lon (p .0, (p .1 .0, (p .1 .1 .0, (p .1 .1 .1 .0, (p .1 .1 .1 .1 .0, tt))))) (p .1 .1 .1 .1 .1))
@@ -262,8 +262,8 @@ units-answered code lat lon h x y z e =
     ∙ rw (whole-answer x 5 bound-x (lit≤ tt) (b .0), whole-answer y 5 bound-y (lit≤ tt) (b .1), whole-answer z 5 bound-z (lit≤ tt) (b .2))
 
 pub millimetres-answered : (o : OriginNumbers) (lat lon : ℤ) (x y : Float)
-    → cassiniOf o lat lon ≡ grid.Metres x y → cassiniMillimetresOf o lat lon ≡ Millimetres (wholeOf x 3) (wholeOf y 3)
+    → cassiniOf o lat lon ≡ projected.Metres x y → cassiniMillimetresOf o lat lon ≡ Millimetres (wholeOf x 3) (wholeOf y 3)
 unfolding cassiniMillimetresOf inMillimetres
 millimetres-answered o lat lon x y e =
-    let b : GridBounded (grid.Metres x y) = subst GridBounded e (grid-bounded o lat lon) in
+    let b : ProjectedBounded (projected.Metres x y) = subst ProjectedBounded e (projected-bounded o lat lon) in
     ap inMillimetres e ∙ rw (whole-answer x 3 bound-e (lit≤ tt) (b .0), whole-answer y 3 bound-n (lit≤ tt) (b .1))

@@ -16,7 +16,7 @@ use Rattle.chain.specs.declared.Point.{Point}
 use Rattle.ranges.proofs.Ranges.{natural, up-to}
 use Rattle.ranges.specs.Ranges.{within, issueRange, datumRange, epochRange, givenRange}
 use Rattle.chain.specs.Faults.{realizationRange, agrees, givenPosition, pointRange, pointFault}
-use Rattle.line.specs.Text.{decimal, integer, highest, letters, nameText, pointText, gridText, refusalText}
+use Rattle.line.specs.Text.{decimal, integer, highest, letters, nameText, pointText, projectedText, refusalText}
 use Rattle.line.proofs.Capped.{never, halves, passed}
 use Rattle.line.proofs.Texts as T
 
@@ -104,10 +104,10 @@ module _ (p : Point) (none : pointFault p ≡ 0) where
       (simp length-append
       (omega (arith, length-name (p .id), length-plus 4 1 65535 (p .issue) (omega arith) (parts .0), length-plus 1 1 10 (p .realization .datum) (omega arith) (times .0), length-epoch, length-coordinate (p .position .x) (places .0), length-coordinate (p .position .y) (places .1), length-coordinate (p .position .z) (places .2))))
 
--- a grid line of numbers below 10^18 in size: at most 60 bytes
-pub length-grid : (id : Id) (e n : ℤ) → natAbs e < 10 ^ 18 → natAbs n < 10 ^ 18 → length (gridText id e n) ≤ 60
-length-grid id e n h k =
-    rw (sym (T.grid-is id e n)) (simp length-append (omega (arith, length-name id, length-integer 17 e h, length-integer 17 n k)))
+-- a projected line of numbers below 10^18 in size: at most 60 bytes
+pub length-projected : (id : Id) (e n : ℤ) → natAbs e < 10 ^ 18 → natAbs n < 10 ^ 18 → length (projectedText id e n) ≤ 60
+length-projected id e n h k =
+    rw (sym (T.projected-is id e n)) (simp length-append (omega (arith, length-name id, length-integer 17 e h, length-integer 17 n k)))
 
 -- a refusal line of a line number below 100,000: at most 11 bytes
 pub length-refusal : (line number : ℕ) → line < 100000 → number < 100 → length (refusalText line number) ≤ 11

@@ -16,7 +16,7 @@ use Rattle.ranges.specs.Ranges.{within}
 use Rattle.angle.specs.Ranges.{nearby, angleTests, pointTests, anglesFault}
 use Rattle.angle.specs.Cassini.{cassiniAt, cassiniFromOf}
 use Rattle.angle.specs.declared.Origin.{Origin}
-use Rattle.angle.specs.declared.Grid.the-variants.{Refused}
+use Rattle.angle.specs.declared.Projected.the-variants.{Refused}
 use Rattle.refusal.proofs.Orders.{Passed, passed, none, stop, on, unless-some}
 use Rattle.ranges.proofs.Ranges.{Natural, natural}
 use Rattle.angle.proofs.Wholes.{fits, sub-pos, apart-is}

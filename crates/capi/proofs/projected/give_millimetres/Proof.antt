@@ -1,11 +1,11 @@
--- `capi::grid::give_millimetres` meets its contract: a refusal writes nothing, and what is given is stored from the first element on. Assumes nothing.
+-- `capi::projected::give_millimetres` meets its contract: a refusal writes nothing, and what is given is stored from the first element on. Assumes nothing.
 use borrow.Author.Needs.{needs}
 use mathlib.Core.Path.{_∙_, ap}
 use Rattle.capi.specs.Calls.{ofMillimetres}
 use Rattle.capi.proofs.Laws.{declined, numbers}
 use Rattle.rounding.proofs.Machine.{told}
-use Rattle.capi.proofs.grid.give_millimetres.Statement.{statement}
-use Rattle.capi.proofs.grid.give_millimetres.Tie as tie
+use Rattle.capi.proofs.projected.give_millimetres.Statement.{statement}
+use Rattle.capi.proofs.projected.give_millimetres.Tie as tie
 
 enum-known-answer : tie.Need-enum-known-answer
 enum-known-answer c = search needs

@@ -2,21 +2,21 @@
 ghost use mathlib.Core.Path.{_≡_};
 ghost use lib.ListN.{length};
 ghost use Rattle.capi.specs.Outcome.{Answered};
-ghost use Rattle.capi.specs.Calls.{ofGrid, ofMillimetres, originFrom, cassiniCall, millimetresCall};
+ghost use Rattle.capi.specs.Calls.{ofProjected, ofMillimetres, originFrom, cassiniCall, millimetresCall};
 use crate::WRONG_LENGTH;
 use crate::status::status;
-use angle::Grid;
-use angle::GridMillimetres;
 use angle::OriginNumbers;
+use angle::Projected;
+use angle::ProjectedMillimetres;
 
 // Writes easting and northing, or answers the refusal.
-fn give_metres(answer: Grid, out: &mut [f64]) -> i64
+fn give_metres(answer: Projected, out: &mut [f64]) -> i64
     requires { ⌜ length (now out) ≡ 2 ⌝ }
-    ensures { λ r. ⌜ Answered (ofGrid answer) (now (out .entry)) (now (out .exit)) r ⌝ }
+    ensures { λ r. ⌜ Answered (ofProjected answer) (now (out .entry)) (now (out .exit)) r ⌝ }
 {
     match answer {
-        Grid::Refused(n) => status(n),
-        Grid::Metres(east, north) => {
+        Projected::Refused(n) => status(n),
+        Projected::Metres(east, north) => {
             out[0] = east;
             out[1] = north;
             0
@@ -25,13 +25,13 @@ fn give_metres(answer: Grid, out: &mut [f64]) -> i64
 }
 
 // The same in whole millimetres.
-fn give_millimetres(answer: GridMillimetres, out: &mut [i64]) -> i64
+fn give_millimetres(answer: ProjectedMillimetres, out: &mut [i64]) -> i64
     requires { ⌜ length (now out) ≡ 2 ⌝ }
     ensures { λ r. ⌜ Answered (ofMillimetres answer) (now (out .entry)) (now (out .exit)) r ⌝ }
 {
     match answer {
-        GridMillimetres::Refused(n) => status(n),
-        GridMillimetres::Millimetres(east, north) => {
+        ProjectedMillimetres::Refused(n) => status(n),
+        ProjectedMillimetres::Millimetres(east, north) => {
             out[0] = east;
             out[1] = north;
             0

@@ -1,11 +1,11 @@
--- `line::write::write_grid` meets its contract. Assumes nothing.
+-- `line::write::write_projected` meets its contract. Assumes nothing.
 use mir.Syntax.{w64}
 use mir.Val.{toZ, ofZ}
 use mathlib.Core.Path.{_≡_}
 use Rattle.line.proofs.Texts as T
 use borrow.Author.Needs.{needs}
-use Rattle.line.proofs.write.write_grid.Statement.{statement}
-use Rattle.line.proofs.write.write_grid.Tie as tie
+use Rattle.line.proofs.write.write_projected.Statement.{statement}
+use Rattle.line.proofs.write.write_projected.Tie as tie
 
 letter-requires : tie.Need-letter-requires
 letter-requires c κs = search needs
@@ -32,9 +32,9 @@ returns c =
     let g = c17 .args in
     let a : toZ w64 (ofZ w64 (g .e)) ≡ g .e = search needs in
     let b : toZ w64 (ofZ w64 (g .n)) ≡ g .n = search needs in
-    T.says (T.«then» (c14 .letter .ensures) (T.«then» (c10 .name .ensures) (T.«then» (c6 .whole .ensures) (c2 .whole2 .ensures)))) (rw (a, b) (T.grid-is _ _ _))
+    T.says (T.«then» (c14 .letter .ensures) (T.«then» (c10 .name .ensures) (T.«then» (c6 .whole .ensures) (c2 .whole2 .ensures)))) (rw (a, b) (T.projected-is _ _ _))
 
-pub write-grid-spec : {M : Type 1} → statement M
-write-grid-spec =
+pub write-projected-spec : {M : Type 1} → statement M
+write-projected-spec =
     tie.close
     (tie.spec letter-requires name-requires whole-requires whole-requires-2 same-length returns)

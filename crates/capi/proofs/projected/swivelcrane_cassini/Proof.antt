@@ -1,14 +1,14 @@
--- `capi::grid::swivelcrane_cassini` meets its contract: the length, and then what the library answers. Assumes nothing.
+-- `capi::projected::swivelcrane_cassini` meets its contract: the length, and then what the library answers. Assumes nothing.
 use borrow.Author.Tests.{eq-eqb, ne-eqb}
 use borrow.Author.Needs.{needs}
 use mathlib.Core.Path.{sym, _∙_, ap}
 use Rattle.rounding.proofs.Machine.{rd, told}
 use Rattle.angle.specs.Cassini.{cassiniOf}
-use Rattle.capi.specs.Calls.{ofGrid, cassiniCall}
+use Rattle.capi.specs.Calls.{ofProjected, cassiniCall}
 use Rattle.capi.proofs.Laws.{by, wrong}
 use Rattle.capi.proofs.Origins.{same-origin}
-use Rattle.capi.proofs.grid.swivelcrane_cassini.Statement.{statement}
-use Rattle.capi.proofs.grid.swivelcrane_cassini.Tie as tie
+use Rattle.capi.proofs.projected.swivelcrane_cassini.Statement.{statement}
+use Rattle.capi.proofs.projected.swivelcrane_cassini.Tie as tie
 
 returns : tie.Need-returns
 unfolding cassiniCall
@@ -27,7 +27,7 @@ returns-2 : tie.Need-returns-2
 unfolding cassiniCall
 returns-2 c =
     let s = c .before .before .before .before .before .before .before .fits in
-    by (c .before .before .give-metres .ensures) (rw (eq-eqb _ _ (c .before .before .before .before .before .if1 .left)) (ap ofGrid (sym (c .before .before .before .before .cassini .ensures
+    by (c .before .before .give-metres .ensures) (rw (eq-eqb _ _ (c .before .before .before .before .before .if1 .left)) (ap ofProjected (sym (c .before .before .before .before .cassini .ensures
     ∙ same-origin cassiniOf (rd (s .ellipsoid)) (rd (s .origin-latitude)) (rd (s .origin-longitude)) (rd (s .false-easting)) (rd (s .false-northing)) (rd (s .latitude)) (rd (s .longitude))))))
     (told (c .before .before .give-metres .ok))
 

@@ -1,4 +1,4 @@
--- `capi::grid::swivelcrane_cassini_millimetres` meets its contract: the length, and then what the library answers. Assumes nothing.
+-- `capi::projected::swivelcrane_cassini_millimetres` meets its contract: the length, and then what the library answers. Assumes nothing.
 use borrow.Author.Tests.{eq-eqb, ne-eqb}
 use borrow.Author.Needs.{needs}
 use mathlib.Core.Path.{sym, _∙_, ap}
@@ -7,8 +7,8 @@ use Rattle.angle.specs.Cassini.{cassiniMillimetresOf}
 use Rattle.capi.specs.Calls.{ofMillimetres, millimetresCall}
 use Rattle.capi.proofs.Laws.{by, wrong}
 use Rattle.capi.proofs.Origins.{same-origin}
-use Rattle.capi.proofs.grid.swivelcrane_cassini_millimetres.Statement.{statement}
-use Rattle.capi.proofs.grid.swivelcrane_cassini_millimetres.Tie as tie
+use Rattle.capi.proofs.projected.swivelcrane_cassini_millimetres.Statement.{statement}
+use Rattle.capi.proofs.projected.swivelcrane_cassini_millimetres.Tie as tie
 
 returns : tie.Need-returns
 unfolding millimetresCall

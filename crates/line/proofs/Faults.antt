@@ -12,7 +12,7 @@ use Rattle.chain.specs.declared.Kind.the-variants.{Shift, Velocity, BursaWolf, 
 use Rattle.chain.specs.Ranges.{upTo, datumRange, epochRange, issueRange, givenRange, shiftRange, velocityRange, rotationRange, scaleRange}
 use Rattle.chain.specs.Faults.{realizationRange, agrees, givenPosition, pointRange, pointFault, kindRange, kindRule, stepRange, stepFault}
 use Rattle.angle.specs.Ranges.{badCode, badOffset, badLatitude, badLongitude, angleTests, anglesFault, originFault}
-use Rattle.line.specs.Lines.{geodeticFault}
+use Rattle.line.specs.Readers.{geodeticFault}
 use Rattle.line.specs.Reading.{cap, cappedZ, cappedRealization, cappedPosition, cappedPoint, cappedKind, cappedStep, cappedOrigin, cappedGeodetic}
 use Rattle.line.proofs.Answers.{Careful}
 use Rattle.line.proofs.Capped.{Sure, sure-within, sure-either, both, halves, passed, outside-same, outside-kept, careful-first}

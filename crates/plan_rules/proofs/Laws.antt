@@ -16,7 +16,7 @@ use Rattle.angle.specs.Cassini.{originMade, originOf, cassiniFromOf, cassiniOf,
 use Rattle.line.specs.declared.OriginLine.the-variants as origin-line
 use Rattle.line.specs.Fields.{said}
 use Rattle.line.specs.Forms.{originForm}
-use Rattle.line.specs.Lines.{readOrigin}
+use Rattle.line.specs.Readers.{readOrigin}
 use Rattle.line.specs.Text.{Wrote, refusalText}
 use Rattle.line.proofs.Texts.{nothing}
 use Rattle.listing.proofs.Laws.{no-fault, Left}

@@ -21,7 +21,7 @@ use Rattle.line.specs.declared.GeodeticLine.the-variants as geodetic-line
 use Rattle.line.specs.Bytes.{letterO, letterG}
 use Rattle.line.specs.Fields.{said}
 use Rattle.line.specs.Forms.{originForm, geodeticForm}
-use Rattle.line.specs.Lines.{readOrigin, readGeodetic, geodeticFault}
+use Rattle.line.specs.Readers.{readOrigin, readGeodetic, geodeticFault}
 use Rattle.line.specs.Text.{refusalText, Wrote}
 use Rattle.line.proofs.Lengths.{length-grid, length-refusal}
 use Rattle.line.proofs.Good as line
@@ -45,10 +45,10 @@ module _ (p : Plan) (l : List ℕ) (full : 0 < length l) (few : p .line < 100000
   unfolding readOrigin
   origin =
       line.outcome originFault origin-line.Origin origin-line.Refused (λ (r : OriginLine). length (originAnswer p r) ≤ 11 * length l) (said originForm l) line.origin-short (λ o e f. good (notFirst p))
-      (λ n h. refused _ (ordered (eqb n refusal.form) (notFirst p) refusal.place n (omega arith) h))
+      (λ n h. refused _ (ordered (eqb n refusal.form) (notFirst p) refusal.misplaced n (omega arith) h))
     where
-      good : (b : Bool) → length (pick b (refusalText (p .line) refusal.place) []) ≤ 11 * length l
-      good true = refused refusal.place (omega arith)
+      good : (b : Bool) → length (pick b (refusalText (p .line) refusal.misplaced) []) ≤ 11 * length l
+      good true = refused refusal.misplaced (omega arith)
       good false = omega arith
 
   -- a good position line has 8 bytes or more, and the grid line at most 60

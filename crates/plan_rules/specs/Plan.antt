@@ -17,7 +17,7 @@ use Rattle.line.specs.declared.OriginLine.the-variants as origin-line
 use Rattle.line.specs.declared.GeodeticLine.{GeodeticLine}
 use Rattle.line.specs.declared.GeodeticLine.the-variants as geodetic-line
 use Rattle.line.specs.Bytes.{letterO, letterG}
-use Rattle.line.specs.Lines.{readOrigin, readGeodetic}
+use Rattle.line.specs.Readers.{readOrigin, readGeodetic}
 use Rattle.line.specs.Text.{gridText, refusalText}
 use Rattle.listing.specs.Fold.{Rules, printed, byLetter}
 
@@ -36,8 +36,8 @@ notFirst p = not (eqb (p .line) 1)
 -- ---- an origin line: 1, 7, 2, 12; an accepted one prints nothing
 abbrev pub originAnswer : Plan → OriginLine → List ℕ
 originAnswer p (origin-line.Refused f) =
-    refusalText (p .line) (first ((eqb (f .number) refusal.form gives refusal.form) ∷ (notFirst p gives refusal.place) ∷ (true gives f .number) ∷ []))
-originAnswer p (origin-line.Origin o) = pick (notFirst p) (refusalText (p .line) refusal.place) []
+    refusalText (p .line) (first ((eqb (f .number) refusal.form gives refusal.form) ∷ (notFirst p gives refusal.misplaced) ∷ (true gives f .number) ∷ []))
+originAnswer p (origin-line.Origin o) = pick (notFirst p) (refusalText (p .line) refusal.misplaced) []
 
 abbrev pub originAfter : Plan → OriginLine → Option OriginNumbers
 originAfter p (origin-line.Refused f) = p .origin

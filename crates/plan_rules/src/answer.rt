@@ -7,7 +7,7 @@ ghost use lib.ListN.{length};
 ghost use Rattle.refusal.specs.Numbers as refusal-number;
 ghost use Rattle.refusal.specs.Order.{pick};
 ghost use Rattle.angle.specs.Ranges.{originFault};
-ghost use Rattle.line.specs.Lines.{readOrigin, readGeodetic};
+ghost use Rattle.line.specs.Readers.{readOrigin, readGeodetic};
 ghost use Rattle.line.specs.Text.{Wrote, refusalText};
 ghost use Rattle.line.specs.declared.OriginLine.the-variants as origin-line;
 ghost use Rattle.line.specs.declared.GeodeticLine.the-variants as geodetic-line;
@@ -69,7 +69,7 @@ fn take_origin(state: State, o: OriginNumbers, out: &mut [u8], at: usize) -> Ans
     ensures { λ r. ⌜ ((p : Plan) → Holds state p → Gave (originAnswer p (origin-line.Origin o)) (withOrigin p (originAfter p (origin-line.Origin o))) (now (out .entry)) at (now (out .exit)) r) ⌝ }
 {
     if state.line != 1 {
-        return refuse(state, refusal::PLACE, out, at);
+        return refuse(state, refusal::MISPLACED, out, at);
     }
     match angle::make_origin(o) {
         OriginAnswer::Refused(number) => refuse(state, number, out, at),
@@ -91,7 +91,7 @@ fn answer_origin(state: State, text: &[u8], out: &mut [u8], at: usize) -> Answer
 {
     match line::read_origin(text) {
         OriginLine::Refused(fault) => {
-            let number = ordered(fault.number, state.line != 1, refusal::PLACE);
+            let number = ordered(fault.number, state.line != 1, refusal::MISPLACED);
             refuse(state, number, out, at)
         }
         OriginLine::Origin(o) => take_origin(state, o, out, at),

@@ -1,6 +1,6 @@
 -- `plan::answer` meets its contract: the room is enough for any input. Assumes nothing.
 use borrow.Author.Needs.{needs}
-use Rattle.listing.proofs.Laws.{whole-text}
+use Rattle.listing.proofs.Room.{whole-text}
 use Rattle.plan.proofs.answer.Statement.{statement}
 use Rattle.plan.proofs.answer.Tie as tie
 

@@ -1,7 +1,7 @@
 -- `plan::main` meets its contract: what is read fits the space for it, and so does what is written. Assumes nothing.
 use borrow.Author.Needs.{needs}
 use Rattle.input.proofs.Laws.{held-fits, held-part}
-use Rattle.listing.proofs.Laws.{text-fits, text-part}
+use Rattle.listing.proofs.Room.{text-fits, text-part}
 use Rattle.plan.proofs.main.Statement.{statement}
 use Rattle.plan.proofs.main.Tie as tie
 

@@ -1,6 +1,6 @@
 -- `sheet::answer` meets its contract: the room is enough for any input. Assumes nothing.
 use borrow.Author.Needs.{needs}
-use Rattle.listing.proofs.Laws.{whole-text}
+use Rattle.listing.proofs.Room.{whole-text}
 use Rattle.sheet.proofs.answer.Statement.{statement}
 use Rattle.sheet.proofs.answer.Tie as tie
 

@@ -1,9 +1,9 @@
--- `plan_rules::answer::after` meets its contract. Assumes nothing.
+-- `plan_rules::decide::after` meets its contract. Assumes nothing.
 use mathlib.Core.Path.{refl}
 use Rattle.plan_rules.specs.State.{afterIn}
 use borrow.Author.Needs.{needs}
-use Rattle.plan_rules.proofs.answer.after.Statement.{statement}
-use Rattle.plan_rules.proofs.answer.after.Tie as tie
+use Rattle.plan_rules.proofs.decide.after.Statement.{statement}
+use Rattle.plan_rules.proofs.decide.after.Tie as tie
 
 add-t3 : tie.Need-add-t3
 add-t3 c = search needs

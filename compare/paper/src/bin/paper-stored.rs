@@ -22,7 +22,9 @@ const SECOND: &[u8] = b"P\tARAU\t9\t6\t2000000\t-113105165411\t623631179950\t711
 fn main() {
     let there = numbers::forward(&CHAIN, &POINT).unwrap_or_default();
     let home = numbers::inverse(&CHAIN, &there).unwrap_or_default();
-    println!("/* Worked out by compare/paper: cargo run --manifest-path compare/Cargo.toml --bin paper-stored */");
+    println!(
+        "/* Worked out by compare/paper: cargo run --manifest-path compare/Cargo.toml --bin paper-stored */"
+    );
     whole("forward", &there);
     whole("inverse", &home);
     let arau = numbers::forward(&ARAU_CHAIN, &ARAU).unwrap_or_default();
@@ -38,7 +40,10 @@ fn main() {
         false_northing: -25000,
     };
     bits("cassini", &angle::cassini(&origin, 1445000000, 36800000000).unwrap_or_default());
-    whole("cassini_millimetres", &angle::cassini_millimetres(&origin, 1445000000, 36800000000).unwrap_or_default());
+    whole(
+        "cassini_millimetres",
+        &angle::cassini_millimetres(&origin, 1445000000, 36800000000).unwrap_or_default(),
+    );
     whole("rounded", &[decimal::round(-1234.567895, 3).unwrap_or_default()]);
     let which = |first, second| match later::later(first, second) {
         Ok(later::Which::First) => 1,

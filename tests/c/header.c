@@ -1,5 +1,5 @@
 /* Every function of include/swivelcrane.h, called with arguments of which no two could change places unseen, and held to stored.h, which the
- * independent program worked out; the texts at the end were worked out by hand from README.md's tables. A refusal and a wrong length write nothing. */
+ * independent program worked out; the texts at the end are document 01's lines, with refusals worked out by hand. A refusal and a wrong length write nothing. */
 #include <stdio.h>
 #include <string.h>
 

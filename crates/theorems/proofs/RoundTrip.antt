@@ -23,7 +23,7 @@ use Rattle.chain.specs.Faults.{inArea, stepsOf}
 use Rattle.chain.specs.Parts.{kindParts, forwardBy, inverseBy}
 use Rattle.chain.specs.Axes.{onX, onY, onZ, Small}
 use Rattle.chain.specs.Convert.{at, walk, forwardStep, inverseStep, startOf, endOf, movedTo, forwardOf, inverseOf}
-use Rattle.theorems.specs.RoundTrip.{inexact, inexactSteps, Returned, RoundTrip}
+use Rattle.theorems.specs.RoundTrip.{inexact, inexactSteps, Returned, ThereAndBack, BackAndThere, Exactly, RoundTrip}
 use Rattle.chain.proofs.Within.{area-small}
 use Rattle.chain.proofs.StepLaws.{Off, off-le, off-self, small-le, inverse-off, inverse-exact, forward-off, forward-exact}
 use Rattle.chain.proofs.Sizes.{StepOk, step-ok, kind-mild, shift-flat, velocity-flat}
@@ -113,35 +113,35 @@ returned n p q r there home e f d o = record {
   z = NatL.le-trans (o .on onZ) (omega arith);
 }
 
-pub round-trip : RoundTrip
-round-trip c p q r = (forth, back)
-  where
-    forth : forwardOf c p ≡ Converted q → inverseOf c q ≡ Converted r → Returned (inexactSteps (stepsOf c)) p r
-    forth e f =
-        let ss = stepsOf c in
-        let a = forward-went c p q e in
-        let b = inverse-went c q r f in
-        returned (inexactSteps ss) p q r (endOf (p .realization) ss) (startOf (q .realization) ss) (a .is) (b .is)
-        (start-home (p .realization) (q .realization) ss (a .accept .here) (ap (λ (t : Point). t .realization) (a .is)))
-        (there-and-back ss (a .accept .sound) (p .position) (q .position) (q .position) (r .position) 0 (eight c (a .accept .short)) (a .accept .area)
-        (a .ended) (off-self _) (b .ended))
+forth : ThereAndBack
+forth c p q r e f =
+    let ss = stepsOf c in
+    let a = forward-went c p q e in
+    let b = inverse-went c q r f in
+    returned (inexactSteps ss) p q r (endOf (p .realization) ss) (startOf (q .realization) ss) (a .is) (b .is)
+    (start-home (p .realization) (q .realization) ss (a .accept .here) (ap (λ (t : Point). t .realization) (a .is)))
+    (there-and-back ss (a .accept .sound) (p .position) (q .position) (q .position) (r .position) 0 (eight c (a .accept .short)) (a .accept .area)
+    (a .ended) (off-self _) (b .ended))
 
-    back : inverseOf c p ≡ Converted q → forwardOf c q ≡ Converted r → Returned (inexactSteps (stepsOf c)) p r
-    back e f =
-        let ss = stepsOf c in
-        let a = inverse-went c p q e in
-        let b = forward-went c q r f in
-        returned (inexactSteps ss) p q r (startOf (p .realization) ss) (endOf (q .realization) ss) (a .is) (b .is)
-        (end-home (p .realization) (q .realization) ss (a .accept .here) (ap (λ (t : Point). t .realization) (a .is)))
-        (back-and-there ss (a .accept .sound) (p .position) (q .position) (q .position) (r .position) 0 (eight c (a .accept .short)) (a .accept .area)
-        (a .ended) (off-self _) (b .ended))
+back : BackAndThere
+back c p q r e f =
+    let ss = stepsOf c in
+    let a = inverse-went c p q e in
+    let b = forward-went c q r f in
+    returned (inexactSteps ss) p q r (startOf (p .realization) ss) (endOf (q .realization) ss) (a .is) (b .is)
+    (end-home (p .realization) (q .realization) ss (a .accept .here) (ap (λ (t : Point). t .realization) (a .is)))
+    (back-and-there ss (a .accept .sound) (p .position) (q .position) (q .position) (r .position) 0 (eight c (a .accept .short)) (a .accept .area)
+    (a .ended) (off-self _) (b .ended))
 
--- a chain of shifts and velocities alone, or an empty one, gives back exactly the point handed in: within 0 units is equal
+-- within 0 units is equal
 same-number : (x y : ℤ) → natAbs (x -ℤ y) ≤ 0 → x ≡ y
 same-number x y h = let f = unabs 0 h (v x ⊖ v y) in eq (v x) (v y) (omega arith)
 
-pub exactly : (p r : Point) → Returned 0 p r → r ≡ p
+exactly : Exactly
 exactly p r h =
     ap₂ (λ (i : Id) (n : ℤ). record { id = i; issue = n; realization = r .realization; position = r .position }) (h .id) (h .issue)
     ∙ ap₂ (movedTo p) (ap₂ (λ (d e : ℤ). record { datum = d; epoch = e }) (h .datum) (h .epoch))
     (of₃ (λ (x y z : ℤ). record { x = x; y = y; z = z }) (same-number _ _ (h .x)) (same-number _ _ (h .y)) (same-number _ _ (h .z)))
+
+pub round-trip : RoundTrip
+round-trip = record { forth = forth; back = back; exact = exactly }

@@ -34,10 +34,19 @@ pub record Returned (n : ℕ) (p r : Point) : Type 0 where
   pub y : natAbs (r .position .y -ℤ p .position .y) ≤ n
   pub z : natAbs (r .position .z -ℤ p .position .z) ≤ n
 
--- any chain, any point p, the answer q of the first conversion and the answer r of the second; forward then inverse, and inverse then forward. The steps
+-- any chain, any point p, the answer q of the first conversion and the answer r of the second: forward then inverse, and inverse then forward. The steps
 -- counted are those within the chain's length
-abbrev pub RoundTrip : Type 0
-RoundTrip =
-    (c : Chain) (p q r : Point) →
-    (forwardOf c p ≡ Converted q → inverseOf c q ≡ Converted r → Returned (inexactSteps (stepsOf c)) p r)
-    × (inverseOf c p ≡ Converted q → forwardOf c q ≡ Converted r → Returned (inexactSteps (stepsOf c)) p r)
+abbrev pub ThereAndBack : Type 0
+ThereAndBack = (c : Chain) (p q r : Point) → forwardOf c p ≡ Converted q → inverseOf c q ≡ Converted r → Returned (inexactSteps (stepsOf c)) p r
+
+abbrev pub BackAndThere : Type 0
+BackAndThere = (c : Chain) (p q r : Point) → inverseOf c p ≡ Converted q → forwardOf c q ≡ Converted r → Returned (inexactSteps (stepsOf c)) p r
+
+-- within 0 units is equal: a chain of shifts and velocities alone, or an empty one, gives back exactly the point handed in
+abbrev pub Exactly : Type 0
+Exactly = (p r : Point) → Returned 0 p r → r ≡ p
+
+pub record RoundTrip : Type 0 where
+  pub forth : ThereAndBack
+  pub back : BackAndThere
+  pub exact : Exactly

@@ -6,4 +6,7 @@ pub mod Axes
 pub mod Ready
 pub mod Convert
 pub mod Cases
+pub mod MoreCases
+pub mod RangeCases
 pub mod Prepared
+pub mod OrderCases

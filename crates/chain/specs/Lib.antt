@@ -1,10 +1,11 @@
-pub mod Ranges
 pub mod Faults
 pub mod Rows
 pub mod Parts
 pub mod Axes
 pub mod Ready
 pub mod Convert
-pub mod RoundTrip
 pub mod Cases
+pub mod MoreCases
+pub mod RangeCases
 pub mod Prepared
+pub mod OrderCases

@@ -18,7 +18,7 @@ use borrow.Author.Tests.{lt-ltb, le-ltb, eq-eqb, ne-eqb, ltb-true}
 use Rattle.refusal.specs.Order.{pick}
 use Rattle.chain.specs.declared.Id.{Id}
 use Rattle.chain.specs.declared.Point.{Point}
-use Rattle.line.specs.Text.{lastDigits, decimal, integer, highest, letters, nameText, lineText, pointText, gridText, refusalText, Wrote, leading, six}
+use Rattle.line.specs.Text.{lastDigits, decimal, integer, highest, letters, nameText, lineText, pointText, projectedText, refusalText, Wrote, leading, six}
 
 -- ---- stores one after the other
 sets-append : (vs ws l : List ℕ) (i : ℕ) → sets l i (vs ++ ws) ≡ sets (sets l i vs) (i + length vs) ws
@@ -121,7 +121,13 @@ upper-last n = go (decLt n 10)
         let y : n / 10 ≡ 0 → ⊥ = λ q. omega arith in
         rw (upper-some (n / 10) y) (sym (decimal-more n (omega arith)))
 
--- up to six digits
+-- up to three digits, and up to six
+pub three-is : (n : ℕ) → n < 1000 → leading (n / 100) ++ (leading (n / 10) ++ ((48 + n % 10) ∷ [])) ≡ decimal n
+three-is n h =
+    ap (λ (l : List ℕ). l ++ (leading (n / 10) ++ ((48 + n % 10) ∷ []))) (leading-first (n / 100) (omega arith))
+    ∙ upper-on (n / 100) (n / 10) _ (omega arith)
+    ∙ upper-last n
+
 pub short-is : (n : ℕ) → n < 1000000
     → leading (n / 100000) ++ (leading (n / 10000) ++ (leading (n / 1000) ++ (leading (n / 100) ++ (leading (n / 10) ++ ((48 + n % 10) ∷ []))))) ≡ decimal n
 short-is n h =
@@ -269,9 +275,9 @@ refusal-is line number = refl
 tabbed : (a r : List ℕ) → (a ++ (9 ∷ [])) ++ r ≡ a ++ (9 ∷ r)
 tabbed a r = append-assoc a (9 ∷ []) r
 
-pub grid-is : (id : Id) (e n : ℤ) → (67 ∷ 9 ∷ []) ++ ((nameText id ++ (9 ∷ [])) ++ ((integer e ++ (9 ∷ [])) ++ (integer n ++ (10 ∷ [])))) ≡ gridText id e n
-unfolding gridText lineText
-grid-is id e n = simp tabbed
+pub projected-is : (id : Id) (e n : ℤ) → (67 ∷ 9 ∷ []) ++ ((nameText id ++ (9 ∷ [])) ++ ((integer e ++ (9 ∷ [])) ++ (integer n ++ (10 ∷ [])))) ≡ projectedText id e n
+unfolding projectedText lineText
+projected-is id e n = simp tabbed
 
 pub point-is : (p : Point)
     → (80 ∷ 9 ∷ [])

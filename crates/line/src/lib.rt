@@ -3,9 +3,9 @@
 // A line is at most 200 bytes with the line feed at its end; its fields are parted by one tab. Every function here takes any bytes
 // of any length. What is refused is refused for its form first, whatever its numbers are.
 mod compare;
+mod ends;
 mod field;
 mod geodetic_line;
-mod ends;
 mod name;
 mod number;
 mod origin_line;
@@ -15,13 +15,13 @@ mod write;
 
 pub use compare::later_of_two;
 pub use compare::later_verdict;
-pub use geodetic_line::read_geodetic;
 pub use ends::line_end;
+pub use geodetic_line::read_geodetic;
 pub use origin_line::read_origin;
 pub use point_line::read_point;
 pub use step_line::read_step;
-pub use write::write_grid;
 pub use write::write_point;
+pub use write::write_projected;
 pub use write::write_refusal;
 
 // What is wrong with the form of a line: a number of the refusal table.

@@ -6,7 +6,7 @@ ghost use mathlib.Core.Path.{_≡_};
 ghost use mathlib.Core.List.{[], _∷_, _++_};
 ghost use Prim.Native.Nat.{_+_, _<_, _/_, _%_};
 ghost use lib.IntN.{natAbs};
-ghost use Rattle.line.specs.Text.{decimal, integer, letters, nameText, pointText, gridText, refusalText, Wrote, leading, six};
+ghost use Rattle.line.specs.Text.{decimal, integer, letters, nameText, pointText, projectedText, refusalText, Wrote, leading, six};
 
 const MINUS: u8 = 45;
 
@@ -49,6 +49,16 @@ fn short(out: &mut [u8], at: usize, n: u64) -> usize
     let d = leading_digit(out, c, n / 100);
     let e = leading_digit(out, d, n / 10);
     digit(out, e, n)
+}
+
+// A number of up to three digits: a refusal's. Most lines of a bad sheet end in one, so it has no more digits to look at than it needs.
+fn three(out: &mut [u8], at: usize, n: u64) -> usize
+    requires { ⌜ n < 1000 ⌝ }
+    ensures { λ r. ⌜ Wrote (now (out .entry)) at (decimal n) (now (out .exit)) r ⌝ }
+{
+    let a = leading_digit(out, at, n / 100);
+    let b = leading_digit(out, a, n / 10);
+    digit(out, b, n)
 }
 
 // The last six digits of n, zeros and all. They are worked out side by side: no digit waits for another.
@@ -151,8 +161,8 @@ pub fn write_point(out: &mut [u8], at: usize, p: chain::Point) -> usize
 }
 
 // C, id, E, N; millimetres.
-pub fn write_grid(out: &mut [u8], at: usize, id: chain::Id, e: i64, n: i64) -> usize
-    ensures { λ r. ⌜ Wrote (now (out .entry)) at (gridText id e n) (now (out .exit)) r ⌝ }
+pub fn write_projected(out: &mut [u8], at: usize, id: chain::Id, e: i64, n: i64) -> usize
+    ensures { λ r. ⌜ Wrote (now (out .entry)) at (projectedText id e n) (now (out .exit)) r ⌝ }
 {
     let a = letter(out, at, b'C');
     let b = name(out, a, id);
@@ -173,6 +183,6 @@ pub fn write_refusal(out: &mut [u8], at: usize, line: u64, number: u8) -> usize
     let a = letter(out, at, b'R');
     let b = natural(out, a, line);
     let c = byte(out, b, TAB);
-    let d = natural(out, c, wide(number));
+    let d = three(out, c, wide(number));
     byte(out, d, LINE_FEED)
 }

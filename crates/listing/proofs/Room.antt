@@ -14,7 +14,7 @@ use Rattle.line.specs.Lines.{lines}
 use Rattle.line.specs.Text.{Wrote, refusalText}
 use Rattle.line.proofs.Lines.{total, total-lines, Some, some-lines}
 use Rattle.line.proofs.Lengths.{length-refusal}
-use Rattle.listing.specs.Fold.{Rules, run, longestInput, printed, roomFor, Prints, Begins}
+use Rattle.listing.specs.Fold.{Rules, run, longestInput, printed, roomFor, Prints}
 
 -- a refusal fits wherever a line has a byte and a number of at most five digits
 pub refusal-fits : (l : List ℕ) (line n : ℕ) → 0 < length l → line < 100000 → n < 100 → length (refusalText line n) ≤ 11 * length l
@@ -34,7 +34,7 @@ module _ {S R : Type 0} {r : Rules S R} {number : S → ℕ} (roomy : Roomy r nu
       let b = run-short ls (h .1) (r .next s l) (omega (arith, h .0, roomy .counts s l)) in
       omega (arith, length-append (r .text (r .reply s l)) (run r (r .next s l) ls))
 
-  printed-fits : (s : S) → number s ≡ 1 → (input : List ℕ) → length (printed r s input) ≤ roomFor (length input)
+  pub printed-fits : (s : S) → number s ≡ 1 → (input : List ℕ) → length (printed r s input) ≤ roomFor (length input)
   unfolding printed roomFor
   printed-fits s n input = go (ltb longestInput (length input)) refl
     where
@@ -58,20 +58,14 @@ module _ {S R : Type 0} {r : Rules S R} {number : S → ℕ} (roomy : Roomy r nu
           let f = printed-fits s n input in
           (omega (arith, w .place), w .list ∙ sets-eq text before 0 (omega arith) ∙ ap (λ (k : ℕ). text ++ drop k before) e)
 
--- ---- the space for what any input prints: what is handed on from its start is the text, whole
+-- ---- with the room that the longest input asks for, the text is there whole, and is the part of the array before r
 take-front : (a b : List ℕ) → take (length a) (a ++ b) ≡ a
 take-front [] b = refl
 take-front (x ∷ a) b = ap (λ (l : List ℕ). x ∷ l) (take-front a b)
 
-pub whole-text : {text input before after : List ℕ} {r : ℕ} → length before ≡ 720903 → Prints text input before after r → Begins text after r
+pub whole-text : {text input before after : List ℕ} {r : ℕ} → length before ≡ roomFor longestInput → Prints text input before after r → (r ≤ length after) × (take r after ≡ text)
 unfolding roomFor
 whole-text {text} {input} {before} {after} {r} l p =
     let w = p .whole (omega arith) in
-    record { size = w .0; bytes = ap (λ (k : ℕ). take k after) (w .0) ∙ ap (take (length text)) (w .1) ∙ take-front text (drop (length text) before) }
-
--- and that much of it is a part of the array
-pub text-fits : {text m : List ℕ} {r : ℕ} → Begins text m r → r ≤ length m
-text-fits {text} {m} {r} w = omega (arith, w .size, ap length (w .bytes), length-take r m)
-
-pub text-part : {text m : List ℕ} {r : ℕ} → Begins text m r → r ≡ length (take r m)
-text-part w = w .size ∙ ap length (sym (w .bytes))
+    let b = ap (λ (k : ℕ). take k after) (w .0) ∙ ap (take (length text)) (w .1) ∙ take-front text (drop (length text) before) in
+    (omega (arith, w .0, ap length b, length-take r after), b)

@@ -1,7 +1,8 @@
 // A program that answers its input line by line: how long an input may be, and how much room its text asks for.
+ghost use Prim.Native.Nat.{_+_};
 ghost use mathlib.Core.Path.{_≡_};
 ghost use lib.ListN.{length};
-ghost use Rattle.listing.specs.Fold.{roomFor};
+ghost use Rattle.listing.specs.Fold.{longestInput, roomFor};
 
 // The longest input that is read, in bytes. Of a longer one nothing is read.
 pub const LONGEST_INPUT: usize = 65536;
@@ -19,14 +20,14 @@ pub fn room_for(n: usize) -> usize
 
 // Room for the longest input that is read and one byte more, by which a longer one shows.
 pub fn input_space() -> [u8; 65537]
-    ensures { λ r. ⌜ 65537 ≡ length r ⌝ }
+    ensures { λ r. ⌜ longestInput + 1 ≡ length r ⌝ }
 {
     [0; 65537]
 }
 
 // Room for what any input prints.
 pub fn output_space() -> [u8; 720903]
-    ensures { λ r. ⌜ 720903 ≡ length r ⌝ }
+    ensures { λ r. ⌜ roomFor longestInput ≡ length r ⌝ }
 {
     [0; 720903]
 }

@@ -2,15 +2,16 @@
 use libc::STDOUT_FILENO;
 ghost use mathlib.Core.Path.{_≡_};
 ghost use lib.ListN.{length};
-ghost use Rattle.listing.specs.Fold.{Begins};
+ghost use Rattle.listing.specs.Fold.{longestInput, roomFor};
 ghost use Rattle.plan_rules.specs.Plan.{planOf};
 
-// What the plan prints, from the start of the room for any, whatever the input.
-fn answer(text: &[u8], printed: &mut [u8]) -> usize
-    requires { ⌜ length (now printed) ≡ 720903 ⌝ }
-    ensures { λ r. ⌜ Begins (planOf (now (text .entry))) (now (printed .exit)) r ⌝ }
+// What the plan prints, whole, whatever the input: the very part of the room that is to be written.
+fn answer<'a>(text: &[u8], printed: &'a mut [u8]) -> &'a mut [u8]
+    requires { ⌜ length (now printed) ≡ roomFor longestInput ⌝ }
+    ensures { λ r. ⌜ now r ≡ planOf (now (text .entry)) ⌝ }
 {
-    plan_rules::plan(text, printed)
+    let past = plan_rules::plan(text, printed);
+    &mut printed[..past]
 }
 
 fn main() {
@@ -19,6 +20,6 @@ fn main() {
         return;
     };
     let mut printed = listing::output_space();
-    let past = answer(&text[..held], &mut printed);
-    io::write_all(STDOUT_FILENO, &printed[..past]);
+    let whole = answer(&text[..held], &mut printed);
+    io::write_all(STDOUT_FILENO, whole);
 }

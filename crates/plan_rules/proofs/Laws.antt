@@ -9,7 +9,7 @@ use lib.IntN.{ℤ}
 use Rattle.angle.specs.declared.Origin.{Origin}
 use Rattle.angle.specs.declared.OriginNumbers.{OriginNumbers}
 use Rattle.angle.specs.declared.OriginAnswer.the-variants as answer
-use Rattle.angle.specs.declared.GridMillimetres.{GridMillimetres}
+use Rattle.angle.specs.declared.ProjectedMillimetres.{ProjectedMillimetres}
 use Rattle.angle.specs.Ranges.{originFault}
 use Rattle.angle.specs.Cassini.{originOf, cassiniMillimetresFromOf, cassiniMillimetresOf}
 use Rattle.angle.proofs.Made.{by-origin}
@@ -28,7 +28,7 @@ unfolding originOf
 never-refused o n e q = let z : _≡_ {A = ℕ} 0 1 = cc (rw e at q) in omega arith
 
 -- what the values made once answer, at angles as the machine reads them, the origin's numbers answer
-pub on-origin : (o : OriginNumbers) (lat lon : ℤ) {m : Origin} {lat' lon' : ℤ} {g : GridMillimetres} → originOf o ≡ answer.Made m → lat' ≡ lat → lon' ≡ lon → cassiniMillimetresFromOf m lat' lon' ≡ g → cassiniMillimetresOf o lat lon ≡ g
+pub on-origin : (o : OriginNumbers) (lat lon : ℤ) {m : Origin} {lat' lon' : ℤ} {g : ProjectedMillimetres} → originOf o ≡ answer.Made m → lat' ≡ lat → lon' ≡ lon → cassiniMillimetresFromOf m lat' lon' ≡ g → cassiniMillimetresOf o lat lon ≡ g
 unfolding cassiniMillimetresFromOf cassiniMillimetresOf
 on-origin o lat lon {m} e a b q = rw (← by-origin o lat lon m e, ← a, ← b) q
 

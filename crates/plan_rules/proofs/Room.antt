@@ -1,4 +1,5 @@
 -- The room that a plan asks for holds all that it prints. Assumes nothing.
+use mathlib.Core.Path.{refl}
 use mathlib.Core.Bool.{Bool, true, false}
 use mathlib.Core.List.{List}
 use mathlib.Core.Option.{Option, none, some}
@@ -8,20 +9,21 @@ use lib.ListN.{length}
 use Rattle.refusal.specs.Numbers as refusal
 use Rattle.refusal.specs.Order.{pick}
 use Rattle.angle.specs.declared.OriginNumbers.{OriginNumbers}
-use Rattle.angle.specs.declared.GridMillimetres.{GridMillimetres}
+use Rattle.angle.specs.declared.ProjectedMillimetres.{ProjectedMillimetres}
 use Rattle.angle.proofs.Outcomes as projection
 use Rattle.line.specs.declared.Geodetic.{Geodetic}
 use Rattle.line.specs.declared.OriginLine.{OriginLine}
 use Rattle.line.specs.declared.GeodeticLine.{GeodeticLine}
 use Rattle.line.specs.Bytes.{letterO, letterG}
 use Rattle.line.specs.Readers.{readOrigin, readGeodetic}
-use Rattle.line.proofs.Lengths.{length-grid}
+use Rattle.line.proofs.Lengths.{length-projected}
 use Rattle.line.proofs.Readers.{origin-outcome, geodetic-outcome}
 use Rattle.listing.proofs.Fold.{by-letter}
-use Rattle.listing.proofs.Room.{Roomy, refusal-fits}
+use Rattle.listing.specs.Fold.{roomFor}
+use Rattle.listing.proofs.Room.{Roomy, refusal-fits, printed-fits}
 use Rattle.plan_rules.specs.declared.Reply.{Reply}
 use Rattle.plan_rules.specs.declared.Reply.the-variants as reply
-use Rattle.plan_rules.specs.Plan.{Plan, rules, notFirst, noOrigin, replyText, refuse, originReply, projectedReply, laid, geodeticReply, replyOf}
+use Rattle.plan_rules.specs.Plan.{Plan, fresh, rules, notFirst, noOrigin, replyText, refuse, originReply, projectedReply, laid, geodeticReply, replyOf, planOf}
 use Rattle.plan_rules.proofs.Laws.{next-line}
 
 -- a reply is within the room of a line of n bytes
@@ -50,8 +52,8 @@ module _ (p : Plan) (l : List ℕ) (full : 0 < length l) (few : p .line < 100000
       good : (g : Geodetic) → 8 ≤ length l → (o : Option OriginNumbers) → Fits (length l) (laid p o g)
       good g h none = refused refusal.earlier (omega arith)
       good g h (some o) =
-          projection.outcome o (g .latitude) (g .longitude) (λ (r : GridMillimetres). Fits (length l) (projectedReply p (g .id) r))
-          (λ e n i j. omega (arith, length-grid (g .id) e n (omega arith) (omega arith))) refused
+          projection.outcome o (g .latitude) (g .longitude) (λ (r : ProjectedMillimetres). Fits (length l) (projectedReply p (g .id) r))
+          (λ e n i j. omega (arith, length-projected (g .id) e n (omega arith) (omega arith))) refused
 
   short : Fits (length l) (replyOf p l)
   unfolding replyOf
@@ -59,3 +61,7 @@ module _ (p : Plan) (l : List ℕ) (full : 0 < length l) (few : p .line < 100000
 
 pub roomy : Roomy rules (λ (p : Plan). p .line)
 roomy = record { counts = next-line; short = short }
+
+pub plan-fits : (input : List ℕ) → length (planOf input) ≤ roomFor (length input)
+unfolding planOf
+plan-fits input = printed-fits roomy fresh refl input

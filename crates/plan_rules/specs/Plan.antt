@@ -8,8 +8,8 @@ use Rattle.refusal.specs.Numbers as refusal
 use Rattle.refusal.specs.Order.{pick}
 use Rattle.chain.specs.declared.Id.{Id}
 use Rattle.angle.specs.declared.OriginNumbers.{OriginNumbers}
-use Rattle.angle.specs.declared.GridMillimetres.{GridMillimetres}
-use Rattle.angle.specs.declared.GridMillimetres.the-variants as grid
+use Rattle.angle.specs.declared.ProjectedMillimetres.{ProjectedMillimetres}
+use Rattle.angle.specs.declared.ProjectedMillimetres.the-variants as projected
 use Rattle.angle.specs.Cassini.{cassiniMillimetresOf}
 use Rattle.line.specs.declared.Geodetic.{Geodetic}
 use Rattle.line.specs.declared.OriginLine.{OriginLine}
@@ -18,7 +18,7 @@ use Rattle.line.specs.declared.GeodeticLine.{GeodeticLine}
 use Rattle.line.specs.declared.GeodeticLine.the-variants as geodetic-line
 use Rattle.line.specs.Bytes.{letterO, letterG}
 use Rattle.line.specs.Readers.{readOrigin, readGeodetic}
-use Rattle.line.specs.Text.{gridText, refusalText}
+use Rattle.line.specs.Text.{projectedText, refusalText}
 use Rattle.listing.specs.Fold.{Rules, printed, byLetter}
 use Rattle.plan_rules.specs.declared.Reply.{Reply}
 use Rattle.plan_rules.specs.declared.Reply.the-variants as reply
@@ -38,7 +38,7 @@ notFirst p = not (eqb (p .line) 1)
 -- ---- the reply to a line, and how it prints
 abbrev pub replyText : Reply → List ℕ
 replyText reply.Nothing = []
-replyText (reply.Projected id e n) = gridText id e n
+replyText (reply.Projected id e n) = projectedText id e n
 replyText (reply.Refused line number) = refusalText line number
 
 abbrev pub refuse : Plan → ℕ → Reply
@@ -64,9 +64,9 @@ abbrev pub noOrigin : Option OriginNumbers → Bool
 noOrigin none = true
 noOrigin (some o) = false
 
-abbrev pub projectedReply : Plan → Id → GridMillimetres → Reply
-projectedReply p id (grid.Millimetres e n) = reply.Projected id e n
-projectedReply p id (grid.Refused number) = refuse p number
+abbrev pub projectedReply : Plan → Id → ProjectedMillimetres → Reply
+projectedReply p id (projected.Millimetres e n) = reply.Projected id e n
+projectedReply p id (projected.Refused number) = refuse p number
 
 abbrev pub laid : Plan → Option OriginNumbers → Geodetic → Reply
 laid p none g = refuse p refusal.earlier

@@ -12,10 +12,10 @@ use crate::Decided;
 use crate::PlanOrigin;
 use crate::Reply;
 use crate::State;
-use angle::GridMillimetres;
 use angle::Origin;
 use angle::OriginAnswer;
 use angle::OriginNumbers;
+use angle::ProjectedMillimetres;
 use line::Geodetic;
 use line::GeodeticLine;
 use line::OriginLine;
@@ -94,8 +94,8 @@ fn lay(state: State, origin: Origin, g: Geodetic) -> Decided
     ensures { λ r. ⌜ ((p : Plan) → Holds state p → state .origin ≡ PlanOrigin.Made origin → Gave (geodeticReply p (geodetic-line.Geodetic g)) (withOrigin p (p .origin)) r) ⌝ }
 {
     match angle::cassini_millimetres_from(origin, g.latitude, g.longitude) {
-        GridMillimetres::Refused(number) => refuse(state, number),
-        GridMillimetres::Millimetres(easting, northing) => {
+        ProjectedMillimetres::Refused(number) => refuse(state, number),
+        ProjectedMillimetres::Millimetres(easting, northing) => {
             let id = g.id;
             let next = after(state);
             Decided {

@@ -1,5 +1,5 @@
 -- The room that a sheet asks for holds all that it prints. Assumes nothing.
-use mathlib.Core.Path.{_≡_}
+use mathlib.Core.Path.{_≡_, refl}
 use mathlib.Core.Bool.{Bool, true, false}
 use mathlib.Core.List.{List}
 use Prim.Native.Nat.{ℕ, zero, suc, _*_, _<_, _≤_}
@@ -23,10 +23,11 @@ use Rattle.line.specs.Readers.{readPoint, readStep}
 use Rattle.line.proofs.Lengths.{length-point}
 use Rattle.line.proofs.Readers.{point-outcome, step-outcome}
 use Rattle.listing.proofs.Fold.{by-letter}
-use Rattle.listing.proofs.Room.{Roomy, refusal-fits}
+use Rattle.listing.specs.Fold.{roomFor}
+use Rattle.listing.proofs.Room.{Roomy, refusal-fits, printed-fits}
 use Rattle.sheet_rules.specs.declared.Reply.{Reply}
 use Rattle.sheet_rules.specs.declared.Reply.the-variants as reply
-use Rattle.sheet_rules.specs.Sheet.{Sheet, rules, replyText, refuse, stepTests, stepReply, conversionReply, pointReply, replyOf}
+use Rattle.sheet_rules.specs.Sheet.{Sheet, fresh, rules, replyText, refuse, stepTests, stepReply, conversionReply, pointReply, replyOf, sheetOf}
 use Rattle.sheet_rules.proofs.Laws.{next-line}
 
 -- a reply is within the room of a line of n bytes
@@ -62,3 +63,7 @@ module _ (s : Sheet) (l : List ℕ) (some : 0 < length l) (few : s .line < 10000
 
 pub roomy : Roomy rules (λ (s : Sheet). s .line)
 roomy = record { counts = next-line; short = short }
+
+pub sheet-fits : (input : List ℕ) → length (sheetOf input) ≤ roomFor (length input)
+unfolding sheetOf
+sheet-fits input = printed-fits roomy fresh refl input

@@ -13,7 +13,7 @@ use crate::Position;
 use crate::Realization;
 use crate::Step;
 use crate::checks;
-use crate::ranges;
+use crate::points;
 use crate::steps;
 
 fn forward_step(step: Step, p: Position) -> Position
@@ -54,7 +54,7 @@ fn forward_walk(chain: Chain, point: Point, reached: Realization) -> Answer
     while i < n {
         let step = chain.steps[i];
         p = forward_step(step, p);
-        if !ranges::in_area(p) {
+        if !points::in_area(p) {
             return Answer::Refused(refusal::LEFT);
         }
         i += 1;
@@ -73,7 +73,7 @@ fn inverse_walk(chain: Chain, point: Point, reached: Realization) -> Answer
         i -= 1;
         let step = chain.steps[i];
         p = inverse_step(step, p);
-        if !ranges::in_area(p) {
+        if !points::in_area(p) {
             return Answer::Refused(refusal::LEFT);
         }
     }
@@ -105,6 +105,9 @@ fn end_of(chain: Chain, r: Realization) -> Realization
     s.after
 }
 
+// Units: coordinates 0.00001 m; epochs 0.001 year, 0 for none; rotations 0.00001"; scale 10^-11. Ranges: those of ranges.rt, all ends allowed; every
+// position, before the chain and after each step, lies in the area. Refusals, the first that applies: NINTH; of each step in turn RANGE, EPOCH, KIND, JOIN; of
+// the point RANGE, EPOCH, START, AREA; then LEFT. The empty chain refuses no point with START.
 // A point forward by a chain (document 01: along): to the chain's end, or refused.
 pub fn forward(chain: Chain, point: Point) -> Answer
     ensures { λ r. ⌜ r ≡ forwardOf chain point ⌝ }
@@ -121,7 +124,10 @@ pub fn forward(chain: Chain, point: Point) -> Answer
     forward_walk(chain, point, end_of(chain, r))
 }
 
-// A point inverse by a chain (document 01: back): to the chain's start, or refused.
+// Units: coordinates 0.00001 m; epochs 0.001 year, 0 for none; rotations 0.00001"; scale 10^-11. Ranges: those of ranges.rt, all ends allowed; every
+// position, before the chain and after each step, lies in the area. Refusals, the first that applies: NINTH; of each step in turn RANGE, EPOCH, KIND, JOIN; of
+// the point RANGE, EPOCH, START, AREA; then LEFT. The empty chain refuses no point with START.
+// A point inverse by a chain (document 01: back): to the chain's start, or refused. START is then for a point that is not at the chain's end.
 pub fn inverse(chain: Chain, point: Point) -> Answer
     ensures { λ r. ⌜ r ≡ inverseOf chain point ⌝ }
 {

@@ -24,7 +24,13 @@ fn write_reply(out: &mut [u8], at: usize, reply: Reply) -> usize
 {
     match reply {
         Reply::Nothing => at,
-        Reply::Projected(id, easting, northing) => line::write_grid(out, at, id, easting, northing),
+        Reply::Projected(id, easting, northing) => line::write_projected(
+            out,
+            at,
+            id,
+            easting,
+            northing,
+        ),
         Reply::Refused(line, number) => line::write_refusal(out, at, line, number),
     }
 }

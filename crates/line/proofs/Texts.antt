@@ -281,8 +281,8 @@ projected-is id e n = simp tabbed
 
 pub point-is : (p : Point)
     → (80 ∷ 9 ∷ [])
-    ++ ((nameText (p .id) ++ (9 ∷ []))
-    ++ ((integer (p .issue) ++ (9 ∷ []))
+    ++ ((nameText (p .label .id) ++ (9 ∷ []))
+    ++ ((integer (p .label .issue) ++ (9 ∷ []))
     ++ ((integer (p .realization .datum) ++ (9 ∷ []))
     ++ ((integer (p .realization .epoch) ++ (9 ∷ []))
     ++ ((integer (p .position .x) ++ (9 ∷ []))

@@ -27,15 +27,15 @@ sameName a b = pick (eqb (a .high) (b .high)) (eqb (a .low) (b .low)) false
 
 -- neither issue is the later one
 abbrev pub sameIssue : Point → Point → Bool
-sameIssue p q = pick (ltZ (p .issue) (q .issue)) false (not (ltZ (q .issue) (p .issue)))
+sameIssue p q = pick (ltZ (p .label .issue) (q .label .issue)) false (not (ltZ (q .label .issue) (p .label .issue)))
 
 -- two points that were read; `equal` says whether their lines are byte-equal
 abbrev pub weighTests : Point → Point → Bool → List Test
-weighTests p q equal = (not (sameName (p .id) (q .id)) gives refusal.ids) ∷ ((sameIssue p q && not equal) gives refusal.same) ∷ []
+weighTests p q equal = (not (sameName (p .label .id) (q .label .id)) gives refusal.ids) ∷ ((sameIssue p q && not equal) gives refusal.same) ∷ []
 
 -- 16, 17, and then the greater issue
 abbrev pub weighed : Point → Point → Bool → Verdict
-weighed p q equal = unless (first (weighTests p q equal)) Refused (pick (ltZ (p .issue) (q .issue)) Second First)
+weighed p q equal = unless (first (weighTests p q equal)) Refused (pick (ltZ (p .label .issue) (q .label .issue)) Second First)
 
 -- 1, 2, 3 of the first line, then of the second
 abbrev pub compared : PointLine → PointLine → Bool → Verdict

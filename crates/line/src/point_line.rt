@@ -32,8 +32,10 @@ fn point_fields(s: &[u8]) -> PointFields
     let z = number(s, y.next);
     PointFields {
         point: chain::Point {
-            id,
-            issue: issue.value,
+            label: chain::Label {
+                id,
+                issue: issue.value,
+            },
             realization: chain::Realization {
                 datum: datum.value,
                 epoch: epoch.value,

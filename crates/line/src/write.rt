@@ -151,8 +151,8 @@ pub fn write_point(out: &mut [u8], at: usize, p: chain::Point) -> usize
     ensures { λ r. ⌜ Wrote (now (out .entry)) at (pointText p) (now (out .exit)) r ⌝ }
 {
     let a = letter(out, at, b'P');
-    let b = name(out, a, p.id);
-    let c = whole(out, b, p.issue, TAB);
+    let b = name(out, a, p.label.id);
+    let c = whole(out, b, p.label.issue, TAB);
     let d = whole(out, c, p.realization.datum, TAB);
     let e = whole(out, d, p.realization.epoch, TAB);
     let f = whole(out, e, p.position.x, TAB);

@@ -16,11 +16,11 @@ unfolding away floor rest goesUp rounded stepRound within realizationRange agree
 worked-cases = refl
 
 pub more-cases : MoreCases
-unfolding halfUp roundDiv within realizationRange agrees sameRealization givenPosition inArea pointRange kindRange stepRange kindRule rowIndex rowOf linear part gain shiftParts velocityParts radians bursaWolfParts atEpoch frameParts kindParts plus minus forwardBy again inverseBy walk startOf endOf answerOf convert forwardOf inverseOf
+unfolding away floor rest goesUp rounded stepRound within realizationRange agrees sameRealization givenPosition inArea pointRange kindRange stepRange kindRule rowIndex rowOf linear part gain shiftParts velocityParts rotation11 bursaWolfParts atEpoch frameParts kindParts plus minus forwardBy again inverseBy walk startOf endOf answerOf convert forwardOf inverseOf
 more-cases = record { conversions = refl; area = refl }
 
 pub order-cases : OrderCases
-unfolding halfUp roundDiv within realizationRange agrees sameRealization givenPosition inArea pointRange kindRange stepRange kindRule rowIndex rowOf linear part gain shiftParts velocityParts radians bursaWolfParts atEpoch frameParts kindParts plus minus forwardBy again inverseBy walk startOf endOf answerOf convert forwardOf inverseOf
+unfolding away floor rest goesUp rounded stepRound within realizationRange agrees sameRealization givenPosition inArea pointRange kindRange stepRange kindRule rowIndex rowOf linear part gain shiftParts velocityParts rotation11 bursaWolfParts atEpoch frameParts kindParts plus minus forwardBy again inverseBy walk startOf endOf answerOf convert forwardOf inverseOf
 order-cases = refl
 
 pub range-cases : RangeCases

@@ -14,7 +14,7 @@ use Rattle.chain.specs.declared.Point.{Point}
 use Rattle.chain.specs.Faults.{pointFault}
 use Rattle.line.specs.declared.PointLine.the-variants as P
 use Rattle.line.specs.Forms.{pointForm}
-use Rattle.line.specs.Lines.{readPoint}
+use Rattle.line.specs.Readers.{readPoint}
 use Rattle.line.proofs.Lengths.{length-point}
 use Rattle.line.proofs.Walk as W
 use Rattle.line.proofs.Clean.{Clean, fields-clean, fields-tab, clean-number, clean-named}

@@ -14,7 +14,7 @@ use Rattle.refusal.proofs.Orders as orders
 use Rattle.ranges.specs.Ranges.{upTo, datumRange, epochRange, issueRange, givenRange, shiftRange, velocityRange, rotationRange, scaleRange, ellipsoidRange, offsetRange, latitudeRange, longitudeRange}
 use Rattle.chain.specs.Faults.{realizationRange, agrees, givenPosition, pointRange, pointFault, kindRange, kindRule, stepRange, stepFault}
 use Rattle.angle.specs.Ranges.{angleTests, originTests, anglesFault, originFault}
-use Rattle.line.specs.Lines.{geodeticFault}
+use Rattle.line.specs.Readers.{geodeticFault}
 use Rattle.line.specs.Reading.{cap, cappedZ, cappedRealization, cappedPosition, cappedPoint, cappedKind, cappedStep, cappedOrigin, cappedGeodetic}
 use Rattle.line.proofs.Answers.{Careful}
 use Rattle.line.proofs.Capped.{Sure, sure-within, sure-either, both, halves, careful-first}

@@ -14,7 +14,7 @@ use Rattle.line.specs.declared.PointLine.{PointLine}
 use Rattle.line.specs.declared.PointLine.the-variants as P
 use Rattle.line.specs.declared.Verdict.{Verdict}
 use Rattle.line.specs.declared.Verdict.the-variants.{First, Second, Refused}
-use Rattle.line.specs.Lines.{readPoint}
+use Rattle.line.specs.Readers.{readPoint}
 
 unfoldable pub sameBytes : List ℕ → List ℕ → Bool
 sameBytes [] [] = true
@@ -39,8 +39,10 @@ weighed p q equal = unless (first (weighTests p q equal)) Refused (pick (ltZ (p 
 
 -- 1, 2, 3 of the first line, then of the second
 abbrev pub compared : PointLine → PointLine → Bool → Verdict
-compared (P.Refused f) b equal = Refused (f .number)
-compared (P.Point p) (P.Refused f) equal = Refused (f .number)
+compared (P.Malformed f) b equal = Refused (f .number)
+compared (P.Refused n) b equal = Refused n
+compared (P.Point p) (P.Malformed f) equal = Refused (f .number)
+compared (P.Point p) (P.Refused n) equal = Refused n
 compared (P.Point p) (P.Point q) equal = weighed p q equal
 
 unfoldable pub laterOf : List ℕ → List ℕ → Verdict

@@ -56,9 +56,11 @@ fn by_issue(a: PointLine, b: PointLine, equal: bool) -> Verdict
     ensures { λ r. ⌜ r ≡ compared a b equal ⌝ }
 {
     match a {
-        PointLine::Refused(f) => Verdict::Refused(f.number),
+        PointLine::Malformed(f) => Verdict::Refused(f.number),
+        PointLine::Refused(n) => Verdict::Refused(n),
         PointLine::Point(p) => match b {
-            PointLine::Refused(f) => Verdict::Refused(f.number),
+            PointLine::Malformed(f) => Verdict::Refused(f.number),
+            PointLine::Refused(n) => Verdict::Refused(n),
             PointLine::Point(q) => weigh(p, q, equal),
         },
     }

@@ -317,6 +317,11 @@ pub extend-refuses : (l : List ℤ) (ss : List Step) (s : Step) → Holds l ss �
 unfolding extendFault
 extend-refuses l ss s h = rw (h .count, joined ss l s (h .ends), eight-steps (length ss))
 
+-- of a step with no fault of its own
+pub extend-joins : (l : List ℤ) (ss : List Step) (s : Step) → Holds l ss → stepFault s ≡ 0 → extendFault l s ≡ first (moreTests ss s)
+unfolding stepFault
+extend-joins l ss s h f = extend-refuses l ss s h ∙ first-append (stepTests s) (moreTests ss s) tt ∙ ap (λ (n : ℕ). orElse n (first (moreTests ss s))) f
+
 start-more : (ss : List Step) (start : Realization) (t : Step) → start ≡ startOf start ss → startWith (pos (length ss)) start t ≡ startOf (startWith (pos (length ss)) start t) (ss ++ (t ∷ []))
 unfolding startOf
 start-more [] start t e = rw no-steps
@@ -383,6 +388,9 @@ module _ (l : List ℤ) (ss : List Step) (s : Step) (holds : Holds l ss) (passed
   pub extended-holds : Holds (extendedBy l s) (ss ++ (s ∷ []))
   unfolding extendedBy
   extended-holds = rw (eq-eqb (extendFault l s) 0 (extend-refuses l ss s holds ∙ passed), kept-is) held
+
+pub extend-holds : (l : List ℤ) (ss : List Step) (s : Step) → Holds l ss → extendFault l s ≡ 0 → Holds (extendedBy l s) (ss ++ (s ∷ []))
+extend-holds l ss s h e = extended-holds l ss s h (sym (extend-refuses l ss s h) ∙ e)
 
 -- what a step that extends a chain keeps
 pub extend-passed : (l : List ℤ) (s : Step) → extendFault l s ≡ 0 → (stepFault s ≡ 0) × (within (pos 0) (lengthIn l) (pos 7) ≡ true)

@@ -3,9 +3,10 @@
 use mathlib.Core.Path.{_≡_, refl, ap, ap₂, _∙_}
 use mathlib.Core.Logic.{_⊎_, inl, inr}
 use mathlib.Core.List.{List, [], _∷_}
-use mathlib.Core.Bool.{Bool, true, false}
+use mathlib.Core.Bool.{Bool, true, false, not}
 use Prim.Native.Nat.{suc, _≤_, _<_, zero-le}
 use native.Mathlib.Nat.{zero-lt-suc}
+use borrow.Author.Tests.{not-false}
 use lib.Dec.{T, lit<, lit≤}
 use lib.IntN.{ℤ, pos, negsuc, +ℤ-invr}
 use lib.Ieee.{Float, binary64, unlike, round, add, mul, sub, div, ofInt, fits}
@@ -18,18 +19,20 @@ use Rattle.bounds.proofs.Formula.{var, over, All, none, also, value, tested, pr
 use Rattle.bounds.proofs.Zero.{wholes, whole-among, nought, Upto, sub-self, add-zero-is}
 use Rattle.elementary.specs.Floats.{near, #}
 use Rattle.angle.specs.Units.{k, radians, metres}
-use Rattle.angle.specs.Ranges.{outside, farApart, originTests, pointTests, cassiniTests, originFault}
+use Rattle.angle.specs.Ranges.{nearby, originTests, pointTests, cassiniTests, originFault}
 use Rattle.elementary.specs.Series.{sineOf, cosineOf}
 use Rattle.angle.specs.Ellipsoids.{ellipsoidOf, primeVertical, meridianArc}
 use Rattle.angle.specs.Cassini.{originMade, cassiniWith, cassiniAt, cassiniOf}
 use Rattle.angle.specs.declared.OriginNumbers.{OriginNumbers}
-use Rattle.angle.specs.declared.Grid.the-variants.{Metres, Refused}
+use Rattle.angle.specs.declared.Projected.the-variants.{Metres, Refused}
 use Rattle.refusal.proofs.Orders as orders
 use Rattle.refusal.proofs.Orders.{Passed, passed, both, unless-none}
 use Rattle.elementary.proofs.Formulas.{n}
 use Rattle.angle.proofs.Formulas.{eastF, northF}
 use Rattle.angle.proofs.Sizes.{from, most, Shaped, shaped, sine-latitude, cosine-latitude, radius-among, arc-among, metres-among}
-use Rattle.angle.proofs.Wholes.{natural, natural-upto, upto}
+use Rattle.ranges.specs.Ranges.{upTo}
+use Rattle.ranges.proofs.Ranges.{natural, up-to-holds}
+use Rattle.angle.proofs.Wholes.{natural-upto, upto}
 
 -- ---- what is added is a zero
 abbrev ends : List Ends
@@ -94,10 +97,10 @@ kept z x h X = add-zero-is (metres z) x (metres-fits z) (is-finite (metres-among
 -- ---- the formulas at the origin
 module _ (o : OriginNumbers) (p : Passed (originTests o)) where
   lat : Upto 2880000000 (o .latitude)
-  lat = natural-upto (natural 0 2880000000 (o .latitude) (p .1 .1 .1 .0))
+  lat = natural-upto (natural 0 (o .latitude) 2880000000 (not-false _ (p .1 .1 .1 .0)))
 
   E : Shaped (ellipsoidOf (o .ellipsoid))
-  E = shaped (o .ellipsoid) (p .0)
+  E = shaped (o .ellipsoid) (not-false _ (p .0))
 
   abbrev e : Float
   e = ellipsoidOf (o .ellipsoid) .e2
@@ -126,23 +129,22 @@ module _ (o : OriginNumbers) (p : Passed (originTests o)) where
   unfolding value cassiniWith originMade
   laid =
       ap₂ Metres
-      (kept (o .«false_easting») (value (e ∷ s ∷ c ∷ ν ∷ radians (pos 0) ∷ sub binary64 M M ∷ []) eastF) (upto 2000000000 1999999999 2000000000 (o .«false_easting») (lit≤ tt) (lit≤ tt) (p .1 .0)) (proved all eastF nought east-test))
-      (kept (o .«false_northing») (value (e ∷ s ∷ c ∷ ν ∷ radians (pos 0) ∷ sub binary64 M M ∷ []) northF) (upto 2000000000 1999999999 2000000000 (o .«false_northing») (lit≤ tt) (lit≤ tt) (p .1 .1 .0)) (proved all northF nought north-test))
+      (kept (o .«false_easting») (value (e ∷ s ∷ c ∷ ν ∷ radians (pos 0) ∷ sub binary64 M M ∷ []) eastF) (upto 2000000000 1999999999 (o .«false_easting») 2000000000 (lit≤ tt) (lit≤ tt) (not-false _ (p .1 .0))) (proved all eastF nought east-test))
+      (kept (o .«false_northing») (value (e ∷ s ∷ c ∷ ν ∷ radians (pos 0) ∷ sub binary64 M M ∷ []) northF) (upto 2000000000 1999999999 (o .«false_northing») 2000000000 (lit≤ tt) (lit≤ tt) (not-false _ (p .1 .1 .0))) (proved all northF nought north-test))
 
   at : cassiniAt (originMade o) (o .latitude) (o .longitude) ≡ Metres (metres (o .«false_easting»)) (metres (o .«false_northing»))
   unfolding cassiniAt originMade
   at = ap (λ (z : ℤ). cassiniWith (originMade o) s c ν M (radians z)) (+ℤ-invr (o .longitude)) ∙ laid
 
 -- a longitude is not far from itself
-near-itself : (z : ℤ) → farApart z z ≡ false
-unfolding outside
-near-itself z = ap (λ (d : ℤ). outside (negsuc 1439999999) (pos 1440000000) d) (+ℤ-invr z)
+near-itself : (z : ℤ) → nearby z z ≡ true
+near-itself z = ap (upTo 1440000000) (+ℤ-invr z) ∙ up-to-holds 1440000000 (pos 0) (lit≤ tt)
 
 -- ---- the theorem
 pub at-origin : (o : OriginNumbers) → originFault o ≡ 0 → cassiniOf o (o .latitude) (o .longitude) ≡ Metres (metres (o .«false_easting»)) (metres (o .«false_northing»))
 unfolding originFault cassiniOf
 at-origin o h =
     let p : Passed (originTests o) = passed (originTests o) tt h in
-    let q : Passed (pointTests (o .longitude) (o .latitude) (o .longitude)) = (p .1 .1 .1 .0, (p .1 .1 .1 .1 .0, (near-itself (o .longitude), tt))) in
+    let q : Passed (pointTests (o .longitude) (o .latitude) (o .longitude)) = (p .1 .1 .1 .0, (p .1 .1 .1 .1 .0, (ap not (near-itself (o .longitude)), tt))) in
     unless-none _ Refused (cassiniAt (originMade o) (o .latitude) (o .longitude)) (orders.none (cassiniTests o (o .latitude) (o .longitude)) (both (originTests o) (pointTests (o .longitude) (o .latitude) (o .longitude)) p q))
     ∙ at o p

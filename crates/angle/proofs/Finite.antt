@@ -6,7 +6,7 @@ use mathlib.Core.Bool.{false}
 use Prim.Native.Nat.{ℕ, zero, suc, _+_, _-_, _*_, _≤_, _<_}
 use native.Mathlib.Nat.{mul-le-mul-right}
 use native.Mathlib.Omega.{arith}
-use borrow.Author.Tests.{lt-leb}
+use borrow.Author.Tests.{lt-leb, not-false}
 use lib.Dec.{T, lit≤, lit<}
 use lib.IntN.{ℤ, pos, _-ℤ_}
 use lib.Ieee.{Float, nan, inf, fin, binary64, round, neg, sub, div, up, down}
@@ -32,14 +32,15 @@ use Rattle.angle.specs.declared.OriginNumbers.{OriginNumbers}
 use Rattle.angle.specs.declared.Cartesian.{Cartesian}
 use Rattle.angle.specs.declared.Cartesian.the-variants as cartesian
 use Rattle.angle.specs.declared.CartesianUnits.the-variants.{Units}
-use Rattle.angle.specs.declared.Grid.{Grid}
-use Rattle.angle.specs.declared.Grid.the-variants as grid
-use Rattle.angle.specs.declared.GridMillimetres.the-variants.{Millimetres}
+use Rattle.angle.specs.declared.Projected.{Projected}
+use Rattle.angle.specs.declared.Projected.the-variants as projected
+use Rattle.angle.specs.declared.ProjectedMillimetres.the-variants.{Millimetres}
 use Rattle.refusal.proofs.Orders.{Passed, passed}
 use Rattle.elementary.proofs.Formulas.{sineF, cosineF, sine-among, cosine-among}
 use Rattle.angle.proofs.Formulas.{eastF, northF, axisF, polarF}
 use Rattle.angle.proofs.Sizes.{from, most, Shaped, shaped, radians-among, parts-among, sine-latitude, cosine-latitude, radius-among, arc-among, metres-among}
-use Rattle.angle.proofs.Wholes.{natural, natural-upto, upto, sub-pos}
+use Rattle.ranges.proofs.Ranges.{natural}
+use Rattle.angle.proofs.Wholes.{natural-upto, upto, sub-pos}
 
 -- what is not refused passed every test
 given : {A : Type 0} (f : ℕ) (r : ℕ → A) (a : A) (P : A → Type 0) → ((i : ℕ) → P (r i)) → (f ≡ 0 → P a) → P (unless f r a)
@@ -97,24 +98,24 @@ module _ (code lat lon h : ℤ) (p : Passed (cartesianTests code lat lon h)) whe
   e = ellipsoidOf code
 
   E : Shaped e
-  E = shaped code (p .0)
+  E = shaped code (not-false _ (p .0))
 
   latitude : Upto 2880000000 lat
-  latitude = natural-upto (natural 0 2880000000 lat (p .1 .0))
+  latitude = natural-upto (natural 0 lat 2880000000 (not-false _ (p .1 .0)))
 
   abbrev w : Float
   w = radians (lon -ℤ pos 32400000000)
 
   past : Among w (most 53 100)
   past =
-      let l = natural 35640000000 43200000000 lon (p .1 .1 .0) in
+      let l = natural 35640000000 lon 43200000000 (not-false _ (p .1 .1 .0)) in
       let a = l .low in
       let b = l .high in
       let d : lon -ℤ pos 32400000000 ≡ pos (l .n - 32400000000) = ap (λ (z : ℤ). z -ℤ pos 32400000000) (l .is) ∙ sub-pos (l .n) 32400000000 (omega arith) in
       radians-among 10800000000 (most 53 100) (lon -ℤ pos 32400000000) past-finite past-test (subst (λ (z : ℤ). Upto 10800000000 z) (sym d) (omega arith))
 
   height : Among (div binary64 (whole h) (# 100000)) (most 9000 1)
-  height = parts-among 900000000 100000 (most 9000 1) h height-finite height-test (upto 900000000 49999999 900000000 h (lit≤ tt) (lit≤ tt) (p .1 .1 .1 .0))
+  height = parts-among 900000000 100000 (most 9000 1) h height-finite height-test (upto 900000000 49999999 h 900000000 (lit≤ tt) (lit≤ tt) (not-false _ (p .1 .1 .1 .0)))
 
   all : All (e .e2 ∷ primeVertical e (sineOf (radians lat)) ∷ div binary64 (whole h) (# 100000) ∷ sineOf (radians lat) ∷ cosineOf (radians lat) ∷ neg (sineOf w) ∷ cosineOf w ∷ []) space
   all =
@@ -136,9 +137,9 @@ cartesian-bounded code lat lon h =
     (λ (z : first (cartesianTests code lat lon h) ≡ 0). position-bounded code lat lon h (passed (cartesianTests code lat lon h) tt z))
 
 -- ---- Cassini: |E| at most 2,500,000 m, |N| at most 3,900,000 m
-abbrev pub GridBounded : Grid → Type 0
-GridBounded (grid.Metres x y) = Among x (most 2500000 1) × Among y (most 3900000 1)
-GridBounded (grid.Refused i) = Unit {0}
+abbrev pub ProjectedBounded : Projected → Type 0
+ProjectedBounded (projected.Metres x y) = Among x (most 2500000 1) × Among y (most 3900000 1)
+ProjectedBounded (projected.Refused i) = Unit {0}
 
 difference-finite : T (finite (round binary64 false 1440000000 1))
 unfolding round
@@ -169,17 +170,17 @@ module _ (o : OriginNumbers) (lat lon : ℤ) (p : Passed (originTests o)) (q : P
   g = ellipsoidOf (o .ellipsoid)
 
   G : Shaped g
-  G = shaped (o .ellipsoid) (p .0)
+  G = shaped (o .ellipsoid) (not-false _ (p .0))
 
   abbrev φ : Float
   φ = radians lat
 
   latitude′ : Upto 2880000000 lat
-  latitude′ = natural-upto (natural 0 2880000000 lat (q .0))
+  latitude′ = natural-upto (natural 0 lat 2880000000 (not-false _ (q .0)))
 
   difference : Among (radians (lon -ℤ o .longitude)) (most 7 100)
   difference =
-      radians-among 1440000000 (most 7 100) (lon -ℤ o .longitude) difference-finite difference-test (upto 1440000000 1439999999 1440000000 (lon -ℤ o .longitude) (lit≤ tt) (lit≤ tt) (q .1 .1 .0))
+      radians-among 1440000000 (most 7 100) (lon -ℤ o .longitude) difference-finite difference-test (upto 1440000000 1439999999 (lon -ℤ o .longitude) 1440000000 (lit≤ tt) (lit≤ tt) (not-false _ (q .1 .1 .0)))
 
   abbrev arcs : Float
   arcs = sub binary64 (meridianArc g φ) (meridianArc g (radians (o .latitude)))
@@ -187,7 +188,7 @@ module _ (o : OriginNumbers) (lat lon : ℤ) (p : Passed (originTests o)) (q : P
   arcs-among : Among arcs (most 1820000 1)
   unfolding value
   arcs-among =
-      proved (also (arc-among g lat G latitude′) (also (arc-among g (o .latitude) G (natural-upto (natural 0 2880000000 (o .latitude) (p .1 .1 .1 .0)))) none)) (minus (var 0) (var 1)) (most 1820000 1) arcs-test
+      proved (also (arc-among g lat G latitude′) (also (arc-among g (o .latitude) G (natural-upto (natural 0 (o .latitude) 2880000000 (not-false _ (p .1 .1 .1 .0))))) none)) (minus (var 0) (var 1)) (most 1820000 1) arcs-test
 
   -- with a false easting or northing
   laid : (z : ℤ) → Upto 2000000000 z → All (g .e2 ∷ sineOf φ ∷ cosineOf φ ∷ primeVertical g (sineOf φ) ∷ radians (lon -ℤ o .longitude) ∷ arcs ∷ metres z ∷ []) plane
@@ -197,17 +198,17 @@ module _ (o : OriginNumbers) (lat lon : ℤ) (p : Passed (originTests o)) (q : P
       (also (cosine-latitude g lat G latitude′)
       (also (radius-among g lat G latitude′) (also difference (also arcs-among (also (metres-among z h) none))))))
 
-  place-bounded : GridBounded (cassiniAt (originMade o) lat lon)
+  place-bounded : ProjectedBounded (cassiniAt (originMade o) lat lon)
   unfolding value cassiniAt cassiniWith originMade
   place-bounded = (
-    proved (laid (o .«false_easting») (upto 2000000000 1999999999 2000000000 (o .«false_easting») (lit≤ tt) (lit≤ tt) (p .1 .0))) (plus (var 6) eastF) (most 2500000 1) east-test,
-    proved (laid (o .«false_northing») (upto 2000000000 1999999999 2000000000 (o .«false_northing») (lit≤ tt) (lit≤ tt) (p .1 .1 .0))) (plus (var 6) northF) (most 3900000 1) north-test,
+    proved (laid (o .«false_easting») (upto 2000000000 1999999999 (o .«false_easting») 2000000000 (lit≤ tt) (lit≤ tt) (not-false _ (p .1 .0)))) (plus (var 6) eastF) (most 2500000 1) east-test,
+    proved (laid (o .«false_northing») (upto 2000000000 1999999999 (o .«false_northing») 2000000000 (lit≤ tt) (lit≤ tt) (not-false _ (p .1 .1 .0)))) (plus (var 6) northF) (most 3900000 1) north-test,
   )
 
-pub grid-bounded : (o : OriginNumbers) (lat lon : ℤ) → GridBounded (cassiniOf o lat lon)
+pub projected-bounded : (o : OriginNumbers) (lat lon : ℤ) → ProjectedBounded (cassiniOf o lat lon)
 unfolding cassiniOf
-grid-bounded o lat lon =
-    given (first (cassiniTests o lat lon)) grid.Refused (cassiniAt (originMade o) lat lon) GridBounded (λ i. tt)
+projected-bounded o lat lon =
+    given (first (cassiniTests o lat lon)) projected.Refused (cassiniAt (originMade o) lat lon) ProjectedBounded (λ i. tt)
     (λ (z : first (cassiniTests o lat lon) ≡ 0).
     let p : Passed (cassiniTests o lat lon) = passed (cassiniTests o lat lon) tt z in
     place-bounded o lat lon (p .0, (p .1 .0, (p .1 .1 .0, (p .1 .1 .1 .0, (p .1 .1 .1 .1 .0, tt))))) (p .1 .1 .1 .1 .1))
@@ -263,8 +264,8 @@ units-answered code lat lon h x y z e =
     ∙ rw (whole-answer x 5 bound-x (lit≤ tt) (b .0), whole-answer y 5 bound-y (lit≤ tt) (b .1), whole-answer z 5 bound-z (lit≤ tt) (b .2))
 
 pub millimetres-answered : (o : OriginNumbers) (lat lon : ℤ) (x y : Float)
-    → cassiniOf o lat lon ≡ grid.Metres x y → cassiniMillimetresOf o lat lon ≡ Millimetres (wholeOf x 3) (wholeOf y 3)
+    → cassiniOf o lat lon ≡ projected.Metres x y → cassiniMillimetresOf o lat lon ≡ Millimetres (wholeOf x 3) (wholeOf y 3)
 unfolding cassiniMillimetresOf inMillimetres
 millimetres-answered o lat lon x y e =
-    let b : GridBounded (grid.Metres x y) = subst GridBounded e (grid-bounded o lat lon) in
+    let b : ProjectedBounded (projected.Metres x y) = subst ProjectedBounded e (projected-bounded o lat lon) in
     ap inMillimetres e ∙ rw (whole-answer x 3 bound-e (lit≤ tt) (b .0), whole-answer y 3 bound-n (lit≤ tt) (b .1))

@@ -1,7 +1,7 @@
 -- How large each quantity can be, for numbers in their ranges: every bound is one computed test (`proved`, by `tt`). The intervals are of sizes, signs left aside.
 -- Assumes nothing.
 use mathlib.Core.Path.{_≡_, sym, subst}
-use mathlib.Core.Bool.{false}
+use mathlib.Core.Bool.{true, false}
 use mathlib.Core.List.{[], _∷_}
 use Prim.Native.Nat.{ℕ, zero, suc, _≤_, _<_}
 use native.Mathlib.Omega.{arith}
@@ -15,12 +15,12 @@ use Rattle.bounds.proofs.Zero.{wholes, Upto, ofInt-among}
 use Rattle.elementary.specs.Floats.{near, #, whole}
 use Rattle.angle.specs.Units.{k, radians, metres}
 use Rattle.elementary.specs.Series.{sineOf, cosineOf}
-use Rattle.angle.specs.Ranges.{badCode}
+use Rattle.ranges.specs.Ranges.{ellipsoidRange}
 use Rattle.angle.specs.Ellipsoids.{table, shape, figureOf, ellipsoidOf, primeVertical, arcWith, meridianArc}
 use Rattle.angle.specs.declared.Ellipsoid.{Ellipsoid}
 use Rattle.elementary.proofs.Formulas.{n, sineF, cosineF, sine-among, cosine-among}
 use Rattle.angle.proofs.Formulas.{primeVerticalF, meridianArcF}
-use Rattle.angle.proofs.Wholes.{Natural, natural}
+use Rattle.ranges.proofs.Ranges.{Natural, natural}
 
 -- from a / b to c / d in size
 abbrev pub from : ℕ → ℕ → ℕ → ℕ → Ends
@@ -54,8 +54,8 @@ flat-test (suc (suc zero)) h = tt
 flat-test (suc (suc (suc zero))) h = tt
 flat-test (suc (suc (suc (suc i)))) h = absurd (past i h)
 
-pub shaped : (code : ℤ) → badCode code ≡ false → Shaped (ellipsoidOf code)
-shaped code h = go (natural 1 4 code h)
+pub shaped : (code : ℤ) → ellipsoidRange code ≡ true → Shaped (ellipsoidOf code)
+shaped code h = go (natural 1 code 4 h)
   where
     row : (i : ℕ) → 1 ≤ i → i ≤ 4 → Shaped (ellipsoidOf (pos i))
     row zero l k = absurd (never l)
@@ -68,7 +68,7 @@ shaped code h = go (natural 1 4 code h)
           flat = closed (ellipsoidOf (pos (suc i)) .e2) (from 1 256 1 128) (flat-test i (omega arith));
         }
 
-    go : Natural 1 4 code → Shaped (ellipsoidOf code)
+    go : Natural 1 code 4 → Shaped (ellipsoidOf code)
     go p = subst (λ (z : ℤ). Shaped (ellipsoidOf z)) (sym (p .is)) (row (p .n) (p .low) (p .high))
 
 -- ---- whole numbers handed in

@@ -8,7 +8,7 @@ use Rattle.rounding.specs.declared.decimals.Rounded.the-variants.{Whole}
 use Rattle.rounding.specs.declared.decimals.Rounded.the-variants as rounded
 use Rattle.elementary.specs.Floats.{_⊗_, _⊘_, _⊕_, _⊖_, #, whole}
 use Rattle.angle.specs.Units.{radians}
-use Rattle.angle.specs.Ranges.{outside, cartesianTests}
+use Rattle.angle.specs.Ranges.{cartesianTests}
 use Rattle.elementary.specs.Series.{sineOf, cosineOf}
 use Rattle.angle.specs.Ellipsoids.{ellipsoidOf, primeVertical}
 use Rattle.angle.specs.declared.Ellipsoid.{Ellipsoid}
@@ -32,7 +32,7 @@ cartesianAt e latitude longitude height =
 
 -- refused: 2, 12
 unfoldable pub cartesianOf : ℤ → ℤ → ℤ → ℤ → Cartesian
-unfolding outside cartesianAt ellipsoidOf
+unfolding cartesianAt ellipsoidOf
 cartesianOf code latitude longitude height =
     unless (first (cartesianTests code latitude longitude height)) Refused (cartesianAt (ellipsoidOf code) latitude longitude height)
 

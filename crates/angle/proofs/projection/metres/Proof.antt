@@ -15,7 +15,7 @@ use Rattle.angle.proofs.projection.metres.Tie as tie
 int-to-float-result : tie.Need-int-to-float-result
 int-to-float-result c =
     let a = c .before in
-    read-back (a .args .n) (a .fits .n) (in-float 2000000000 (a .args .n) tt (upto 2000000000 1999999999 2000000000 (a .args .n) (lit≤ tt) (lit≤ tt) (a .pre)))
+    read-back (a .args .n) (a .fits .n) (in-float 2000000000 (a .args .n) tt (upto 2000000000 1999999999 (a .args .n) 2000000000 (lit≤ tt) (lit≤ tt) (a .pre)))
 
 returns : tie.Need-returns
 unfolding metres round ofBits

@@ -6,7 +6,7 @@ use mathlib.Core.Bool.{false}
 use Prim.Native.Nat.{ℕ, zero, suc, _+_, _-_, _*_, _≤_, _<_}
 use native.Mathlib.Nat.{mul-le-mul-right}
 use native.Mathlib.Omega.{arith}
-use borrow.Author.Tests.{lt-leb}
+use borrow.Author.Tests.{lt-leb, not-false}
 use lib.Dec.{T, lit≤, lit<}
 use lib.IntN.{ℤ, pos, _-ℤ_}
 use lib.Ieee.{Float, nan, inf, fin, binary64, round, neg, sub, div, up, down}
@@ -17,12 +17,13 @@ use Rattle.refusal.specs.Order.{first, unless}
 use Rattle.rounding.specs.Decimals.{tooLarge, wholeOf, roundedOf}
 use Rattle.rounding.specs.declared.decimals.Rounded.the-variants.{Whole}
 use Rattle.rounding.proofs.Places.{few}
-use Rattle.bounds.proofs.Among.{Ends, Among, is-finite, neg-among}
-use Rattle.bounds.proofs.Formula.{var, lit, plus, minus, times, over, All, none, also, value, bounds, test, proved}
+use Rattle.bounds.proofs.Among.{Ends, Among, is-finite, neg-among, untold}
+use Rattle.bounds.proofs.Formula.{var, lit, plus, minus, times, over, All, none, also, value, tested, proved}
 use Rattle.bounds.proofs.Zero.{wholes, Upto}
-use Rattle.angle.specs.Floats.{near, #, whole, k, radians, metres}
+use Rattle.elementary.specs.Floats.{near, #, whole}
+use Rattle.angle.specs.Units.{k, radians, metres}
 use Rattle.angle.specs.Ranges.{cartesianTests, originTests, pointTests, cassiniTests}
-use Rattle.angle.specs.Series.{reciprocal, sineOf, cosineOf}
+use Rattle.elementary.specs.Series.{sineOf, cosineOf}
 use Rattle.angle.specs.Ellipsoids.{ellipsoidOf, primeVertical, meridianArc}
 use Rattle.angle.specs.Cartesian.{cartesianAt, cartesianOf, inUnits, cartesianUnitsOf}
 use Rattle.angle.specs.Cassini.{originMade, cassiniWith, cassiniAt, cassiniOf, inMillimetres, cassiniMillimetresOf}
@@ -31,13 +32,15 @@ use Rattle.angle.specs.declared.OriginNumbers.{OriginNumbers}
 use Rattle.angle.specs.declared.Cartesian.{Cartesian}
 use Rattle.angle.specs.declared.Cartesian.the-variants as cartesian
 use Rattle.angle.specs.declared.CartesianUnits.the-variants.{Units}
-use Rattle.angle.specs.declared.Grid.{Grid}
-use Rattle.angle.specs.declared.Grid.the-variants as grid
-use Rattle.angle.specs.declared.GridMillimetres.the-variants.{Millimetres}
+use Rattle.angle.specs.declared.Projected.{Projected}
+use Rattle.angle.specs.declared.Projected.the-variants as projected
+use Rattle.angle.specs.declared.ProjectedMillimetres.the-variants.{Millimetres}
 use Rattle.refusal.proofs.Orders.{Passed, passed}
-use Rattle.angle.proofs.Formulas.{sineF, cosineF, eastF, northF, axisF, polarF}
-use Rattle.angle.proofs.Sizes.{from, most, Shaped, shaped, radians-among, parts-among, sine-among, cosine-among, sine-latitude, cosine-latitude, radius-among, arc-among, metres-among}
-use Rattle.angle.proofs.Wholes.{natural, natural-upto, upto, sub-pos}
+use Rattle.elementary.proofs.Formulas.{sineF, cosineF, sine-among, cosine-among}
+use Rattle.angle.proofs.Formulas.{eastF, northF, axisF, polarF}
+use Rattle.angle.proofs.Sizes.{from, most, Shaped, shaped, radians-among, parts-among, sine-latitude, cosine-latitude, radius-among, arc-among, metres-among}
+use Rattle.ranges.proofs.Ranges.{natural}
+use Rattle.angle.proofs.Wholes.{natural-upto, upto, sub-pos}
 
 -- what is not refused passed every test
 given : {A : Type 0} (f : ℕ) (r : ℕ → A) (a : A) (P : A → Type 0) → ((i : ℕ) → P (r i)) → (f ≡ 0 → P a) → P (unless f r a)
@@ -54,40 +57,40 @@ past-finite : T (finite (round binary64 false 10800000000 1))
 unfolding round
 past-finite = tt
 
-past-test : T (test (bounds (wholes 0 10800000000 ∷ []) (times (var 0) (lit k))) (most 53 100))
-unfolding test bounds near k
+past-test : T (tested (wholes 0 10800000000 ∷ []) (times (var 0) (lit k)) (most 53 100))
+unfolding tested k
 past-test = tt
 
-sine-test : T (test (bounds (most 53 100 ∷ []) (sineF (var 0))) (most 56 100))
-unfolding test bounds near reciprocal neg div
+sine-test : T (tested (most 53 100 ∷ []) sineF (most 56 100))
+unfolding tested neg div
 sine-test = tt
 
-cosine-test : T (test (bounds (most 53 100 ∷ []) (cosineF (var 0))) (most 115 100))
-unfolding test bounds near reciprocal neg div
+cosine-test : T (tested (most 53 100 ∷ []) cosineF (most 115 100))
+unfolding tested neg div
 cosine-test = tt
 
 height-finite : T (finite (round binary64 false 900000000 1))
 unfolding round
 height-finite = tt
 
-height-test : T (test (bounds (wholes 0 900000000 ∷ []) (over (var 0) (lit (# 100000)))) (most 9000 1))
-unfolding test bounds near
+height-test : T (tested (wholes 0 900000000 ∷ []) (over (var 0) (lit (# 100000))) (most 9000 1))
+unfolding tested
 height-test = tt
 
 -- e2, the radius, the height, the latitude's sine and cosine, the longitude's cosine and sine
 abbrev space : List Ends
 space = from 1 256 1 128 ∷ most 6379000 1 ∷ most 9000 1 ∷ most 3 20 ∷ from 98 100 102 100 ∷ most 56 100 ∷ most 115 100 ∷ []
 
-x-test : T (test (bounds space (axisF (var 5))) (most 3700000 1))
-unfolding test bounds near
+x-test : T (tested space (axisF (var 5)) (most 3700000 1))
+unfolding tested
 x-test = tt
 
-y-test : T (test (bounds space (axisF (var 6))) (most 7500000 1))
-unfolding test bounds near
+y-test : T (tested space (axisF (var 6)) (most 7500000 1))
+unfolding tested
 y-test = tt
 
-z-test : T (test (bounds space polarF) (most 1000000 1))
-unfolding test bounds near
+z-test : T (tested space polarF (most 1000000 1))
+unfolding tested
 z-test = tt
 
 module _ (code lat lon h : ℤ) (p : Passed (cartesianTests code lat lon h)) where
@@ -95,24 +98,24 @@ module _ (code lat lon h : ℤ) (p : Passed (cartesianTests code lat lon h)) whe
   e = ellipsoidOf code
 
   E : Shaped e
-  E = shaped code (p .0)
+  E = shaped code (not-false _ (p .0))
 
   latitude : Upto 2880000000 lat
-  latitude = natural-upto (natural 0 2880000000 lat (p .1 .0))
+  latitude = natural-upto (natural 0 lat 2880000000 (not-false _ (p .1 .0)))
 
   abbrev w : Float
   w = radians (lon -ℤ pos 32400000000)
 
   past : Among w (most 53 100)
   past =
-      let l = natural 35640000000 43200000000 lon (p .1 .1 .0) in
+      let l = natural 35640000000 lon 43200000000 (not-false _ (p .1 .1 .0)) in
       let a = l .low in
       let b = l .high in
       let d : lon -ℤ pos 32400000000 ≡ pos (l .n - 32400000000) = ap (λ (z : ℤ). z -ℤ pos 32400000000) (l .is) ∙ sub-pos (l .n) 32400000000 (omega arith) in
       radians-among 10800000000 (most 53 100) (lon -ℤ pos 32400000000) past-finite past-test (subst (λ (z : ℤ). Upto 10800000000 z) (sym d) (omega arith))
 
   height : Among (div binary64 (whole h) (# 100000)) (most 9000 1)
-  height = parts-among 900000000 100000 (most 9000 1) h height-finite height-test (upto 900000000 49999999 900000000 h (lit≤ tt) (lit≤ tt) (p .1 .1 .1 .0))
+  height = parts-among 900000000 100000 (most 9000 1) h height-finite height-test (upto 900000000 49999999 h 900000000 (lit≤ tt) (lit≤ tt) (not-false _ (p .1 .1 .1 .0)))
 
   all : All (e .e2 ∷ primeVertical e (sineOf (radians lat)) ∷ div binary64 (whole h) (# 100000) ∷ sineOf (radians lat) ∷ cosineOf (radians lat) ∷ neg (sineOf w) ∷ cosineOf w ∷ []) space
   all =
@@ -134,32 +137,32 @@ cartesian-bounded code lat lon h =
     (λ (z : first (cartesianTests code lat lon h) ≡ 0). position-bounded code lat lon h (passed (cartesianTests code lat lon h) tt z))
 
 -- ---- Cassini: |E| at most 2,500,000 m, |N| at most 3,900,000 m
-abbrev pub GridBounded : Grid → Type 0
-GridBounded (grid.Metres x y) = Among x (most 2500000 1) × Among y (most 3900000 1)
-GridBounded (grid.Refused i) = Unit {0}
+abbrev pub ProjectedBounded : Projected → Type 0
+ProjectedBounded (projected.Metres x y) = Among x (most 2500000 1) × Among y (most 3900000 1)
+ProjectedBounded (projected.Refused i) = Unit {0}
 
 difference-finite : T (finite (round binary64 false 1440000000 1))
 unfolding round
 difference-finite = tt
 
-difference-test : T (test (bounds (wholes 0 1440000000 ∷ []) (times (var 0) (lit k))) (most 7 100))
-unfolding test bounds near k
+difference-test : T (tested (wholes 0 1440000000 ∷ []) (times (var 0) (lit k)) (most 7 100))
+unfolding tested k
 difference-test = tt
 
-arcs-test : T (test (bounds (most 910000 1 ∷ most 910000 1 ∷ []) (minus (var 0) (var 1))) (most 1820000 1))
-unfolding test bounds near
+arcs-test : T (tested (most 910000 1 ∷ most 910000 1 ∷ []) (minus (var 0) (var 1)) (most 1820000 1))
+unfolding tested
 arcs-test = tt
 
 -- e2, the latitude's sine and cosine, the radius, the difference of longitudes, that of the arcs, and the false easting or northing
 abbrev plane : List Ends
 plane = from 1 256 1 128 ∷ most 3 20 ∷ from 98 100 102 100 ∷ most 6379000 1 ∷ most 7 100 ∷ most 1820000 1 ∷ most 2000000 1 ∷ []
 
-east-test : T (test (bounds plane (plus (var 6) eastF)) (most 2500000 1))
-unfolding test bounds near
+east-test : T (tested plane (plus (var 6) eastF) (most 2500000 1))
+unfolding tested
 east-test = tt
 
-north-test : T (test (bounds plane (plus (var 6) northF)) (most 3900000 1))
-unfolding test bounds near
+north-test : T (tested plane (plus (var 6) northF) (most 3900000 1))
+unfolding tested
 north-test = tt
 
 module _ (o : OriginNumbers) (lat lon : ℤ) (p : Passed (originTests o)) (q : Passed (pointTests (o .longitude) lat lon)) where
@@ -167,17 +170,17 @@ module _ (o : OriginNumbers) (lat lon : ℤ) (p : Passed (originTests o)) (q : P
   g = ellipsoidOf (o .ellipsoid)
 
   G : Shaped g
-  G = shaped (o .ellipsoid) (p .0)
+  G = shaped (o .ellipsoid) (not-false _ (p .0))
 
   abbrev φ : Float
   φ = radians lat
 
   latitude′ : Upto 2880000000 lat
-  latitude′ = natural-upto (natural 0 2880000000 lat (q .0))
+  latitude′ = natural-upto (natural 0 lat 2880000000 (not-false _ (q .0)))
 
   difference : Among (radians (lon -ℤ o .longitude)) (most 7 100)
   difference =
-      radians-among 1440000000 (most 7 100) (lon -ℤ o .longitude) difference-finite difference-test (upto 1440000000 1439999999 1440000000 (lon -ℤ o .longitude) (lit≤ tt) (lit≤ tt) (q .1 .1 .0))
+      radians-among 1440000000 (most 7 100) (lon -ℤ o .longitude) difference-finite difference-test (upto 1440000000 1439999999 (lon -ℤ o .longitude) 1440000000 (lit≤ tt) (lit≤ tt) (not-false _ (q .1 .1 .0)))
 
   abbrev arcs : Float
   arcs = sub binary64 (meridianArc g φ) (meridianArc g (radians (o .latitude)))
@@ -185,7 +188,7 @@ module _ (o : OriginNumbers) (lat lon : ℤ) (p : Passed (originTests o)) (q : P
   arcs-among : Among arcs (most 1820000 1)
   unfolding value
   arcs-among =
-      proved (also (arc-among g lat G latitude′) (also (arc-among g (o .latitude) G (natural-upto (natural 0 2880000000 (o .latitude) (p .1 .1 .1 .0)))) none)) (minus (var 0) (var 1)) (most 1820000 1) arcs-test
+      proved (also (arc-among g lat G latitude′) (also (arc-among g (o .latitude) G (natural-upto (natural 0 (o .latitude) 2880000000 (not-false _ (p .1 .1 .1 .0))))) none)) (minus (var 0) (var 1)) (most 1820000 1) arcs-test
 
   -- with a false easting or northing
   laid : (z : ℤ) → Upto 2000000000 z → All (g .e2 ∷ sineOf φ ∷ cosineOf φ ∷ primeVertical g (sineOf φ) ∷ radians (lon -ℤ o .longitude) ∷ arcs ∷ metres z ∷ []) plane
@@ -195,24 +198,24 @@ module _ (o : OriginNumbers) (lat lon : ℤ) (p : Passed (originTests o)) (q : P
       (also (cosine-latitude g lat G latitude′)
       (also (radius-among g lat G latitude′) (also difference (also arcs-among (also (metres-among z h) none))))))
 
-  place-bounded : GridBounded (cassiniAt (originMade o) lat lon)
+  place-bounded : ProjectedBounded (cassiniAt (originMade o) lat lon)
   unfolding value cassiniAt cassiniWith originMade
   place-bounded = (
-    proved (laid (o .«false_easting») (upto 2000000000 1999999999 2000000000 (o .«false_easting») (lit≤ tt) (lit≤ tt) (p .1 .0))) (plus (var 6) eastF) (most 2500000 1) east-test,
-    proved (laid (o .«false_northing») (upto 2000000000 1999999999 2000000000 (o .«false_northing») (lit≤ tt) (lit≤ tt) (p .1 .1 .0))) (plus (var 6) northF) (most 3900000 1) north-test,
+    proved (laid (o .«false_easting») (upto 2000000000 1999999999 (o .«false_easting») 2000000000 (lit≤ tt) (lit≤ tt) (not-false _ (p .1 .0)))) (plus (var 6) eastF) (most 2500000 1) east-test,
+    proved (laid (o .«false_northing») (upto 2000000000 1999999999 (o .«false_northing») 2000000000 (lit≤ tt) (lit≤ tt) (not-false _ (p .1 .1 .0)))) (plus (var 6) northF) (most 3900000 1) north-test,
   )
 
-pub grid-bounded : (o : OriginNumbers) (lat lon : ℤ) → GridBounded (cassiniOf o lat lon)
+pub projected-bounded : (o : OriginNumbers) (lat lon : ℤ) → ProjectedBounded (cassiniOf o lat lon)
 unfolding cassiniOf
-grid-bounded o lat lon =
-    given (first (cassiniTests o lat lon)) grid.Refused (cassiniAt (originMade o) lat lon) GridBounded (λ i. tt)
+projected-bounded o lat lon =
+    given (first (cassiniTests o lat lon)) projected.Refused (cassiniAt (originMade o) lat lon) ProjectedBounded (λ i. tt)
     (λ (z : first (cassiniTests o lat lon) ≡ 0).
     let p : Passed (cassiniTests o lat lon) = passed (cassiniTests o lat lon) tt z in
     place-bounded o lat lon (p .0, (p .1 .0, (p .1 .1 .0, (p .1 .1 .1 .0, (p .1 .1 .1 .1 .0, tt))))) (p .1 .1 .1 .1 .1))
 
 -- ---- no rounding refuses: the bounds are below 10,000,000
 -- y is the whole number b, as a computed fact
-not-large : (b : ℕ) (x y : Float) → num y ≡ b → den y ≡ 1 → b < 10000000 → Among x (record { lo = near 0 1; hi = y }) → tooLarge x ≡ false
+not-large : (b : ℕ) (x y : Float) → num y ≡ b → den y ≡ 1 → b < 10000000 → Among x (record { lo = near 0 1; hi = y; side = untold }) → tooLarge x ≡ false
 unfolding tooLarge
 not-large b nan y N D l h = absurd (is-finite h)
 not-large b (inf s) y N D l h = absurd (is-finite h)
@@ -233,23 +236,23 @@ whole-answer : {b : ℕ} (x : Float) (p : ℕ) → Bound b → p ≤ 5 → Among
 whole-answer {b} x p B h k = few x p h (not-large b x (# b) (B .is) (B .unit) (B .low) k)
 
 bound-x : Bound 3700000
-unfolding near round
+unfolding round
 bound-x = record { is = refl; unit = refl; low = lit< tt }
 
 bound-y : Bound 7500000
-unfolding near round
+unfolding round
 bound-y = record { is = refl; unit = refl; low = lit< tt }
 
 bound-z : Bound 1000000
-unfolding near round
+unfolding round
 bound-z = record { is = refl; unit = refl; low = lit< tt }
 
 bound-e : Bound 2500000
-unfolding near round
+unfolding round
 bound-e = record { is = refl; unit = refl; low = lit< tt }
 
 bound-n : Bound 3900000
-unfolding near round
+unfolding round
 bound-n = record { is = refl; unit = refl; low = lit< tt }
 
 pub units-answered : (code lat lon h : ℤ) (x y z : Float)
@@ -261,8 +264,8 @@ units-answered code lat lon h x y z e =
     ∙ rw (whole-answer x 5 bound-x (lit≤ tt) (b .0), whole-answer y 5 bound-y (lit≤ tt) (b .1), whole-answer z 5 bound-z (lit≤ tt) (b .2))
 
 pub millimetres-answered : (o : OriginNumbers) (lat lon : ℤ) (x y : Float)
-    → cassiniOf o lat lon ≡ grid.Metres x y → cassiniMillimetresOf o lat lon ≡ Millimetres (wholeOf x 3) (wholeOf y 3)
+    → cassiniOf o lat lon ≡ projected.Metres x y → cassiniMillimetresOf o lat lon ≡ Millimetres (wholeOf x 3) (wholeOf y 3)
 unfolding cassiniMillimetresOf inMillimetres
 millimetres-answered o lat lon x y e =
-    let b : GridBounded (grid.Metres x y) = subst GridBounded e (grid-bounded o lat lon) in
+    let b : ProjectedBounded (projected.Metres x y) = subst ProjectedBounded e (projected-bounded o lat lon) in
     ap inMillimetres e ∙ rw (whole-answer x 3 bound-e (lit≤ tt) (b .0), whole-answer y 3 bound-n (lit≤ tt) (b .1))

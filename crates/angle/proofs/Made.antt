@@ -10,7 +10,7 @@ use Rattle.angle.specs.declared.Origin.{Origin}
 use Rattle.angle.specs.declared.OriginNumbers.{OriginNumbers}
 use Rattle.angle.specs.declared.OriginAnswer.the-variants.{Made}
 use Rattle.angle.specs.declared.OriginAnswer.the-variants as answer
-use Rattle.angle.specs.declared.Grid.the-variants.{Refused}
+use Rattle.angle.specs.declared.Projected.the-variants.{Refused}
 use Rattle.refusal.proofs.Orders.{passed, stop, on, unless-some}
 
 -- a refusal has its number, and there is one; an origin that is made is the one that was asked, and there is no fault

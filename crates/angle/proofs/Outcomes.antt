@@ -11,12 +11,12 @@ use Rattle.rounding.proofs.Places as places
 use Rattle.angle.specs.Ranges.{cassiniTests}
 use Rattle.angle.specs.Cassini.{originMade, cassiniWith, cassiniAt, cassiniOf, two, inMillimetres, cassiniMillimetresOf}
 use Rattle.angle.specs.declared.OriginNumbers.{OriginNumbers}
-use Rattle.angle.specs.declared.Grid.the-variants as grid
-use Rattle.angle.specs.declared.GridMillimetres.{GridMillimetres}
-use Rattle.angle.specs.declared.GridMillimetres.the-variants.{Millimetres, Refused}
+use Rattle.angle.specs.declared.Projected.the-variants as projected
+use Rattle.angle.specs.declared.ProjectedMillimetres.{ProjectedMillimetres}
+use Rattle.angle.specs.declared.ProjectedMillimetres.the-variants.{Millimetres, Refused}
 
 -- whatever holds of both holds of what is answered
-pub outcome : (o : OriginNumbers) (lat lon : ℤ) (P : GridMillimetres → Type 0)
+pub outcome : (o : OriginNumbers) (lat lon : ℤ) (P : ProjectedMillimetres → Type 0)
     → ((e n : ℤ) → natAbs e ≤ 10000000000 → natAbs n ≤ 10000000000 → P (Millimetres e n)) → ((n : ℕ) → n < 100 → P (Refused n)) → P (cassiniMillimetresOf o lat lon)
 unfolding cassiniMillimetresOf cassiniOf cassiniAt cassiniWith inMillimetres
 outcome o lat lon P M R = go (first (cassiniTests o lat lon)) (first-short (cassiniTests o lat lon) tt)
@@ -24,9 +24,9 @@ outcome o lat lon P M R = go (first (cassiniTests o lat lon)) (first-short (cass
     northing : (e : ℤ) → natAbs e ≤ 10000000000 → (y : Float) → P (two (Whole e) (roundedOf y 3))
     northing e h y = places.outcome y 3 (λ (r : Rounded). P (two (Whole e) r)) (λ n k. M e n h k) R
 
-    rounded : (x y : Float) → P (inMillimetres (grid.Metres x y))
+    rounded : (x y : Float) → P (inMillimetres (projected.Metres x y))
     rounded x y = places.outcome x 3 (λ (r : Rounded). P (two r (roundedOf y 3))) (λ e h. northing e h y) R
 
-    go : (k : ℕ) → k < 100 → P (inMillimetres (unless k grid.Refused (cassiniAt (originMade o) lat lon)))
+    go : (k : ℕ) → k < 100 → P (inMillimetres (unless k projected.Refused (cassiniAt (originMade o) lat lon)))
     go zero l = rounded _ _
     go (suc k) l = R (suc k) l

@@ -6,17 +6,17 @@ use lib.IntN.{ℤ, pos, negsuc}
 use lib.Ieee.{Float, binary64, add, sub, mul, div, neg, round, ofInt, ofBits}
 use Rattle.refusal.specs.Numbers.{range, geodetic}
 use Rattle.refusal.specs.Numbers as numbers
-use Rattle.angle.specs.Floats.{near, k, radians, metres}
-use Rattle.angle.specs.Ranges.{outside}
-use Rattle.angle.specs.Series.{reciprocal, hornerFrom, horner, sineOf, cosineOf}
+use Rattle.angle.specs.Units.{k, radians, metres}
+use Rattle.ranges.specs.Ranges.{within}
+use Rattle.elementary.specs.Series.{sineOf, cosineOf}
 use Rattle.angle.specs.Ellipsoids.{table, shape, figureOf, ellipsoidOf, primeVertical, arcWith, meridianArc}
 use Rattle.angle.specs.Cartesian.{cartesianAt, cartesianOf}
 use Rattle.angle.specs.Cassini.{originMade, cassiniWith, cassiniAt, cassiniOf}
 use Rattle.angle.specs.declared.OriginNumbers.{OriginNumbers}
 use Rattle.angle.specs.declared.Cartesian.{Cartesian}
 use Rattle.angle.specs.declared.Cartesian.the-variants as cartesian
-use Rattle.angle.specs.declared.Grid.{Grid}
-use Rattle.angle.specs.declared.Grid.the-variants as grid
+use Rattle.angle.specs.declared.Projected.{Projected}
+use Rattle.angle.specs.declared.Projected.the-variants as projected
 
 abbrev f64 : ℕ → Float
 f64 b = ofBits binary64 b
@@ -52,7 +52,7 @@ answers [] = []
 answers (p ∷ ps) = p .answer ∷ answers ps
 
 all-positions : found positions ≡ answers positions
-unfolding cartesianOf cartesianAt outside radians k near reciprocal hornerFrom horner sineOf cosineOf table shape figureOf ellipsoidOf primeVertical add sub mul div neg round ofInt ofBits
+unfolding cartesianOf cartesianAt within radians k sineOf cosineOf table shape figureOf ellipsoidOf primeVertical add sub mul div neg round ofInt ofBits
 all-positions = refl
 
 -- ---- origin, latitude, longitude, and the answer. First document 000's two examples (Kedah and Perlis), then an origin itself; at the end exactly 4 degrees and
@@ -61,33 +61,33 @@ record Point : Type 0 where
   from : OriginNumbers
   at-latitude : ℤ
   at-longitude : ℤ
-  laid : Grid
+  laid : Projected
 
 abbrev origin : ℤ → ℤ → ℤ → ℤ → ℤ → OriginNumbers
 origin c a o e n = record { ellipsoid = c; latitude = a; longitude = o; «false_easting» = e; «false_northing» = n }
 
-abbrev g : OriginNumbers → ℤ → ℤ → Grid → Point
+abbrev g : OriginNumbers → ℤ → ℤ → Projected → Point
 g o a l r = record { from = o; at-latitude = a; at-longitude = l; laid = r }
 
 abbrev points : List Point
 points =
-    g (origin (pos 1) (pos 2147281981) (pos 36229093028) (pos 0) (pos 0)) (pos 2210298682) (pos 36138656827) (grid.Metres (f64 0xc0db275a7fff762e) (f64 0x40d2e913bd797dcd))
-    ∷ g (origin (pos 1) (pos 2147282155) (pos 36229093860) (pos 0) (pos 0)) (pos 2210298892) (pos 36138657684) (grid.Metres (f64 0xc0db275a01912e9e) (f64 0x40d2e914729de9cc))
-    ∷ g (origin (pos 1) (pos 1440000000) (pos 36720000000) (pos 50000) (negsuc 24999)) (pos 1440000000) (pos 36720000000) (grid.Metres (f64 0x4049000000000000) (f64 0xc039000000000000))
-    ∷ g (origin (pos 3) (pos 1234567890) (pos 36800000000) (pos 2000000000) (negsuc 1999999999)) (pos 0) (pos 38240000000) (grid.Metres (f64 0x4142a7d1e816f575) (f64 0xc14226d384bbb5a0))
-    ∷ g (origin (pos 4) (pos 2880000000) (pos 43200000000) (negsuc 14810561) (pos 8758321)) (pos 2879999999) (pos 41760000000) (grid.Metres (f64 0xc11bd09a29404328) (f64 0x40c54c4bee1e3c68))
-    ∷ g (origin (pos 2) (pos 734000000) (pos 37400000000) (negsuc 242004) (negsuc 948546)) (pos 746345678) (pos 37423456789) (grid.Metres (f64 0x40bb5e9b3163de2d) (f64 0x40a6374569e3ad30))
-    ∷ g (origin (pos 3) (pos 1234567890) (pos 36800000000) (pos 0) (pos 0)) (pos 0) (pos 38240000001) (grid.Refused numbers.apart)
+    g (origin (pos 1) (pos 2147281981) (pos 36229093028) (pos 0) (pos 0)) (pos 2210298682) (pos 36138656827) (projected.Metres (f64 0xc0db275a7fff762e) (f64 0x40d2e913bd797dcd))
+    ∷ g (origin (pos 1) (pos 2147282155) (pos 36229093860) (pos 0) (pos 0)) (pos 2210298892) (pos 36138657684) (projected.Metres (f64 0xc0db275a01912e9e) (f64 0x40d2e914729de9cc))
+    ∷ g (origin (pos 1) (pos 1440000000) (pos 36720000000) (pos 50000) (negsuc 24999)) (pos 1440000000) (pos 36720000000) (projected.Metres (f64 0x4049000000000000) (f64 0xc039000000000000))
+    ∷ g (origin (pos 3) (pos 1234567890) (pos 36800000000) (pos 2000000000) (negsuc 1999999999)) (pos 0) (pos 38240000000) (projected.Metres (f64 0x4142a7d1e816f575) (f64 0xc14226d384bbb5a0))
+    ∷ g (origin (pos 4) (pos 2880000000) (pos 43200000000) (negsuc 14810561) (pos 8758321)) (pos 2879999999) (pos 41760000000) (projected.Metres (f64 0xc11bd09a29404328) (f64 0x40c54c4bee1e3c68))
+    ∷ g (origin (pos 2) (pos 734000000) (pos 37400000000) (negsuc 242004) (negsuc 948546)) (pos 746345678) (pos 37423456789) (projected.Metres (f64 0x40bb5e9b3163de2d) (f64 0x40a6374569e3ad30))
+    ∷ g (origin (pos 3) (pos 1234567890) (pos 36800000000) (pos 0) (pos 0)) (pos 0) (pos 38240000001) (projected.Refused numbers.apart)
     ∷ []
 
-abbrev found-points : List Point → List Grid
+abbrev found-points : List Point → List Projected
 found-points [] = []
 found-points (p ∷ ps) = cassiniOf (p .from) (p .at-latitude) (p .at-longitude) ∷ found-points ps
 
-abbrev laid-points : List Point → List Grid
+abbrev laid-points : List Point → List Projected
 laid-points [] = []
 laid-points (p ∷ ps) = p .laid ∷ laid-points ps
 
 all-points : found-points points ≡ laid-points points
-unfolding cassiniOf cassiniAt cassiniWith originMade outside radians metres k near reciprocal hornerFrom horner sineOf cosineOf table shape figureOf ellipsoidOf primeVertical arcWith meridianArc add sub mul div neg round ofInt ofBits
+unfolding cassiniOf cassiniAt cassiniWith originMade within radians metres k sineOf cosineOf table shape figureOf ellipsoidOf primeVertical arcWith meridianArc add sub mul div neg round ofInt ofBits
 all-points = refl

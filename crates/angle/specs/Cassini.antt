@@ -6,18 +6,19 @@ use Rattle.rounding.specs.Decimals.{roundedOf}
 use Rattle.rounding.specs.declared.decimals.Rounded.{Rounded}
 use Rattle.rounding.specs.declared.decimals.Rounded.the-variants.{Whole}
 use Rattle.rounding.specs.declared.decimals.Rounded.the-variants as rounded
-use Rattle.angle.specs.Floats.{_⊗_, _⊘_, _⊕_, _⊖_, near, #, radians, metres}
-use Rattle.angle.specs.Ranges.{outside, originFault, pointTests, cassiniTests}
-use Rattle.angle.specs.Series.{sineOf, cosineOf}
+use Rattle.elementary.specs.Floats.{_⊗_, _⊘_, _⊕_, _⊖_, #}
+use Rattle.angle.specs.Units.{radians, metres}
+use Rattle.angle.specs.Ranges.{originFault, pointTests, cassiniTests}
+use Rattle.elementary.specs.Series.{sineOf, cosineOf}
 use Rattle.angle.specs.Ellipsoids.{ellipsoidOf, primeVertical, meridianArc}
 use Rattle.angle.specs.declared.OriginNumbers.{OriginNumbers}
 use Rattle.angle.specs.declared.Origin.{Origin}
 use Rattle.angle.specs.declared.OriginAnswer.{OriginAnswer}
 use Rattle.angle.specs.declared.OriginAnswer.the-variants as made
-use Rattle.angle.specs.declared.Grid.{Grid}
-use Rattle.angle.specs.declared.Grid.the-variants.{Metres, Refused}
-use Rattle.angle.specs.declared.GridMillimetres.{GridMillimetres}
-use Rattle.angle.specs.declared.GridMillimetres.the-variants as millimetres
+use Rattle.angle.specs.declared.Projected.{Projected}
+use Rattle.angle.specs.declared.Projected.the-variants.{Metres, Refused}
+use Rattle.angle.specs.declared.ProjectedMillimetres.{ProjectedMillimetres}
+use Rattle.angle.specs.declared.ProjectedMillimetres.the-variants as millimetres
 
 -- an origin's f64 values, made once
 unfoldable pub originMade : OriginNumbers → Origin
@@ -39,8 +40,7 @@ originOf o = unless (originFault o) made.Refused (made.Made (originMade o))
 
 -- of the point's latitude φ: its sine and cosine, ν and M; and the difference of the longitudes in radians.
 -- FN + ((M - M0) + ..): from the left the origin would miss FN by a rounding.
-unfoldable pub cassiniWith : Origin → Float → Float → Float → Float → Float → Grid
-unfolding near
+unfoldable pub cassiniWith : Origin → Float → Float → Float → Float → Float → Projected
 cassiniWith o sinφ cosφ ν M difference =
     let FE = o .«false_easting» in
     let FN = o .«false_northing» in
@@ -59,7 +59,7 @@ cassiniWith o sinφ cosφ ν M difference =
     Metres E N
 
 -- the difference of the longitudes is taken in whole numbers
-unfoldable pub cassiniAt : Origin → ℤ → ℤ → Grid
+unfoldable pub cassiniAt : Origin → ℤ → ℤ → Projected
 unfolding cassiniWith
 cassiniAt o latitude longitude =
     let φ = radians latitude in
@@ -70,30 +70,30 @@ cassiniAt o latitude longitude =
     cassiniWith o sinφ cosφ ν M (radians (longitude -ℤ o .longitude))
 
 -- a point on a made origin, refused: 12, 13
-unfoldable pub cassiniFromOf : Origin → ℤ → ℤ → Grid
-unfolding outside cassiniAt
+unfoldable pub cassiniFromOf : Origin → ℤ → ℤ → Projected
+unfolding cassiniAt
 cassiniFromOf o latitude longitude = unless (first (pointTests (o .longitude) latitude longitude)) Refused (cassiniAt o latitude longitude)
 
 -- refused: 2, 12, 13
-unfoldable pub cassiniOf : OriginNumbers → ℤ → ℤ → Grid
-unfolding outside originMade cassiniAt
+unfoldable pub cassiniOf : OriginNumbers → ℤ → ℤ → Projected
+unfolding originMade cassiniAt
 cassiniOf o latitude longitude = unless (first (cassiniTests o latitude longitude)) Refused (cassiniAt (originMade o) latitude longitude)
 
 -- both, or the first refusal
-abbrev pub two : Rounded → Rounded → GridMillimetres
+abbrev pub two : Rounded → Rounded → ProjectedMillimetres
 two (rounded.Refused n) y = millimetres.Refused n
 two (Whole x) (rounded.Refused n) = millimetres.Refused n
 two (Whole x) (Whole y) = millimetres.Millimetres x y
 
 -- whole millimetres: each by the rounding, 3 places. Its refusal comes last.
-unfoldable pub inMillimetres : Grid → GridMillimetres
+unfoldable pub inMillimetres : Projected → ProjectedMillimetres
 inMillimetres (Refused n) = millimetres.Refused n
 inMillimetres (Metres e n) = two (roundedOf e 3) (roundedOf n 3)
 
-unfoldable pub cassiniMillimetresFromOf : Origin → ℤ → ℤ → GridMillimetres
+unfoldable pub cassiniMillimetresFromOf : Origin → ℤ → ℤ → ProjectedMillimetres
 unfolding cassiniFromOf inMillimetres
 cassiniMillimetresFromOf o latitude longitude = inMillimetres (cassiniFromOf o latitude longitude)
 
-unfoldable pub cassiniMillimetresOf : OriginNumbers → ℤ → ℤ → GridMillimetres
+unfoldable pub cassiniMillimetresOf : OriginNumbers → ℤ → ℤ → ProjectedMillimetres
 unfolding cassiniOf inMillimetres
 cassiniMillimetresOf o latitude longitude = inMillimetres (cassiniOf o latitude longitude)

@@ -3,8 +3,7 @@ ghost use mathlib.Core.Path.{_≡_};
 ghost use Rattle.angle.specs.Ellipsoids.{figureOf, ellipsoidOf, primeVertical, arcWith, meridianArc};
 use crate::Ellipsoid;
 use crate::Figure;
-use crate::faults::is_outside;
-use crate::series::sine;
+use elementary::sine;
 
 // Codes 1 to 4: GRS80, WGS84, Everest 1830 Modified, Everest 1967.
 const ELLIPSOIDS: [Figure; 4] = [
@@ -30,7 +29,7 @@ const ELLIPSOIDS: [Figure; 4] = [
 fn figure(code: i64) -> Figure
     ensures { λ r. ⌜ r ≡ figureOf code ⌝ }
 {
-    if is_outside(code, 1, 4) {
+    if !ranges::is_ellipsoid(code) {
         return Figure {
             a: 0.0,
             inverse_flattening: 0.0,

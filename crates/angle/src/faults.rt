@@ -1,40 +1,16 @@
-// What whole numbers alone decide: the ranges of codes, angles, heights and false coordinates.
+// What whole numbers alone decide: the faults of angles and of origins, by their ranges.
 ghost use mathlib.Core.Path.{_≡_};
-ghost use Rattle.angle.specs.Ranges.{outside, originFault, anglesFault};
+ghost use Rattle.angle.specs.Ranges.{originFault, anglesFault};
 use crate::OriginNumbers;
-
-// Units of 0.00001".
-const LATITUDE_LOW: i64 = 0;
-
-const LATITUDE_HIGH: i64 = 2880000000;
-
-const LONGITUDE_LOW: i64 = 35640000000;
-
-const LONGITUDE_HIGH: i64 = 43200000000;
-
-// Millimetres: a false easting or northing.
-const OFFSET_LOW: i64 = -2000000000;
-
-const OFFSET_HIGH: i64 = 2000000000;
-
-// Whether z is not from low to high. Both ends are inside.
-pub fn is_outside(z: i64, low: i64, high: i64) -> bool
-    ensures { λ r. ⌜ r ≡ outside low high z ⌝ }
-{
-    if z < low {
-        return true;
-    }
-    high < z
-}
 
 // 0, or GEODETIC where the latitude or the longitude is out of its range.
 pub fn angles_fault(latitude: i64, longitude: i64) -> u8
     ensures { λ r. ⌜ r ≡ anglesFault latitude longitude ⌝ }
 {
-    if is_outside(latitude, LATITUDE_LOW, LATITUDE_HIGH) {
+    if !ranges::is_latitude(latitude) {
         return refusal::GEODETIC;
     }
-    if is_outside(longitude, LONGITUDE_LOW, LONGITUDE_HIGH) {
+    if !ranges::is_longitude(longitude) {
         return refusal::GEODETIC;
     }
     0
@@ -44,13 +20,13 @@ pub fn angles_fault(latitude: i64, longitude: i64) -> u8
 pub fn origin_fault(o: OriginNumbers) -> u8
     ensures { λ r. ⌜ r ≡ originFault o ⌝ }
 {
-    if is_outside(o.ellipsoid, 1, 4) {
+    if !ranges::is_ellipsoid(o.ellipsoid) {
         return refusal::RANGE;
     }
-    if is_outside(o.false_easting, OFFSET_LOW, OFFSET_HIGH) {
+    if !ranges::is_offset(o.false_easting) {
         return refusal::RANGE;
     }
-    if is_outside(o.false_northing, OFFSET_LOW, OFFSET_HIGH) {
+    if !ranges::is_offset(o.false_northing) {
         return refusal::RANGE;
     }
     angles_fault(o.latitude, o.longitude)

@@ -1,7 +1,7 @@
 // Geodetic to Cartesian.
 ghost use mathlib.Core.Path.{_≡_};
-ghost use mathlib.Core.Bool.{false};
-ghost use Rattle.angle.specs.Ranges.{badLatitude, badLongitude, badHeight};
+ghost use mathlib.Core.Bool.{true};
+ghost use Rattle.ranges.specs.Ranges.{latitudeRange, longitudeRange, heightRange};
 ghost use Rattle.angle.specs.Cartesian.{cartesianAt, cartesianOf, three, inUnits, cartesianUnitsOf};
 use crate::Cartesian;
 use crate::CartesianUnits;
@@ -9,22 +9,18 @@ use crate::Ellipsoid;
 use crate::ellipsoids::ellipsoid;
 use crate::ellipsoids::prime_vertical;
 use crate::faults::angles_fault;
-use crate::faults::is_outside;
-use crate::series::cosine;
-use crate::series::radians;
-use crate::series::sine;
+use crate::units::radians;
+use elementary::cosine;
+use elementary::sine;
 use rounding::Rounded;
 use rounding::round_places;
 
-const HEIGHT_LOW: i64 = -50000000;
-
-const HEIGHT_HIGH: i64 = 900000000;
 // 90 degrees.
 const QUARTER: i64 = 32400000000;
 
 // The formulas, for numbers in their ranges.
 fn position(e: Ellipsoid, latitude: i64, longitude: i64, height: i64) -> Cartesian
-    requires { ⌜ (badLatitude latitude ≡ false) × (badLongitude longitude ≡ false) × (badHeight height ≡ false) ⌝ }
+    requires { ⌜ (latitudeRange latitude ≡ true) × (longitudeRange longitude ≡ true) × (heightRange height ≡ true) ⌝ }
     ensures { λ r. ⌜ r ≡ cartesianAt e latitude longitude height ⌝ }
 {
     let phi = radians(latitude as f64);
@@ -43,14 +39,14 @@ fn position(e: Ellipsoid, latitude: i64, longitude: i64, height: i64) -> Cartesi
 pub fn cartesian_metres(code: i64, latitude: i64, longitude: i64, height: i64) -> Cartesian
     ensures { λ r. ⌜ r ≡ cartesianOf code latitude longitude height ⌝ }
 {
-    if is_outside(code, 1, 4) {
+    if !ranges::is_ellipsoid(code) {
         return Cartesian::Refused(refusal::RANGE);
     }
     let fault = angles_fault(latitude, longitude);
     if fault != 0 {
         return Cartesian::Refused(fault);
     }
-    if is_outside(height, HEIGHT_LOW, HEIGHT_HIGH) {
+    if !ranges::is_height(height) {
         return Cartesian::Refused(refusal::GEODETIC);
     }
     position(ellipsoid(code), latitude, longitude, height)

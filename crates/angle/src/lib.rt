@@ -1,10 +1,10 @@
-// Angles to metres in f64: geodetic to Cartesian, and the Cassini-Soldner grid. Latitudes and longitudes are whole units of 0.00001",
+// Angles to metres in f64: geodetic to Cartesian, and Cassini-Soldner. Latitudes and longitudes are whole units of 0.00001",
 // heights whole units of 0.00001 m, false eastings and northings whole millimetres. Every call answers for every input.
 mod ellipsoids;
 mod faults;
 mod geodetic;
 mod projection;
-mod series;
+mod units;
 
 pub use faults::angles_fault;
 pub use faults::origin_fault;
@@ -66,13 +66,13 @@ pub enum CartesianUnits {
 }
 
 // Easting and northing in metres, or the refusal number.
-pub enum Grid {
+pub enum Projected {
     Metres(f64, f64),
     Refused(u8),
 }
 
 // Easting and northing in whole millimetres, or the refusal number.
-pub enum GridMillimetres {
+pub enum ProjectedMillimetres {
     Millimetres(i64, i64),
     Refused(u8),
 }

@@ -1,9 +1,9 @@
 // Document 000's worked examples, run: the printed point on GRS80 in Cartesian coordinates, and the two Cassini examples from the
 // origin of Kedah and Perlis. Each line says what document 000 prints, and whether the libraries answer it.
 use angle::CartesianUnits;
-use angle::Grid;
-use angle::GridMillimetres;
 use angle::OriginNumbers;
+use angle::Projected;
+use angle::ProjectedMillimetres;
 use libc::STDOUT_FILENO;
 use rounding::Rounded;
 
@@ -66,8 +66,8 @@ fn origin(latitude: i64, longitude: i64) -> OriginNumbers {
 // Whether a point's easting and northing have the printed decimals, in units of 0.0001 m.
 fn lies(o: OriginNumbers, latitude: i64, longitude: i64, east: i64, north: i64) -> bool {
     match angle::cassini(o, latitude, longitude) {
-        Grid::Refused(_) => false,
-        Grid::Metres(e, n) => {
+        Projected::Refused(_) => false,
+        Projected::Metres(e, n) => {
             if prints(e, east) {
                 return prints(n, north);
             }
@@ -85,8 +85,8 @@ fn lies_in_millimetres(
     north: i64,
 ) -> bool {
     match angle::cassini_millimetres(o, latitude, longitude) {
-        GridMillimetres::Refused(_) => false,
-        GridMillimetres::Millimetres(e, n) => {
+        ProjectedMillimetres::Refused(_) => false,
+        ProjectedMillimetres::Millimetres(e, n) => {
             if e == east {
                 return n == north;
             }

@@ -19,10 +19,10 @@ use Rattle.angle.specs.declared.Cartesian.{Cartesian}
 use Rattle.angle.specs.declared.Cartesian.the-variants as cartesian
 use Rattle.angle.specs.declared.CartesianUnits.{CartesianUnits}
 use Rattle.angle.specs.declared.CartesianUnits.the-variants as units
-use Rattle.angle.specs.declared.Grid.{Grid}
-use Rattle.angle.specs.declared.Grid.the-variants as grid
-use Rattle.angle.specs.declared.GridMillimetres.{GridMillimetres}
-use Rattle.angle.specs.declared.GridMillimetres.the-variants as millimetres
+use Rattle.angle.specs.declared.Projected.{Projected}
+use Rattle.angle.specs.declared.Projected.the-variants as projected
+use Rattle.angle.specs.declared.ProjectedMillimetres.{ProjectedMillimetres}
+use Rattle.angle.specs.declared.ProjectedMillimetres.the-variants as millimetres
 use Rattle.angle.specs.Cartesian.{cartesianOf, cartesianUnitsOf}
 use Rattle.angle.specs.Cassini.{cassiniOf, cassiniMillimetresOf}
 use Rattle.line.specs.declared.Verdict.{Verdict}
@@ -62,11 +62,11 @@ unfoldable pub unitsCall : ℤ → ℤ → ℤ → ℤ → List ℤ → Outcome 
 unitsCall code latitude longitude height out = ifSized (eqb (length out) 3) (ofUnits (cartesianUnitsOf code latitude longitude height))
 
 -- ---- Cassini: easting, northing
-abbrev pub ofGrid : Grid → Outcome Float
-ofGrid (grid.Metres e n) = gives (e ∷ n ∷ [])
-ofGrid (grid.Refused n) = refused n
+abbrev pub ofProjected : Projected → Outcome Float
+ofProjected (projected.Metres e n) = gives (e ∷ n ∷ [])
+ofProjected (projected.Refused n) = refused n
 
-abbrev pub ofMillimetres : GridMillimetres → Outcome ℤ
+abbrev pub ofMillimetres : ProjectedMillimetres → Outcome ℤ
 ofMillimetres (millimetres.Millimetres e n) = gives (e ∷ n ∷ [])
 ofMillimetres (millimetres.Refused n) = refused n
 
@@ -81,7 +81,7 @@ originFrom code latitude longitude e n = record {
 }
 
 unfoldable pub cassiniCall : OriginNumbers → ℤ → ℤ → List Float → Outcome Float
-cassiniCall o latitude longitude out = ifSized (eqb (length out) 2) (ofGrid (cassiniOf o latitude longitude))
+cassiniCall o latitude longitude out = ifSized (eqb (length out) 2) (ofProjected (cassiniOf o latitude longitude))
 
 unfoldable pub millimetresCall : OriginNumbers → ℤ → ℤ → List ℤ → Outcome ℤ
 millimetresCall o latitude longitude out = ifSized (eqb (length out) 2) (ofMillimetres (cassiniMillimetresOf o latitude longitude))

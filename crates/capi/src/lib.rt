@@ -3,9 +3,9 @@
 pub mod conversion;
 mod decode;
 pub mod geodetic;
-pub mod grid;
 pub mod later;
 pub mod printing;
+pub mod projected;
 pub mod rounded;
 mod status;
 

@@ -1,7 +1,7 @@
 -- The worked cases, by computation. Assumes nothing.
 use mathlib.Core.Path.{refl}
 use Rattle.rounding.specs.Quotient.{halfUp, roundDiv}
-use Rattle.chain.specs.Ranges.{within}
+use Rattle.ranges.specs.Ranges.{within}
 use Rattle.chain.specs.Faults.{realizationRange, agrees, sameRealization, givenPosition, inArea, pointRange, pointFault, kindRange, stepRange, kindRule, stepFault}
 use Rattle.chain.specs.Rows.{rowIndex, rowOf}
 use Rattle.chain.specs.Parts.{linear, part, gain, shiftParts, velocityParts, radians, bursaWolfParts, atEpoch, frameParts, kindParts, plus, minus, forwardBy, again, inverseBy}

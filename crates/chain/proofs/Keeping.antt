@@ -23,14 +23,14 @@ use Rattle.chain.specs.declared.steps.Ready.{Ready}
 use Rattle.chain.specs.declared.steps.Ready.the-variants.{Fixed, Turned, Scaled}
 use Rattle.chain.specs.declared.Answer.{Answer}
 use Rattle.chain.specs.declared.Answer.the-variants.{Converted, Refused}
-use Rattle.chain.specs.Ranges.{within, upTo, equal, shiftRange, scaleRange}
+use Rattle.ranges.specs.Ranges.{within, upTo, equal, shiftRange, scaleRange}
 use Rattle.chain.specs.Faults.{stepFault, pointFault, inArea, sameRealization, pointTests, stepTests, joinTest, laterTests, stepsTests, chainTests}
 use Rattle.chain.specs.Axes.{Axis, onX, onY, onZ, coordinate}
 use Rattle.chain.specs.Parts.{plus, forwardBy}
 use Rattle.chain.specs.Convert.{at, outside, onward, walk, forwardStep, answerOf, startOf, endOf, placeTests, movedTo, convert, forwardOf}
 use Rattle.chain.specs.Ready.{readyParts, ReadyOk, Prepares}
 use Rattle.chain.specs.Prepared.{numbersOf, readyOf, number, readyAt, readySteps, readyRange, Kept, Keeps, MadeReady, carried, readyTests, forwardReadyOf, chainOf, Readied, Held, Ends}
-use Rattle.chain.proofs.Within.{both, all, up-to}
+use Rattle.ranges.proofs.Ranges.{both, all, up-to, up-to-holds, equal-self}
 use Rattle.chain.proofs.Accepted.{numbered-steps}
 
 -- ---- eight numbers written in a list
@@ -119,28 +119,13 @@ made-length l m i s made = either (ltb i 8 && eqb (stepFault s) 0) made
     either false q = ap length q
 
 -- ---- what is ready for a step is in range
-le-yes : (a b : ℤ) → a ≤ℤ b → leZ a b ≡ true
-le-yes a b h = is-true (leZ a b) (h .le)
-  where
-    is-true : (t : Bool) → T t → t ≡ true
-    is-true true h = refl
-    is-true false h = absurd h
-
-within-up : (m : ℕ) (z : ℤ) → natAbs z ≤ m → upTo m z ≡ true
-unfolding within
-within-up m z h =
-    let u = unabs m h (v z) in
-    let a = le-yes (negℤ (pos m)) z (le (neg (k m)) (v z) (omega arith)) in
-    let b = le-yes z (pos m) (le (v z) (k m) (omega arith)) in
-    rw (a, b)
-
 ok-range : (r : Ready) → ReadyOk r → readyRange r ≡ true
 unfolding readyRange
-ok-range (Fixed g) o = rw (within-up 100000000 (g .x) (o .on onX), within-up 100000000 (g .y) (o .on onY), within-up 100000000 (g .z) (o .on onZ))
+ok-range (Fixed g) o = rw (up-to-holds 100000000 (g .x) (o .on onX), up-to-holds 100000000 (g .y) (o .on onY), up-to-holds 100000000 (g .z) (o .on onZ))
 ok-range (Turned t) o =
-    rw (within-up 100000000 (t .dx) (o .dx), within-up 100000000 (t .dy) (o .dy), within-up 100000000 (t .dz) (o .dz), within-up 4848137 (t .rx) (o .rx), within-up 4848137 (t .ry) (o .ry), within-up 4848137 (t .rz) (o .rz), within-up 2000000 (t .s) (o .s))
+    rw (up-to-holds 100000000 (t .dx) (o .dx), up-to-holds 100000000 (t .dy) (o .dy), up-to-holds 100000000 (t .dz) (o .dz), up-to-holds 4848137 (t .rx) (o .rx), up-to-holds 4848137 (t .ry) (o .ry), up-to-holds 4848137 (t .rz) (o .rz), up-to-holds 2000000 (t .s) (o .s))
 ok-range (Scaled t) o =
-    rw (within-up 1971000000000000000 (t .kx) (o .kx), within-up 1971000000000000000 (t .ky) (o .ky), within-up 1971000000000000000 (t .kz) (o .kz), within-up 1202000 (t .slope) (o .slope))
+    rw (up-to-holds 1971000000000000000 (t .kx) (o .kx), up-to-holds 1971000000000000000 (t .ky) (o .ky), up-to-holds 1971000000000000000 (t .kz) (o .kz), up-to-holds 1202000 (t .slope) (o .slope))
 
 -- ---- so the walk over them is the walk over the steps
 carried-walk : (p : Point) (end : Realization) (ss : List Step) (rs : List Ready) (q : Position) → Readied ss rs → carried p end rs q ≡ answerOf p end (walk forwardStep ss q)
@@ -157,10 +142,6 @@ carried-walk p end (s ∷ ss) (r ∷ rs) q h =
     either false e = refl
 
 -- ---- where a chain starts and ends
-equal-self : (a : ℤ) → equal a a ≡ true
-unfolding within
-equal-self a = let e = le-yes a a (le (v a) (v a) (omega arith)) in rw e
-
 pub same-self : (r : Realization) → sameRealization r r ≡ true
 unfolding sameRealization
 same-self r = rw (equal-self (r .datum), equal-self (r .epoch))

@@ -16,11 +16,12 @@ use Rattle.chain.specs.declared.Step.{Step}
 use Rattle.chain.specs.declared.Chain.{Chain}
 use Rattle.chain.specs.declared.Answer.{Answer}
 use Rattle.chain.specs.declared.Answer.the-variants.{Converted, Refused}
-use Rattle.chain.specs.Ranges.{within, givenRange, issueRange}
+use Rattle.ranges.specs.Ranges.{issueRange}
 use Rattle.chain.specs.Faults.{realizationRange, agrees, givenPosition, inArea, pointRange, pointTests, pointFault, laterTests, stepsTests, chainTests, stepsOf}
 use Rattle.chain.specs.Axes.{onX, onY, onZ}
 use Rattle.chain.specs.Convert.{Walk, at, outside, walk, forwardStep, startOf, endOf, placeTests, conversionTests, movedTo, answerOf, convert, forwardOf}
-use Rattle.chain.proofs.Within.{all, area-small}
+use Rattle.ranges.proofs.Ranges.{all, up-to-holds}
+use Rattle.chain.proofs.Within.{area-small}
 use Rattle.chain.proofs.Sizes.{step-ok}
 use Rattle.chain.proofs.Walk.{walk-area}
 use Rattle.chain.proofs.Accepted.{Sound, converted}
@@ -38,14 +39,9 @@ end-dated r [] ok d = d
 end-dated r (s ∷ ss) ok d = let o = step-ok s (ok .0) in end-dated (s .after) ss (ok .1) (record { range = o .after; agree = o .agreed })
 
 -- the area lies within the range of a coordinate
-given : (z : ℤ) → natAbs z ≤ 640000000000 → givenRange z ≡ true
-unfolding within
-given (pos n) h = le-leb n 640000000000 h
-given (negsuc n) h = rw (le-leb n 639999999999 (omega arith))
-
 area-given : (p : Position) → inArea p ≡ true → givenPosition p ≡ true
 unfolding givenPosition
-area-given p h = let s = area-small p h in rw (given (p .x) (s .on onX), given (p .y) (s .on onY), given (p .z) (s .on onZ))
+area-given p h = let s = area-small p h in rw (up-to-holds 640000000000 (p .x) (s .on onX), up-to-holds 640000000000 (p .y) (s .on onY), up-to-holds 640000000000 (p .z) (s .on onZ))
 
 faultless : (p : Point) → issueRange (p .issue) ≡ true → Dated (p .realization) → givenPosition (p .position) ≡ true → pointFault p ≡ 0
 unfolding pointFault pointRange

@@ -20,12 +20,12 @@ use Rattle.chain.specs.declared.Convention.the-variants.{PositionVector,
 use Rattle.chain.specs.declared.Kind.{Kind}
 use Rattle.chain.specs.declared.Kind.the-variants.{Shift, Velocity, BursaWolf, Frame}
 use Rattle.chain.specs.declared.Step.{Step}
-use Rattle.chain.specs.Ranges.{within, equal, datumRange, epochRange, shiftRange, rotationRange, scaleRange, velocityRange}
+use Rattle.ranges.specs.Ranges.{within, equal, datumRange, epochRange, shiftRange, rotationRange, scaleRange, velocityRange}
 use Rattle.chain.specs.Faults.{agrees, realizationRange, kindRange, kindRule, stepRange, stepFault}
 use Rattle.chain.specs.Rows.{rows, rowIndex, rowOf, figure}
 use Rattle.chain.specs.Parts.{Parts, fixed, shiftParts, velocityParts, signed, radians, over11, over14, turnedParts, bursaWolfParts, atEpoch, shiftAt, scaleAt, scaledParts, frameParts, kindParts}
 use Rattle.chain.specs.Axes.{Axis, onX, onY, onZ, partOn}
-use Rattle.chain.proofs.Within.{both, all, bounds, up-to}
+use Rattle.ranges.proofs.Ranges.{both, all, bounds, up-to}
 use Rattle.refusal.proofs.Orders.{head-holds}
 use Rattle.chain.proofs.StepLaws.{Mild, Milds, Flat, Flats}
 

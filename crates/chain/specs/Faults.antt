@@ -14,7 +14,7 @@ use Rattle.chain.specs.declared.Kind.{Kind}
 use Rattle.chain.specs.declared.Kind.the-variants.{Shift, Velocity, BursaWolf, Frame}
 use Rattle.chain.specs.declared.Step.{Step}
 use Rattle.chain.specs.declared.Chain.{Chain}
-use Rattle.chain.specs.Ranges.{within, equal, givenRange, areaX, areaY, areaZ, shiftRange, rotationRange, scaleRange, velocityRange, datumRange, issueRange, epochRange}
+use Rattle.ranges.specs.Ranges.{within, equal, givenRange, area, shiftRange, rotationRange, scaleRange, velocityRange, datumRange, issueRange, epochRange}
 
 -- ---- a datum at an epoch
 unfoldable pub realizationRange : Realization → Bool
@@ -32,7 +32,7 @@ unfoldable pub givenPosition : Position → Bool
 givenPosition p = givenRange (p .x) && givenRange (p .y) && givenRange (p .z)
 
 unfoldable pub inArea : Position → Bool
-inArea p = areaX (p .x) && areaY (p .y) && areaZ (p .z)
+inArea p = area (p .x) (p .y) (p .z)
 
 -- ---- a point, by its numbers alone. The id is not examined
 unfoldable pub pointRange : Point → Bool

@@ -1,4 +1,3 @@
-pub mod Ranges
 pub mod Faults
 pub mod Rows
 pub mod Parts

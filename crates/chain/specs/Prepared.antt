@@ -20,7 +20,7 @@ use Rattle.chain.specs.declared.steps.Ready.{Ready}
 use Rattle.chain.specs.declared.steps.Ready.the-variants.{Fixed, Turned, Scaled}
 use Rattle.chain.specs.declared.Answer.{Answer}
 use Rattle.chain.specs.declared.Answer.the-variants.{Converted, Refused}
-use Rattle.chain.specs.Ranges.{equal, upTo, shiftRange, scaleRange}
+use Rattle.ranges.specs.Ranges.{equal, upTo, shiftRange, scaleRange}
 use Rattle.chain.specs.Faults.{inArea, sameRealization, stepFault}
 use Rattle.chain.specs.Parts.{forwardBy}
 use Rattle.chain.specs.Convert.{movedTo, startOf, endOf}

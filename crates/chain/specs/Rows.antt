@@ -4,7 +4,7 @@ use Prim.Native.Nat.{ℕ}
 use lib.IntN.{ℤ, pos, negℤ}
 use lib.ListN.{getD}
 use Rattle.refusal.specs.Order.{pick}
-use Rattle.chain.specs.Ranges.{equal}
+use Rattle.ranges.specs.Ranges.{equal}
 
 -- T x, y, z in units; Tv x, y, z in units a year; D in 10^-11; Dv in 10^-11 a year
 abbrev pub rows : List (List ℤ)

@@ -10,7 +10,7 @@ use crate::Point;
 use crate::Realization;
 use crate::Step;
 use crate::faults;
-use crate::ranges;
+use crate::points;
 
 // A step that follows another: its own faults, then JOIN where it doesn't begin where the other ended.
 fn later_fault(previous: Step, step: Step) -> u8
@@ -22,7 +22,7 @@ fn later_fault(previous: Step, step: Step) -> u8
     }
     let end = previous.after;
     let start = step.before;
-    if !ranges::same_realization(end, start) {
+    if !points::same_realization(end, start) {
         return refusal::JOIN;
     }
     0
@@ -74,11 +74,11 @@ pub(crate) fn entry_fault(point: Point, wanted: Realization) -> u8
         return f;
     }
     let r = point.realization;
-    if !ranges::same_realization(r, wanted) {
+    if !points::same_realization(r, wanted) {
         return refusal::START;
     }
     let p = point.position;
-    if !ranges::in_area(p) {
+    if !points::in_area(p) {
         return refusal::AREA;
     }
     0

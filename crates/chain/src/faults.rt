@@ -4,17 +4,17 @@ ghost use Rattle.chain.specs.Faults.{pointFault, stepFault};
 use crate::Point;
 use crate::Step;
 use crate::kinds;
-use crate::ranges;
+use crate::points;
 
 // The refusal that a point's numbers alone decide: RANGE, EPOCH, or 0 for none. The area and the chain are not looked at.
 pub fn point_fault(point: Point) -> u8
     ensures { λ r. ⌜ r ≡ pointFault point ⌝ }
 {
-    if !ranges::point_in_range(point) {
+    if !points::point_in_range(point) {
         return refusal::RANGE;
     }
     let r = point.realization;
-    if !ranges::agrees(r) {
+    if !points::agrees(r) {
         return refusal::EPOCH;
     }
     0
@@ -29,7 +29,7 @@ pub fn step_fault(step: Step) -> u8
     }
     let before = step.before;
     let after = step.after;
-    if !(ranges::agrees(before) & ranges::agrees(after)) {
+    if !(points::agrees(before) & points::agrees(after)) {
         return refusal::EPOCH;
     }
     let kind = step.kind;

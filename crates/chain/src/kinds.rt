@@ -7,25 +7,25 @@ use crate::Realization;
 use crate::Shift;
 use crate::Step;
 use crate::Velocity;
-use crate::ranges;
+use crate::points;
 
 fn shift_in_range(t: Shift) -> bool
     ensures { λ r. ⌜ r ≡ kindRange (Kind.Shift t) ⌝ }
 {
-    ranges::three_within(-100000000, 100000000, t.dx, t.dy, t.dz)
+    ranges::three_within(-100000000, t.dx, t.dy, t.dz, 100000000)
 }
 
 fn velocity_in_range(t: Velocity) -> bool
     ensures { λ r. ⌜ r ≡ kindRange (Kind.Velocity t) ⌝ }
 {
-    ranges::three_within(-10000, 10000, t.vx, t.vy, t.vz)
+    ranges::three_within(-10000, t.vx, t.vy, t.vz, 10000)
 }
 
 fn bursa_wolf_in_range(t: BursaWolf) -> bool
     ensures { λ r. ⌜ r ≡ kindRange (Kind.BursaWolf t) ⌝ }
 {
-    ranges::three_within(-100000000, 100000000, t.dx, t.dy, t.dz)
-        & (ranges::three_within(-1000000, 1000000, t.rx, t.ry, t.rz)
+    ranges::three_within(-100000000, t.dx, t.dy, t.dz, 100000000)
+        & (ranges::three_within(-1000000, t.rx, t.ry, t.rz, 1000000)
             & ranges::within(-2000000, t.s, 2000000))
 }
 
@@ -47,7 +47,7 @@ pub(crate) fn step_in_range(step: Step) -> bool
     let kind = step.kind;
     let before = step.before;
     let after = step.after;
-    kind_in_range(kind) & ranges::realization_in_range(before) & ranges::realization_in_range(after)
+    kind_in_range(kind) & points::realization_in_range(before) & points::realization_in_range(after)
 }
 
 // A velocity stays on one datum and has two epochs.

@@ -3,12 +3,12 @@
 mod checks;
 mod faults;
 mod kinds;
-mod ranges;
+mod points;
 mod steps;
 
 pub use crate::faults::point_fault;
 pub use crate::faults::step_fault;
-pub use crate::ranges::same_realization;
+pub use crate::points::same_realization;
 pub use crate::steps::convert::forward;
 pub use crate::steps::convert::inverse;
 pub use crate::steps::kept::forward_ready;

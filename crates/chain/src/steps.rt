@@ -16,7 +16,6 @@ use crate::Position;
 use crate::Shift;
 use crate::Step;
 use crate::Velocity;
-use crate::ranges;
 
 pub mod convert;
 pub mod kept;

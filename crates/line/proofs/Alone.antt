@@ -2,21 +2,22 @@
 use Prim.Native.Nat.{ℕ, _+_}
 use mathlib.Core.Path.{_≡_, refl, sym, ap, _∙_}
 use mathlib.Core.List.{List}
-use mathlib.Core.Bool.{Bool, true, false, not}
+use mathlib.Core.Bool.{Bool, true, false}
 use mathlib.Core.Option.{Option, none, some}
 use lib.IntN.{ℤ, pos, negℤ}
-use lib.Signed.{leZ, ltZ}
+use lib.Signed.{ltZ}
 use lib.ListN.{length}
 use native.Mathlib.Omega.{arith}
 use Rattle.chain.specs.declared.Id.{Id}
-use Rattle.chain.specs.Ranges.{within}
+use Rattle.ranges.specs.Ranges.{within}
+use Rattle.ranges.proofs.Ranges.{below, above, between}
 use Rattle.line.specs.declared.NumberField.the-variants as N
 use Rattle.line.specs.declared.NameField.the-variants as I
 use Rattle.line.specs.Lines.{fault, inReach, reached, readNumber, namedAs, readName}
 use Rattle.line.specs.Name.{nameOf}
 use Rattle.line.specs.Number.{numberOf}
 use Rattle.line.specs.Reading.{TellsLine, Got, itself, cappedZ}
-use Rattle.line.proofs.Capped.{lt-le, sure-within}
+use Rattle.line.proofs.Capped.{sure-within}
 use Rattle.line.proofs.Clean.{alone, clean-number, clean-named}
 
 -- ---- below 10^13 in size
@@ -26,22 +27,15 @@ least = negℤ (pos 9999999999999)
 abbrev greatest : ℤ
 greatest = pos 9999999999999
 
-turned : (b : Bool) (t : Bool) → t ≡ not b → b ≡ not t
-turned true t e = rw e
-turned false t e = rw e
-
 module _ (z : ℤ) where
   pub too-low : ltZ z least ≡ true → N.Beyond ≡ inReach z
-  unfolding within
-  too-low e = rw (turned (leZ least z) true (sym e ∙ lt-le z least))
+  too-low e = rw (below least z greatest e)
 
   pub too-high : ltZ z least ≡ false → ltZ greatest z ≡ true → N.Beyond ≡ inReach z
-  unfolding within
-  too-high d e = rw (turned (leZ least z) false (sym d ∙ lt-le z least), turned (leZ z greatest) true (sym e ∙ lt-le greatest z))
+  too-high d e = rw (above least z greatest e)
 
   pub in-reach : ltZ z least ≡ false → ltZ greatest z ≡ false → N.Number z ≡ inReach z
-  unfolding within
-  in-reach d e = rw (turned (leZ least z) false (sym d ∙ lt-le z least), turned (leZ z greatest) false (sym e ∙ lt-le greatest z))
+  in-reach d e = rw (between least z greatest d e)
 
   reach-same : inReach (cappedZ z) ≡ inReach z
   reach-same = go (within least z greatest) refl

@@ -3,15 +3,14 @@
 use Prim.Native.Nat.{ℕ, suc, _≤_, _<_, min}
 use mathlib.Core.Path.{_≡_, refl, sym, ap, _∙_}
 use mathlib.Core.Bool.{Bool, true, false, not, _&&_, _||_}
-use lib.Dec.{ltb, leb}
 use lib.IntN.{ℤ, pos, negsuc, negℤ, natAbs}
-use lib.Signed.{leZ, ltZ}
+use lib.Signed.{leZ}
 use native.Mathlib.Decide.{decLt}
 use native.Mathlib.Omega.{arith}
-use borrow.Author.Tests.{lt-ltb, le-ltb, le-leb, lt-leb, leb-true}
+use borrow.Author.Tests.{le-leb, lt-leb}
 use Rattle.refusal.specs.Order.{pick}
-use Rattle.chain.specs.Ranges.{within}
-use Rattle.angle.specs.Ranges.{outside}
+use Rattle.ranges.specs.Ranges.{within}
+use Rattle.ranges.proofs.Ranges.{alike, sized}
 use Rattle.line.specs.Reading.{cap, cappedZ}
 use Rattle.line.proofs.Answers.{Careful}
 
@@ -84,18 +83,15 @@ below-same (negsuc n) k h = go (decLt (suc n) cap)
     go (yes l) = ap (λ (x : ℤ). leZ x k) (kept-neg n l)
     go (no l) = ap (λ (x : ℤ). leZ x k) (far-neg n (omega arith)) ∙ far k h (omega arith)
 
-kept-within : (lo z hi : ℤ) → natAbs lo < cap → natAbs hi < cap → leZ lo z ≡ true → leZ z hi ≡ true → cappedZ z ≡ z
-kept-within lo (pos n) (pos m) l h e f = kept-pos n (omega (arith, leb-true n m f))
-kept-within lo (pos n) (negsuc m) l h e f = absurd (never f)
-kept-within (pos m) (negsuc n) hi l h e f = absurd (never e)
-kept-within (negsuc m) (negsuc n) hi l h e f = kept-neg n (omega (arith, leb-true n m e))
+kept-size : (z : ℤ) → natAbs z ≤ 9999999999999 → cappedZ z ≡ z
+kept-size (pos n) h = kept-pos n (omega arith)
+kept-size (negsuc n) h = kept-neg n (omega arith)
 
 pub sure-within : (lo hi : ℤ) → natAbs lo < cap → natAbs hi < cap → Sure cappedZ (λ z. within lo z hi)
-unfolding within
 sure-within lo hi l h =
     record {
-      same = λ z. both (above-same lo z l) (below-same z hi h);
-      kept = λ z e. let s = halves (leZ lo z) (leZ z hi) e in kept-within lo z hi l h (s .0) (s .1);
+      same = λ z. alike lo hi (cappedZ z) z (above-same lo z l) (below-same z hi h);
+      kept = λ z e. kept-size z (sized lo z hi 9999999999999 (omega arith) (omega arith) e);
     }
 
 pub sure-either : {A : Type 0} {carried : A → A} {s t : A → Bool} → Sure carried s → Sure carried t → Sure carried (λ a. s a || t a)
@@ -105,40 +101,6 @@ sure-either {A} {carried} {s} {t} p q =
     go : (a : A) (b : Bool) → s a ≡ b → (b || t a) ≡ true → carried a ≡ a
     go a true e f = p .kept a e
     go a false e f = q .kept a f
-
--- ---- angle's ranges say when a number is outside
-pub lt-le : (a b : ℤ) → ltZ a b ≡ not (leZ b a)
-lt-le (pos a) (pos b) = go (decLt a b)
-  where
-    go : Dec (a < b) → ltb a b ≡ not (leb b a)
-    go (yes l) = rw (lt-ltb a b l, lt-leb b a l)
-    go (no l) = rw (le-ltb a b (omega arith), le-leb b a (omega arith))
-lt-le (pos a) (negsuc b) = refl
-lt-le (negsuc a) (pos b) = refl
-lt-le (negsuc a) (negsuc b) = go (decLt b a)
-  where
-    go : Dec (b < a) → ltb b a ≡ not (leb a b)
-    go (yes l) = rw (lt-ltb b a l, lt-leb a b l)
-    go (no l) = rw (le-ltb b a (omega arith), le-leb a b (omega arith))
-
-outside-is : (lo hi z : ℤ) → outside lo hi z ≡ not (within lo z hi)
-unfolding outside within
-outside-is lo hi z = rw (lt-le z lo, lt-le hi z) (go (leZ lo z) (leZ z hi))
-  where
-    go : (a b : Bool) → (not a || not b) ≡ not (a && b)
-    go true b = refl
-    go false b = refl
-
-module _ (lo hi : ℤ) (l : natAbs lo < cap) (h : natAbs hi < cap) where
-  pub outside-same : (z : ℤ) → outside lo hi (cappedZ z) ≡ outside lo hi z
-  outside-same z = outside-is lo hi (cappedZ z) ∙ ap not (sure-within lo hi l h .same z) ∙ sym (outside-is lo hi z)
-
-  pub outside-kept : (z : ℤ) → outside lo hi z ≡ false → cappedZ z ≡ z
-  outside-kept z e = sure-within lo hi l h .kept z (go (within lo z hi) (sym (outside-is lo hi z) ∙ e))
-    where
-      go : (b : Bool) → not b ≡ false → b ≡ true
-      go true q = refl
-      go false q = absurd (never (sym q))
 
 -- ---- faults
 -- no fault: the first test passes, and so do the rest

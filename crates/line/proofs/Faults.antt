@@ -5,17 +5,19 @@ use mathlib.Core.Bool.{Bool, true, false, not, _&&_}
 use mathlib.Core.List.{[], _∷_}
 use lib.IntN.{ℤ, pos, negsuc, negℤ, natAbs}
 use native.Mathlib.Omega.{arith}
-use Rattle.refusal.specs.Order.{pick, first, _gives_}
+use borrow.Author.Tests.{not-false}
+use Rattle.refusal.specs.Order.{first, _gives_}
 use Rattle.refusal.specs.Numbers as refusal
 use Rattle.chain.specs.declared.Kind.{Kind}
 use Rattle.chain.specs.declared.Kind.the-variants.{Shift, Velocity, BursaWolf, Frame}
-use Rattle.chain.specs.Ranges.{upTo, datumRange, epochRange, issueRange, givenRange, shiftRange, velocityRange, rotationRange, scaleRange}
+use Rattle.refusal.proofs.Orders as orders
+use Rattle.ranges.specs.Ranges.{upTo, datumRange, epochRange, issueRange, givenRange, shiftRange, velocityRange, rotationRange, scaleRange, ellipsoidRange, offsetRange, latitudeRange, longitudeRange}
 use Rattle.chain.specs.Faults.{realizationRange, agrees, givenPosition, pointRange, pointFault, kindRange, kindRule, stepRange, stepFault}
-use Rattle.angle.specs.Ranges.{badCode, badOffset, badLatitude, badLongitude, angleTests, anglesFault, originFault}
+use Rattle.angle.specs.Ranges.{angleTests, originTests, anglesFault, originFault}
 use Rattle.line.specs.Lines.{geodeticFault}
 use Rattle.line.specs.Reading.{cap, cappedZ, cappedRealization, cappedPosition, cappedPoint, cappedKind, cappedStep, cappedOrigin, cappedGeodetic}
 use Rattle.line.proofs.Answers.{Careful}
-use Rattle.line.proofs.Capped.{Sure, sure-within, sure-either, both, halves, passed, outside-same, outside-kept, careful-first}
+use Rattle.line.proofs.Capped.{Sure, sure-within, sure-either, both, halves, careful-first}
 
 -- ---- numbers
 natAbs-neg : (n : ℕ) → natAbs (negℤ (pos n)) ≡ n
@@ -136,26 +138,23 @@ careful-step =
     2 (λ e. omega arith) sure-step
 
 -- ---- origins and positions
-same-latitude : (z : ℤ) → badLatitude (cappedZ z) ≡ badLatitude z
-same-latitude = outside-same (pos 0) (pos 2880000000) (omega arith) (omega arith)
+sure-latitude : Sure cappedZ latitudeRange
+sure-latitude = sure-within (pos 0) (pos 2880000000) (omega arith) (omega arith)
 
-kept-latitude : (z : ℤ) → badLatitude z ≡ false → cappedZ z ≡ z
-kept-latitude = outside-kept (pos 0) (pos 2880000000) (omega arith) (omega arith)
+sure-longitude : Sure cappedZ longitudeRange
+sure-longitude = sure-within (pos 35640000000) (pos 43200000000) (omega arith) (omega arith)
 
-same-longitude : (z : ℤ) → badLongitude (cappedZ z) ≡ badLongitude z
-same-longitude = outside-same (pos 35640000000) (pos 43200000000) (omega arith) (omega arith)
-
-kept-longitude : (z : ℤ) → badLongitude z ≡ false → cappedZ z ≡ z
-kept-longitude = outside-kept (pos 35640000000) (pos 43200000000) (omega arith) (omega arith)
+-- where the refusal of a test is not given
+kept-not : {A : Type 0} {carried : A → A} {test : A → Bool} → Sure carried test → (a : A) → not (test a) ≡ false → carried a ≡ a
+kept-not {test = test} p a e = p .kept a (not-false (test a) e)
 
 same-angles : (lat lon : ℤ) → first (angleTests (cappedZ lat) (cappedZ lon)) ≡ first (angleTests lat lon)
-same-angles lat lon = rw (same-latitude lat, same-longitude lon)
+same-angles lat lon = rw (sure-latitude .same lat, sure-longitude .same lon)
 
 kept-angles : (lat lon : ℤ) → first (angleTests lat lon) ≡ 0 → (cappedZ lat ≡ lat) × (cappedZ lon ≡ lon)
 kept-angles lat lon e =
-    let s = passed (badLatitude lat) refusal.geodetic (pick (badLongitude lon) refusal.geodetic 0) (λ q. omega arith) e in
-    let t = passed (badLongitude lon) refusal.geodetic 0 (λ q. omega arith) (s .1) in
-    (kept-latitude lat (s .0), kept-longitude lon (t .0))
+    let p = orders.passed (angleTests lat lon) tt e in
+    (kept-not sure-latitude lat (p .0), kept-not sure-longitude lon (p .1 .0))
 
 pub careful-geodetic : Careful geodeticFault cappedGeodetic
 unfolding anglesFault
@@ -165,14 +164,11 @@ careful-geodetic =
       kept = λ g e. let k = kept-angles (g .latitude) (g .longitude) e in rw (k .0, k .1);
     }
 
-same-code : (z : ℤ) → badCode (cappedZ z) ≡ badCode z
-same-code = outside-same (pos 1) (pos 4) (omega arith) (omega arith)
+sure-code : Sure cappedZ ellipsoidRange
+sure-code = sure-within (pos 1) (pos 4) (omega arith) (omega arith)
 
-same-offset : (z : ℤ) → badOffset (cappedZ z) ≡ badOffset z
-same-offset = outside-same (negsuc 1999999999) (pos 2000000000) (omega arith) (omega arith)
-
-kept-offset : (z : ℤ) → badOffset z ≡ false → cappedZ z ≡ z
-kept-offset = outside-kept (negsuc 1999999999) (pos 2000000000) (omega arith) (omega arith)
+sure-offset : Sure cappedZ offsetRange
+sure-offset = sure-up 2000000000 (omega arith)
 
 pub careful-origin : Careful originFault cappedOrigin
 unfolding originFault
@@ -180,13 +176,9 @@ careful-origin =
     record {
       same =
           λ o.
-          rw (same-code (o .ellipsoid), same-offset (o .«false_easting»), same-offset (o .«false_northing»), same-latitude (o .latitude), same-longitude (o .longitude));
+          rw (sure-code .same (o .ellipsoid), sure-offset .same (o .«false_easting»), sure-offset .same (o .«false_northing»), sure-latitude .same (o .latitude), sure-longitude .same (o .longitude));
       kept =
           λ o e.
-          let angles = first (angleTests (o .latitude) (o .longitude)) in
-          let a = passed (badCode (o .ellipsoid)) refusal.range (pick (badOffset (o .«false_easting»)) refusal.range (pick (badOffset (o .«false_northing»)) refusal.range angles)) (λ q. omega arith) e in
-          let b = passed (badOffset (o .«false_easting»)) refusal.range (pick (badOffset (o .«false_northing»)) refusal.range angles) (λ q. omega arith) (a .1) in
-          let c = passed (badOffset (o .«false_northing»)) refusal.range angles (λ q. omega arith) (b .1) in
-          let k = kept-angles (o .latitude) (o .longitude) (c .1) in
-          rw (outside-kept (pos 1) (pos 4) (omega arith) (omega arith) (o .ellipsoid) (a .0), k .0, k .1, kept-offset (o .«false_easting») (b .0), kept-offset (o .«false_northing») (c .0));
+          let p = orders.passed (originTests o) tt e in
+          rw (kept-not sure-code (o .ellipsoid) (p .0), kept-not sure-offset (o .«false_easting») (p .1 .0), kept-not sure-offset (o .«false_northing») (p .1 .1 .0), kept-not sure-latitude (o .latitude) (p .1 .1 .1 .0), kept-not sure-longitude (o .longitude) (p .1 .1 .1 .1 .0));
     }

@@ -1,22 +1,22 @@
 -- How long a written line can be.
-use Prim.Native.Nat.{ℕ, zero, suc, _+_, _*_, _/_, _%_, _^_, _≤_, _<_, max}
+use Prim.Native.Nat.{ℕ, zero, suc, _+_, _*_, _/_, _%_, _^_, _≤_, _<_}
 use mathlib.Core.Path.{_≡_, refl, sym, ap}
 use mathlib.Core.List.{[], _∷_}
 use mathlib.Core.Bool.{Bool, true, false, not, _&&_, _||_}
-use lib.Dec.{eqb, leb}
+use lib.Dec.{eqb}
 use lib.IntN.{ℤ, pos, negsuc, natAbs}
 use lib.ListN.{length, length-append}
 use native.Mathlib.Decide.{decLt}
 use native.Mathlib.Nat.{pow-suc}
 use native.Mathlib.Omega.{arith}
-use borrow.Author.Tests.{leb-true}
 use Rattle.refusal.specs.Order.{pick, first, _gives_}
 use Rattle.refusal.specs.Numbers as refusal
 use Rattle.chain.specs.declared.Id.{Id}
 use Rattle.chain.specs.declared.Point.{Point}
-use Rattle.chain.specs.Ranges.{within, issueRange, datumRange, epochRange, givenRange}
+use Rattle.ranges.proofs.Ranges.{natural, up-to}
+use Rattle.ranges.specs.Ranges.{within, issueRange, datumRange, epochRange, givenRange}
 use Rattle.chain.specs.Faults.{realizationRange, agrees, givenPosition, pointRange, pointFault}
-use Rattle.line.specs.Text.{decimal, integer, highest, letters, nameText, pointText, gridText, refusalText}
+use Rattle.line.specs.Text.{decimal, integer, highest, letters, nameText, pointText, projectedText, refusalText}
 use Rattle.line.proofs.Capped.{never, halves, passed}
 use Rattle.line.proofs.Texts as T
 
@@ -39,14 +39,11 @@ length-integer k (negsuc n) h = omega (arith, len-pow k (suc n) h)
 
 -- a number that cannot be negative
 length-plus : (k : ℕ) (a b : ℕ) (z : ℤ) → b < 10 ^ suc k → within (pos a) z (pos b) ≡ true → length (integer z) ≤ suc k
-unfolding integer within
-length-plus k a b (pos n) h e = len-pow k n (omega (arith, leb-true n b (halves (leb a n) (leb n b) e .1)))
-length-plus k a b (negsuc n) h e = absurd (never e)
-
-size-within : (a b : ℕ) (z : ℤ) → within (negsuc a) z (pos b) ≡ true → natAbs z ≤ max (suc a) b
-unfolding within
-size-within a b (pos n) e = omega (arith, leb-true n b e)
-size-within a b (negsuc n) e = omega (arith, leb-true n a (halves (leb n a) true e .0))
+unfolding integer
+length-plus k a b z h e =
+    let p = natural a z b e in
+    let l = p .high in
+    rw (p .is) (len-pow k (p .n) (omega arith))
 
 length-letters : (k w : ℕ) → length (letters k w) ≤ k
 unfolding letters
@@ -98,7 +95,7 @@ module _ (p : Point) (none : pointFault p ≡ 0) where
       go false q t = length-plus 6 1980000 2100000 (p .realization .epoch) (omega arith) t
 
   length-coordinate : (z : ℤ) → givenRange z ≡ true → length (integer z) ≤ 13
-  length-coordinate z e = length-integer 11 z (omega (arith, size-within 639999999999 640000000000 z e))
+  length-coordinate z e = length-integer 11 z (omega (arith, up-to 640000000000 z e))
 
   -- a point line, written for a point with no fault: at most 78 bytes
   pub length-point : length (pointText p) ≤ 78
@@ -107,10 +104,10 @@ module _ (p : Point) (none : pointFault p ≡ 0) where
       (simp length-append
       (omega (arith, length-name (p .id), length-plus 4 1 65535 (p .issue) (omega arith) (parts .0), length-plus 1 1 10 (p .realization .datum) (omega arith) (times .0), length-epoch, length-coordinate (p .position .x) (places .0), length-coordinate (p .position .y) (places .1), length-coordinate (p .position .z) (places .2))))
 
--- a grid line of numbers below 10^18 in size: at most 60 bytes
-pub length-grid : (id : Id) (e n : ℤ) → natAbs e < 10 ^ 18 → natAbs n < 10 ^ 18 → length (gridText id e n) ≤ 60
-length-grid id e n h k =
-    rw (sym (T.grid-is id e n)) (simp length-append (omega (arith, length-name id, length-integer 17 e h, length-integer 17 n k)))
+-- a projected line of numbers below 10^18 in size: at most 60 bytes
+pub length-projected : (id : Id) (e n : ℤ) → natAbs e < 10 ^ 18 → natAbs n < 10 ^ 18 → length (projectedText id e n) ≤ 60
+length-projected id e n h k =
+    rw (sym (T.projected-is id e n)) (simp length-append (omega (arith, length-name id, length-integer 17 e h, length-integer 17 n k)))
 
 -- a refusal line of a line number below 100,000: at most 11 bytes
 pub length-refusal : (line number : ℕ) → line < 100000 → number < 100 → length (refusalText line number) ≤ 11

@@ -18,7 +18,7 @@ use borrow.Author.Tests.{lt-ltb, le-ltb, eq-eqb, ne-eqb, ltb-true}
 use Rattle.refusal.specs.Order.{pick}
 use Rattle.chain.specs.declared.Id.{Id}
 use Rattle.chain.specs.declared.Point.{Point}
-use Rattle.line.specs.Text.{lastDigits, decimal, integer, highest, letters, nameText, lineText, pointText, gridText, refusalText, Wrote, leading, six}
+use Rattle.line.specs.Text.{lastDigits, decimal, integer, highest, letters, nameText, lineText, pointText, projectedText, refusalText, Wrote, leading, six}
 
 -- ---- stores one after the other
 sets-append : (vs ws l : List ℕ) (i : ℕ) → sets l i (vs ++ ws) ≡ sets (sets l i vs) (i + length vs) ws
@@ -269,9 +269,9 @@ refusal-is line number = refl
 tabbed : (a r : List ℕ) → (a ++ (9 ∷ [])) ++ r ≡ a ++ (9 ∷ r)
 tabbed a r = append-assoc a (9 ∷ []) r
 
-pub grid-is : (id : Id) (e n : ℤ) → (67 ∷ 9 ∷ []) ++ ((nameText id ++ (9 ∷ [])) ++ ((integer e ++ (9 ∷ [])) ++ (integer n ++ (10 ∷ [])))) ≡ gridText id e n
-unfolding gridText lineText
-grid-is id e n = simp tabbed
+pub projected-is : (id : Id) (e n : ℤ) → (67 ∷ 9 ∷ []) ++ ((nameText id ++ (9 ∷ [])) ++ ((integer e ++ (9 ∷ [])) ++ (integer n ++ (10 ∷ [])))) ≡ projectedText id e n
+unfolding projectedText lineText
+projected-is id e n = simp tabbed
 
 pub point-is : (p : Point)
     → (80 ∷ 9 ∷ [])

@@ -7,7 +7,7 @@ use lib.IntN.{ℤ, pos, negℤ}
 use Rattle.refusal.specs.Numbers as refusal
 use Rattle.refusal.specs.Order.{pick}
 use Rattle.chain.specs.declared.Id.{Id}
-use Rattle.chain.specs.Ranges.{within}
+use Rattle.ranges.specs.Ranges.{within}
 use Rattle.chain.specs.Faults.{pointFault, stepFault}
 use Rattle.angle.specs.Ranges.{originFault, anglesFault}
 use Rattle.line.specs.declared.Fault.{Fault}

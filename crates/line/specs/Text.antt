@@ -58,8 +58,8 @@ pointText p =
     ∷ [])
 
 -- C, id, E, N
-unfoldable pub gridText : Id → ℤ → ℤ → List ℕ
-gridText id e n = lineText ((letterC ∷ []) ∷ nameText id ∷ integer e ∷ integer n ∷ [])
+unfoldable pub projectedText : Id → ℤ → ℤ → List ℕ
+projectedText id e n = lineText ((letterC ∷ []) ∷ nameText id ∷ integer e ∷ integer n ∷ [])
 
 -- R, line number, refusal number
 unfoldable pub refusalText : ℕ → ℕ → List ℕ

@@ -20,8 +20,8 @@ pub use number::read_number;
 pub use origin_line::read_origin;
 pub use point_line::read_point;
 pub use step_line::read_step;
-pub use write::write_grid;
 pub use write::write_point;
+pub use write::write_projected;
 pub use write::write_refusal;
 
 // Why a line is refused: a number of the refusal table.

@@ -6,7 +6,7 @@ ghost use mathlib.Core.Path.{_≡_};
 ghost use mathlib.Core.List.{[], _∷_, _++_};
 ghost use Prim.Native.Nat.{_+_, _<_, _/_, _%_};
 ghost use lib.IntN.{natAbs};
-ghost use Rattle.line.specs.Text.{decimal, integer, letters, nameText, pointText, gridText, refusalText, Wrote, leading, six};
+ghost use Rattle.line.specs.Text.{decimal, integer, letters, nameText, pointText, projectedText, refusalText, Wrote, leading, six};
 
 const MINUS: u8 = 45;
 
@@ -151,8 +151,8 @@ pub fn write_point(out: &mut [u8], at: usize, p: chain::Point) -> usize
 }
 
 // C, id, E, N; millimetres.
-pub fn write_grid(out: &mut [u8], at: usize, id: chain::Id, e: i64, n: i64) -> usize
-    ensures { λ r. ⌜ Wrote (now (out .entry)) at (gridText id e n) (now (out .exit)) r ⌝ }
+pub fn write_projected(out: &mut [u8], at: usize, id: chain::Id, e: i64, n: i64) -> usize
+    ensures { λ r. ⌜ Wrote (now (out .entry)) at (projectedText id e n) (now (out .exit)) r ⌝ }
 {
     let a = letter(out, at, b'C');
     let b = name(out, a, id);

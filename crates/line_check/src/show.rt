@@ -20,14 +20,14 @@ fn print(text: &[u8], n: usize) {
     }
 }
 
-// Two numbers, as a grid line of a point with no name.
+// Two numbers, as a projected line of a point with no name.
 fn pair(a: i64, b: i64) {
-    grid(chain::Id { high: 0, low: 0 }, a, b);
+    projected(chain::Id { high: 0, low: 0 }, a, b);
 }
 
-fn grid(id: chain::Id, a: i64, b: i64) {
+fn projected(id: chain::Id, a: i64, b: i64) {
     let mut out = [0u8; 64];
-    let n = line::write_grid(&mut out, 0, id, a, b);
+    let n = line::write_projected(&mut out, 0, id, a, b);
     print(&out, n);
 }
 
@@ -43,7 +43,7 @@ pub(crate) fn number_field(f: &[u8]) {
 
 pub(crate) fn name_field(f: &[u8]) {
     match line::read_name(f) {
-        NameField::Name(id) => grid(id, 0, 0),
+        NameField::Name(id) => projected(id, 0, 0),
         NameField::Refused(f) => number(f.number),
     }
 }
@@ -122,7 +122,7 @@ pub(crate) fn geodetic(l: &[u8]) {
         GeodeticLine::Refused(f) => number(f.number),
         GeodeticLine::Geodetic(g) => {
             let id = g.id;
-            grid(id, g.latitude, g.longitude);
+            projected(id, g.latitude, g.longitude);
         }
     }
 }

@@ -10,7 +10,7 @@ use Rattle.refusal.proofs.Orders.{first-append}
 use Rattle.angle.specs.declared.Origin.{Origin}
 use Rattle.angle.specs.declared.OriginNumbers.{OriginNumbers}
 use Rattle.angle.specs.declared.OriginAnswer.the-variants as made
-use Rattle.angle.specs.declared.GridMillimetres.{GridMillimetres}
+use Rattle.angle.specs.declared.ProjectedMillimetres.{ProjectedMillimetres}
 use Rattle.angle.specs.Ranges.{originTests, pointTests, originFault}
 use Rattle.angle.specs.Cassini.{originMade, originOf, cassiniFromOf, cassiniOf, cassiniMillimetresFromOf, cassiniMillimetresOf}
 use Rattle.line.specs.declared.OriginLine.the-variants as origin-line
@@ -40,15 +40,15 @@ never-refused o n e q = let z : _≡_ {A = ℕ} 0 1 = cc (origin-made o e) in om
 pub is-made : (o : OriginNumbers) (m : Origin) → originFault o ≡ 0 → originOf o ≡ made.Made m → m ≡ originMade o
 is-made o m e q = cc (origin-made o e)
 
-same-grid : (o : OriginNumbers) (lat lon : ℤ) → originFault o ≡ 0 → cassiniMillimetresFromOf (originMade o) lat lon ≡ cassiniMillimetresOf o lat lon
+same-projected : (o : OriginNumbers) (lat lon : ℤ) → originFault o ≡ 0 → cassiniMillimetresFromOf (originMade o) lat lon ≡ cassiniMillimetresOf o lat lon
 unfolding cassiniMillimetresFromOf cassiniMillimetresOf cassiniFromOf cassiniOf originMade originFault
-same-grid o lat lon e =
+same-projected o lat lon e =
     let f = first-append (originTests o) (pointTests (o .longitude) lat lon) tt in
     rw (f, e)
 
 -- what the values made once answer, at angles as the machine reads them, the origin's numbers answer
-pub on-grid : (o : OriginNumbers) (lat lon : ℤ) {m : Origin} {lat' lon' : ℤ} {g : GridMillimetres} → originFault o ≡ 0 → m ≡ originMade o → lat' ≡ lat → lon' ≡ lon → cassiniMillimetresFromOf m lat' lon' ≡ g → cassiniMillimetresOf o lat lon ≡ g
-on-grid o lat lon f e a b q = sym (same-grid o lat lon f) ∙ (rw (← e, ← a, ← b) q)
+pub on-projected : (o : OriginNumbers) (lat lon : ℤ) {m : Origin} {lat' lon' : ℤ} {g : ProjectedMillimetres} → originFault o ≡ 0 → m ≡ originMade o → lat' ≡ lat → lon' ≡ lon → cassiniMillimetresFromOf m lat' lon' ≡ g → cassiniMillimetresOf o lat lon ≡ g
+on-projected o lat lon f e a b q = sym (same-projected o lat lon f) ∙ (rw (← e, ← a, ← b) q)
 
 -- ---- what the state's origin says of the plan's
 pub none-of : (b : Bool) (m : Origin) (x : Option OriginNumbers) → Made b m x → b ≡ false → x ≡ none

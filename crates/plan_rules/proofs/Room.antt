@@ -10,7 +10,7 @@ use lib.ListN.{length, getD}
 use Rattle.refusal.specs.Numbers as refusal
 use Rattle.refusal.specs.Order.{pick}
 use Rattle.angle.specs.declared.OriginNumbers.{OriginNumbers}
-use Rattle.angle.specs.declared.GridMillimetres.{GridMillimetres}
+use Rattle.angle.specs.declared.ProjectedMillimetres.{ProjectedMillimetres}
 use Rattle.angle.specs.Ranges.{originFault}
 use Rattle.angle.proofs.Outcomes as projection
 use Rattle.line.specs.declared.Geodetic.{Geodetic}
@@ -23,11 +23,11 @@ use Rattle.line.specs.Fields.{said}
 use Rattle.line.specs.Forms.{originForm, geodeticForm}
 use Rattle.line.specs.Lines.{readOrigin, readGeodetic, geodeticFault}
 use Rattle.line.specs.Text.{refusalText, Wrote}
-use Rattle.line.proofs.Lengths.{length-grid, length-refusal}
+use Rattle.line.proofs.Lengths.{length-projected, length-refusal}
 use Rattle.line.proofs.Good as line
 use Rattle.listing.specs.Fold.{roomFor, Prints}
 use Rattle.listing.proofs.Laws.{printed-fits, prints}
-use Rattle.plan_rules.specs.Plan.{Plan, fresh, rules, notFirst, noOrigin, originAnswer, gridAnswer, laid, geodeticAnswer, answerOf, planOf}
+use Rattle.plan_rules.specs.Plan.{Plan, fresh, rules, notFirst, noOrigin, originAnswer, projectedAnswer, laid, geodeticAnswer, answerOf, planOf}
 use Rattle.plan_rules.proofs.Laws.{next-line}
 
 -- the number of a line that its reader refused, among those of the plan so far
@@ -51,7 +51,7 @@ module _ (p : Plan) (l : List ℕ) (full : 0 < length l) (few : p .line < 100000
       good true = refused refusal.place (omega arith)
       good false = omega arith
 
-  -- a good position line has 8 bytes or more, and the grid line at most 60
+  -- a good position line has 8 bytes or more, and the projected line at most 60
   geodetic : length (geodeticAnswer p (readGeodetic l)) ≤ 11 * length l
   unfolding readGeodetic
   geodetic =
@@ -62,8 +62,8 @@ module _ (p : Plan) (l : List ℕ) (full : 0 < length l) (few : p .line < 100000
       good : (g : Geodetic) → 8 ≤ length l → (o : Option OriginNumbers) → length (laid (p .line) o g) ≤ 11 * length l
       good g h none = refused refusal.earlier (omega arith)
       good g h (some o) =
-          projection.outcome o (g .latitude) (g .longitude) (λ (r : GridMillimetres). length (gridAnswer (p .line) (g .id) r) ≤ 11 * length l)
-          (λ e n i j. omega (arith, length-grid (g .id) e n (omega arith) (omega arith))) refused
+          projection.outcome o (g .latitude) (g .longitude) (λ (r : ProjectedMillimetres). length (projectedAnswer (p .line) (g .id) r) ≤ 11 * length l)
+          (λ e n i j. omega (arith, length-projected (g .id) e n (omega arith) (omega arith))) refused
 
   line-short : length (answerOf p l) ≤ 11 * length l
   unfolding answerOf

@@ -8,8 +8,8 @@ use Rattle.refusal.specs.Numbers as refusal
 use Rattle.refusal.specs.Order.{pick, first, _gives_}
 use Rattle.chain.specs.declared.Id.{Id}
 use Rattle.angle.specs.declared.OriginNumbers.{OriginNumbers}
-use Rattle.angle.specs.declared.GridMillimetres.{GridMillimetres}
-use Rattle.angle.specs.declared.GridMillimetres.the-variants as grid
+use Rattle.angle.specs.declared.ProjectedMillimetres.{ProjectedMillimetres}
+use Rattle.angle.specs.declared.ProjectedMillimetres.the-variants as projected
 use Rattle.angle.specs.Cassini.{cassiniMillimetresOf}
 use Rattle.line.specs.declared.Geodetic.{Geodetic}
 use Rattle.line.specs.declared.OriginLine.{OriginLine}
@@ -18,7 +18,7 @@ use Rattle.line.specs.declared.GeodeticLine.{GeodeticLine}
 use Rattle.line.specs.declared.GeodeticLine.the-variants as geodetic-line
 use Rattle.line.specs.Bytes.{letterO, letterG}
 use Rattle.line.specs.Lines.{readOrigin, readGeodetic}
-use Rattle.line.specs.Text.{gridText, refusalText}
+use Rattle.line.specs.Text.{projectedText, refusalText}
 use Rattle.listing.specs.Fold.{Rules, printed, byLetter}
 
 -- what has been read so far: the number of the line to come, and the accepted origin
@@ -49,13 +49,13 @@ noOrigin none = true
 noOrigin (some o) = false
 
 -- C, id, easting, northing
-abbrev pub gridAnswer : ℕ → Id → GridMillimetres → List ℕ
-gridAnswer line id (grid.Millimetres e n) = gridText id e n
-gridAnswer line id (grid.Refused number) = refusalText line number
+abbrev pub projectedAnswer : ℕ → Id → ProjectedMillimetres → List ℕ
+projectedAnswer line id (projected.Millimetres e n) = projectedText id e n
+projectedAnswer line id (projected.Refused number) = refusalText line number
 
 abbrev pub laid : ℕ → Option OriginNumbers → Geodetic → List ℕ
 laid line none g = refusalText line refusal.earlier
-laid line (some o) g = gridAnswer line (g .id) (cassiniMillimetresOf o (g .latitude) (g .longitude))
+laid line (some o) g = projectedAnswer line (g .id) (cassiniMillimetresOf o (g .latitude) (g .longitude))
 
 abbrev pub geodeticAnswer : Plan → GeodeticLine → List ℕ
 geodeticAnswer p (geodetic-line.Refused f) =

@@ -15,9 +15,9 @@ ghost use Rattle.plan_rules.specs.Plan.{Plan, originAnswer, originAfter,
 ghost use Rattle.plan_rules.specs.State.{Holds, Gave, withOrigin, afterIn};
 use crate::Answered;
 use crate::State;
-use angle::GridMillimetres;
 use angle::OriginAnswer;
 use angle::OriginNumbers;
+use angle::ProjectedMillimetres;
 use line::Geodetic;
 use line::GeodeticLine;
 use line::OriginLine;
@@ -108,10 +108,10 @@ fn lay(state: State, g: Geodetic, out: &mut [u8], at: usize) -> Answered
     }
     let origin = state.origin;
     match angle::cassini_millimetres_from(origin, g.latitude, g.longitude) {
-        GridMillimetres::Refused(number) => refuse(state, number, out, at),
-        GridMillimetres::Millimetres(easting, northing) => {
+        ProjectedMillimetres::Refused(number) => refuse(state, number, out, at),
+        ProjectedMillimetres::Millimetres(easting, northing) => {
             let id = g.id;
-            let past = line::write_grid(out, at, id, easting, northing);
+            let past = line::write_projected(out, at, id, easting, northing);
             let next = after(state);
             Answered {
                 state: next,

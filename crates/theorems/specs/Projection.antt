@@ -8,9 +8,9 @@ use Rattle.rounding.specs.Decimals.{wholeOf}
 use Rattle.angle.specs.declared.OriginNumbers.{OriginNumbers}
 use Rattle.angle.specs.declared.Cartesian.the-variants as cartesian
 use Rattle.angle.specs.declared.CartesianUnits.the-variants.{Units}
-use Rattle.angle.specs.declared.Grid.the-variants as grid
-use Rattle.angle.specs.declared.GridMillimetres.the-variants.{Millimetres}
-use Rattle.angle.specs.Floats.{metres}
+use Rattle.angle.specs.declared.Projected.the-variants as projected
+use Rattle.angle.specs.declared.ProjectedMillimetres.the-variants.{Millimetres}
+use Rattle.angle.specs.Units.{metres}
 use Rattle.angle.specs.Ranges.{originFault}
 use Rattle.angle.specs.Cartesian.{cartesianOf, cartesianUnitsOf}
 use Rattle.angle.specs.Cassini.{cassiniOf, cassiniMillimetresOf}
@@ -18,7 +18,7 @@ use Rattle.angle.proofs.Sizes.{most}
 
 -- every accepted origin goes to exactly its false easting and northing
 abbrev pub AtOrigin : Type 0
-AtOrigin = (o : OriginNumbers) → originFault o ≡ 0 → cassiniOf o (o .latitude) (o .longitude) ≡ grid.Metres (metres (o .«false_easting»)) (metres (o .«false_northing»))
+AtOrigin = (o : OriginNumbers) → originFault o ≡ 0 → cassiniOf o (o .latitude) (o .longitude) ≡ projected.Metres (metres (o .«false_easting»)) (metres (o .«false_northing»))
 
 -- a position's X, Y and Z: finite, and at most so many metres in size
 pub record Bounded (a b c : Float) : Type 0 where
@@ -34,8 +34,8 @@ pub record Laid (a b : Float) : Type 0 where
   pub east : Among a (most 2500000 1)
   pub north : Among b (most 3900000 1)
 
-abbrev pub GridFinite : Type 0
-GridFinite = (o : OriginNumbers) (lat lon : ℤ) (e n : Float) → cassiniOf o lat lon ≡ grid.Metres e n → Laid e n
+abbrev pub ProjectedFinite : Type 0
+ProjectedFinite = (o : OriginNumbers) (lat lon : ℤ) (e n : Float) → cassiniOf o lat lon ≡ projected.Metres e n → Laid e n
 
 -- what is answered in metres is answered in whole units, and in whole millimetres
 abbrev pub UnitsAnswered : Type 0
@@ -46,11 +46,11 @@ UnitsAnswered =
 abbrev pub MillimetresAnswered : Type 0
 MillimetresAnswered =
     (o : OriginNumbers) (lat lon : ℤ) (e n : Float) →
-    cassiniOf o lat lon ≡ grid.Metres e n → cassiniMillimetresOf o lat lon ≡ Millimetres (wholeOf e 3) (wholeOf n 3)
+    cassiniOf o lat lon ≡ projected.Metres e n → cassiniMillimetresOf o lat lon ≡ Millimetres (wholeOf e 3) (wholeOf n 3)
 
 pub record Projection : Type 0 where
   pub origin : AtOrigin
   pub position : CartesianFinite
-  pub grid : GridFinite
+  pub projected : ProjectedFinite
   pub units : UnitsAnswered
   pub millimetres : MillimetresAnswered

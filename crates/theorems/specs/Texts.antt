@@ -12,7 +12,7 @@ use Rattle.line.specs.declared.PointLine.the-variants as line
 use Rattle.line.specs.Number.{numberOf}
 use Rattle.line.specs.Name.{nameOf}
 use Rattle.line.specs.Lines.{readPoint}
-use Rattle.line.specs.Text.{integer, pointText, gridText, refusalText}
+use Rattle.line.specs.Text.{integer, pointText, projectedText, refusalText}
 use Rattle.listing.specs.Fold.{roomFor}
 use Rattle.sheet_rules.specs.Sheet.{sheetOf}
 use Rattle.plan_rules.specs.Plan.{planOf}
@@ -29,7 +29,7 @@ PointBack = (p : Point) (name : List ℕ) → nameOf name ≡ some (p .id) → p
 -- ---- how long a written line is, its line feed counted
 pub record Lengths : Type 0 where
   pub point : (p : Point) → pointFault p ≡ 0 → length (pointText p) ≤ 78
-  pub grid : (id : Id) (e n : ℤ) → natAbs e < 10 ^ 18 → natAbs n < 10 ^ 18 → length (gridText id e n) ≤ 60
+  pub projected : (id : Id) (e n : ℤ) → natAbs e < 10 ^ 18 → natAbs n < 10 ^ 18 → length (projectedText id e n) ≤ 60
   pub refusal : (line number : ℕ) → line < 100000 → number < 100 → length (refusalText line number) ≤ 11
 
 -- ---- the room for a text: `roomFor` the input's length is enough

@@ -13,7 +13,7 @@ use crate::Position;
 use crate::Realization;
 use crate::Step;
 use crate::checks;
-use crate::ranges;
+use crate::points;
 use crate::steps;
 
 fn forward_step(step: Step, p: Position) -> Position
@@ -54,7 +54,7 @@ fn forward_walk(chain: Chain, point: Point, reached: Realization) -> Answer
     while i < n {
         let step = chain.steps[i];
         p = forward_step(step, p);
-        if !ranges::in_area(p) {
+        if !points::in_area(p) {
             return Answer::Refused(refusal::LEFT);
         }
         i += 1;
@@ -73,7 +73,7 @@ fn inverse_walk(chain: Chain, point: Point, reached: Realization) -> Answer
         i -= 1;
         let step = chain.steps[i];
         p = inverse_step(step, p);
-        if !ranges::in_area(p) {
+        if !points::in_area(p) {
             return Answer::Refused(refusal::LEFT);
         }
     }

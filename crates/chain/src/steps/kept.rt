@@ -15,7 +15,7 @@ use crate::Position;
 use crate::Realization;
 use crate::Step;
 use crate::faults;
-use crate::ranges;
+use crate::points;
 use crate::steps;
 use crate::steps::Ready;
 use crate::steps::Scale;
@@ -69,21 +69,21 @@ fn ready_at(numbers: &Numbers, index: usize) -> Ready
 fn fixed_in_range(g: Position) -> bool
     ensures { λ r. ⌜ r ≡ readyRange (Ready.Fixed g) ⌝ }
 {
-    ranges::three_within(-100000000, 100000000, g.x, g.y, g.z)
+    ranges::three_within(-100000000, g.x, g.y, g.z, 100000000)
 }
 
 fn turn_in_range(t: Turn) -> bool
     ensures { λ r. ⌜ r ≡ readyRange (Ready.Turned t) ⌝ }
 {
-    ranges::three_within(-100000000, 100000000, t.dx, t.dy, t.dz)
-        & (ranges::three_within(-4848137, 4848137, t.rx, t.ry, t.rz)
+    ranges::three_within(-100000000, t.dx, t.dy, t.dz, 100000000)
+        & (ranges::three_within(-4848137, t.rx, t.ry, t.rz, 4848137)
             & ranges::within(-2000000, t.s, 2000000))
 }
 
 fn scale_in_range(t: Scale) -> bool
     ensures { λ r. ⌜ r ≡ readyRange (Ready.Scaled t) ⌝ }
 {
-    ranges::three_within(-1971000000000000000, 1971000000000000000, t.kx, t.ky, t.kz)
+    ranges::three_within(-1971000000000000000, t.kx, t.ky, t.kz, 1971000000000000000)
         & ranges::within(-1202000, t.slope, 1202000)
 }
 
@@ -111,7 +111,7 @@ fn carry(numbers: &Numbers, length: usize, point: Point, end: Realization) -> An
             return Answer::Refused(refusal::RANGE);
         }
         p = steps::forward_ready(r, p);
-        if !ranges::in_area(p) {
+        if !points::in_area(p) {
             return Answer::Refused(refusal::LEFT);
         }
         i += 1;
@@ -145,11 +145,11 @@ pub fn forward_ready(
         return Answer::Refused(refusal::NINTH);
     }
     let here = point.realization;
-    if !((length == 0) | ranges::same_realization(here, start)) {
+    if !((length == 0) | points::same_realization(here, start)) {
         return Answer::Refused(refusal::START);
     }
     let position = point.position;
-    if !ranges::in_area(position) {
+    if !points::in_area(position) {
         return Answer::Refused(refusal::AREA);
     }
     carry(numbers, length, point, end_with(length, here, end))

@@ -1,5 +1,6 @@
 -- `angle::ellipsoids::figure` meets its contract: each of the table's four rows is the printed one, which antt computes. Assumes nothing.
 use borrow.Author.Needs.{needs}
+use borrow.Author.Tests.{not-true, not-false}
 use mathlib.Core.Path.{_≡_, refl, sym, ap, _∙_, subst}
 use mathlib.Core.Bool.{Bool, true, false}
 use mathlib.Core.List.{List, [], _∷_}
@@ -12,12 +13,12 @@ use lib.Ieee.{Float, binary64, nan, ofBits, round}
 use mir.Syntax.{w64}
 use mir.Val.{SFits, toZ, ofZ}
 use mir.ValLaws.{toZ-ofZ}
-use Rattle.angle.specs.Floats.{near, #}
-use Rattle.angle.specs.Ranges.{outside, badCode}
+use Rattle.elementary.specs.Floats.{#}
+use Rattle.ranges.specs.Ranges.{ellipsoidRange}
 use Rattle.angle.specs.Ellipsoids.{table, row, figureOf}
 use Rattle.angle.specs.declared.Figure.{Figure}
-use Rattle.angle.proofs.Tests.{told}
-use Rattle.angle.proofs.Wholes.{Natural, natural, fits, sub-pos}
+use Rattle.ranges.proofs.Ranges.{Natural, natural, natural-holds, told}
+use Rattle.angle.proofs.Wholes.{fits, sub-pos}
 use Rattle.angle.proofs.ellipsoids.figure.Statement.{statement}
 use Rattle.angle.proofs.ellipsoids.figure.Tie as tie
 
@@ -35,7 +36,7 @@ patterns =
     ∷ []
 
 rows : patterns ≡ table
-unfolding patterns table near round ofBits
+unfolding patterns table round ofBits
 rows = refl
 
 -- inside the table, what stands past its end is not read
@@ -64,39 +65,40 @@ is-row (suc n) h k =
 
 -- ---- any other
 zeros : row (f64 0) (f64 0) ≡ row (# 0) (# 0)
-unfolding near round ofBits
+unfolding round ofBits
 zeros = refl
 
-never-true : false ≡ true → ⊥
-never-true e = subst T (sym e) tt
+-- a number from 1 to 4 is a code
+known : (n : ℕ) → 1 ≤ n → n ≤ 4 → ellipsoidRange (pos n) ≡ false → ⊥
+known n l h e = subst T (sym (natural-holds 1 n 4 l h) ∙ e) tt
 
-no-row : (z : ℤ) → badCode z ≡ true → row (# 0) (# 0) ≡ figureOf z
-unfolding outside figureOf table
+no-row : (z : ℤ) → ellipsoidRange z ≡ false → row (# 0) (# 0) ≡ figureOf z
+unfolding figureOf table
 no-row (negsuc n) h = refl
 no-row (pos zero) h = refl
-no-row (pos (suc zero)) h = absurd (never-true h)
-no-row (pos (suc (suc zero))) h = absurd (never-true h)
-no-row (pos (suc (suc (suc zero)))) h = absurd (never-true h)
-no-row (pos (suc (suc (suc (suc zero))))) h = absurd (never-true h)
+no-row (pos (suc zero)) h = absurd (known 1 (omega arith) (omega arith) h)
+no-row (pos (suc (suc zero))) h = absurd (known 2 (omega arith) (omega arith) h)
+no-row (pos (suc (suc (suc zero)))) h = absurd (known 3 (omega arith) (omega arith) h)
+no-row (pos (suc (suc (suc (suc zero))))) h = absurd (known 4 (omega arith) (omega arith) h)
 no-row (pos (suc (suc (suc (suc (suc n)))))) h = refl
 
 -- ---- the code on the way
-is-outside-requires : tie.Need-is-outside-requires
-is-outside-requires c κs = search needs
+is-ellipsoid-requires : tie.Need-is-ellipsoid-requires
+is-ellipsoid-requires c κs = search needs
 
-bad : (c : tie.After-is-outside) (t : Bool) → c .is-outside .result ≡ t → badCode (c .before .args .code) ≡ t
-bad c t h = told (pos 1) (pos 4) (c .before .args .code) (c .before .fits .code) (c .is-outside .ensures) h
+ranged : (c : tie.After-is-ellipsoid) (t : Bool) → c .is-ellipsoid .result ≡ t → ellipsoidRange (c .before .args .code) ≡ t
+ranged c t h = told (pos 1) (c .before .args .code) (pos 4) (c .before .fits .code) (c .is-ellipsoid .ensures) h
 
 returns : tie.Need-returns
-returns c = zeros ∙ no-row (c .before .before .args .code) (bad (c .before) true (c .if1 .taken))
+returns c = zeros ∙ no-row (c .before .before .args .code) (ranged (c .before) false (not-true _ (c .if1 .taken)))
 
 -- the code is from 1 to 4, and the machine's index is one less
 module _ (c : tie.Else1) where
   abbrev z : ℤ
   z = c .before .before .args .code
 
-  code : Natural 1 4 z
-  code = natural 1 4 z (bad (c .before) false (c .if1 .left))
+  code : Natural 1 z 4
+  code = natural 1 z 4 (ranged (c .before) true (not-false _ (c .if1 .left)))
 
   less : toZ w64 (ofZ w64 z) -ℤ pos 1 ≡ pos (code .n - 1)
   less = ap (λ (y : ℤ). y -ℤ pos 1) (toZ-ofZ w64 z (c .before .before .fits .code) ∙ code .is) ∙ sub-pos (code .n) 1 (code .low)
@@ -129,4 +131,4 @@ returns-2 c =
 
 pub figure-spec : {M : Type 1} → statement M
 figure-spec =
-    tie.close (tie.spec is-outside-requires returns sub-i cast-i mul-result array-copy-out-result returns-2)
+    tie.close (tie.spec is-ellipsoid-requires returns sub-i cast-i mul-result array-copy-out-result returns-2)

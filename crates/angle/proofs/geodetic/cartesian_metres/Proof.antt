@@ -1,7 +1,8 @@
 -- `angle::geodetic::cartesian_metres` meets its contract: each return has the tests that led there. Assumes nothing.
 use borrow.Author.Needs.{needs}
+use borrow.Author.Tests.{not-true, not-false}
 use mathlib.Core.Path.{_≡_, sym, ap, ap₂, _∙_}
-use mathlib.Core.Bool.{Bool, true, false}
+use mathlib.Core.Bool.{Bool, true, false, not}
 use mathlib.Core.List.{[], _∷_}
 use lib.IntN.{ℤ, pos, negsuc}
 use mir.Syntax.{w64}
@@ -9,44 +10,45 @@ use mir.Val.{toZ, ofZ}
 use mir.ValLaws.{toZ-ofZ}
 use Rattle.refusal.specs.Order.{_gives_, first}
 use Rattle.refusal.specs.Numbers.{range, geodetic}
-use Rattle.angle.specs.Ranges.{badCode, badHeight, angleTests, cartesianTests, anglesFault}
+use Rattle.ranges.specs.Ranges.{ellipsoidRange, heightRange}
+use Rattle.ranges.proofs.Ranges.{told}
+use Rattle.angle.specs.Ranges.{angleTests, cartesianTests, anglesFault}
 use Rattle.angle.specs.Ellipsoids.{ellipsoidOf}
 use Rattle.angle.specs.Cartesian.{cartesianAt, cartesianOf}
 use Rattle.angle.specs.declared.Cartesian.the-variants.{Refused}
 use Rattle.refusal.proofs.Orders.{Passed, passed, none, stop, on, unless-some}
-use Rattle.angle.proofs.Tests.{told}
 use Rattle.angle.proofs.geodetic.cartesian_metres.Statement.{statement}
 use Rattle.angle.proofs.geodetic.cartesian_metres.Tie as tie
 
 -- ---- the answer by the tests
 module _ (z lat lon h : ℤ) where
-  by-code : badCode z ≡ true → Refused range ≡ cartesianOf z lat lon h
+  by-code : ellipsoidRange z ≡ false → Refused range ≡ cartesianOf z lat lon h
   unfolding cartesianOf
   by-code e = rw e
 
-  by-angles : badCode z ≡ false → (first (angleTests lat lon) ≡ 0 → ⊥) → Refused (first (angleTests lat lon)) ≡ cartesianOf z lat lon h
+  by-angles : ellipsoidRange z ≡ true → (first (angleTests lat lon) ≡ 0 → ⊥) → Refused (first (angleTests lat lon)) ≡ cartesianOf z lat lon h
   unfolding cartesianOf
   by-angles e f =
-      rw (e, stop (angleTests lat lon) ((badHeight h gives geodetic) ∷ []) f)
+      rw (e, stop (angleTests lat lon) ((not (heightRange h) gives geodetic) ∷ []) f)
       (sym (unless-some (first (angleTests lat lon)) Refused (cartesianAt (ellipsoidOf z) lat lon h) f))
 
-  by-height : badCode z ≡ false → Passed (angleTests lat lon) → badHeight h ≡ true → Refused geodetic ≡ cartesianOf z lat lon h
+  by-height : ellipsoidRange z ≡ true → Passed (angleTests lat lon) → heightRange h ≡ false → Refused geodetic ≡ cartesianOf z lat lon h
   unfolding cartesianOf
-  by-height e p k = rw (e, on (angleTests lat lon) ((badHeight h gives geodetic) ∷ []) p, k)
+  by-height e p k = rw (e, on (angleTests lat lon) ((not (heightRange h) gives geodetic) ∷ []) p, k)
 
   by-none : Passed (cartesianTests z lat lon h) → cartesianAt (ellipsoidOf z) lat lon h ≡ cartesianOf z lat lon h
   unfolding cartesianOf
   by-none p = rw (none (cartesianTests z lat lon h) p)
 
 -- ---- the tests on the way
-is-outside-requires : tie.Need-is-outside-requires
-is-outside-requires c κs = search needs
+is-ellipsoid-requires : tie.Need-is-ellipsoid-requires
+is-ellipsoid-requires c κs = search needs
 
-code : (c : tie.After-is-outside) (t : Bool) → c .is-outside .result ≡ t → badCode (c .before .args .code) ≡ t
-code c t h = told (pos 1) (pos 4) (c .before .args .code) (c .before .fits .code) (c .is-outside .ensures) h
+code : (c : tie.After-is-ellipsoid) (t : Bool) → c .is-ellipsoid .result ≡ t → ellipsoidRange (c .before .args .code) ≡ t
+code c t h = told (pos 1) (c .before .args .code) (pos 4) (c .before .fits .code) (c .is-ellipsoid .ensures) h
 
 returns : tie.Need-returns
-returns c = let a = c .before .before .args in by-code (a .code) (a .latitude) (a .longitude) (a .height) (code (c .before) true (c .if1 .taken))
+returns c = let a = c .before .before .args in by-code (a .code) (a .latitude) (a .longitude) (a .height) (code (c .before) false (not-true _ (c .if1 .taken)))
 
 angles-fault-requires : tie.Need-angles-fault-requires
 angles-fault-requires c κs = search needs
@@ -61,33 +63,33 @@ returns-2 : tie.Need-returns-2
 returns-2 c =
     let a = c .before .before .before .before .args in
     ap Refused (angles (c .before))
-    ∙ by-angles (a .code) (a .latitude) (a .longitude) (a .height) (code (c .before .before .before) false (c .before .before .if1 .left))
+    ∙ by-angles (a .code) (a .latitude) (a .longitude) (a .height) (code (c .before .before .before) true (not-false _ (c .before .before .if1 .left)))
     (λ (z : first (angleTests (a .latitude) (a .longitude)) ≡ 0). c .if2 .taken (angles (c .before) ∙ z))
 
-is-outside-requires-2 : tie.Need-is-outside-requires-2
-is-outside-requires-2 c κs = search needs
+is-height-requires : tie.Need-is-height-requires
+is-height-requires c κs = search needs
 
 passed-angles : (c : tie.Else2) → Passed (angleTests (c .before .before .before .before .args .latitude) (c .before .before .before .before .args .longitude))
 passed-angles c =
     let a = c .before .before .before .before .args in
     passed (angleTests (a .latitude) (a .longitude)) tt (sym (angles (c .before)) ∙ c .if2 .left)
 
-height : (c : tie.After-is-outside2) (t : Bool) → c .is-outside2 .result ≡ t → badHeight (c .before .before .before .before .before .args .height) ≡ t
+height : (c : tie.After-is-height) (t : Bool) → c .is-height .result ≡ t → heightRange (c .before .before .before .before .before .args .height) ≡ t
 height c t h =
     let a = c .before .before .before .before .before in
-    told (negsuc 49999999) (pos 900000000) (a .args .height) (a .fits .height) (c .is-outside2 .ensures) h
+    told (negsuc 49999999) (a .args .height) (pos 900000000) (a .fits .height) (c .is-height .ensures) h
 
 returns-3 : tie.Need-returns-3
 returns-3 c =
     let a = c .before .before .before .before .before .before .args in
-    by-height (a .code) (a .latitude) (a .longitude) (a .height) (code (c .before .before .before .before .before) false (c .before .before .before .before .if1 .left)) (passed-angles (c .before .before))
-    (height (c .before) true (c .if3 .taken))
+    by-height (a .code) (a .latitude) (a .longitude) (a .height) (code (c .before .before .before .before .before) true (not-false _ (c .before .before .before .before .if1 .left))) (passed-angles (c .before .before))
+    (height (c .before) false (not-true _ (c .if3 .taken)))
 
 all-passed : (c : tie.Else3)
     → Passed (cartesianTests (c .before .before .before .before .before .before .args .code) (c .before .before .before .before .before .before .args .latitude) (c .before .before .before .before .before .before .args .longitude) (c .before .before .before .before .before .before .args .height))
 all-passed c =
     let p = passed-angles (c .before .before) in
-    (code (c .before .before .before .before .before) false (c .before .before .before .before .if1 .left), (p .0, (p .1 .0, (height (c .before) false (c .if3 .left), tt))))
+    (ap not (code (c .before .before .before .before .before) true (not-false _ (c .before .before .before .before .if1 .left))), (p .0, (p .1 .0, (ap not (height (c .before) true (not-false _ (c .if3 .left))), tt))))
 
 ellipsoid-requires : tie.Need-ellipsoid-requires
 ellipsoid-requires c κs = search needs
@@ -96,7 +98,7 @@ position-requires : tie.Need-position-requires
 position-requires c κs =
     let a = c .before .before .before .before .before .before .before in
     let p = all-passed (c .before) in
-    rw (toZ-ofZ w64 (a .args .latitude) (a .fits .latitude), toZ-ofZ w64 (a .args .longitude) (a .fits .longitude), toZ-ofZ w64 (a .args .height) (a .fits .height)) (p .1 .0, p .1 .1 .0, p .1 .1 .1 .0)
+    rw (toZ-ofZ w64 (a .args .latitude) (a .fits .latitude), toZ-ofZ w64 (a .args .longitude) (a .fits .longitude), toZ-ofZ w64 (a .args .height) (a .fits .height)) (not-false _ (p .1 .0), not-false _ (p .1 .1 .0), not-false _ (p .1 .1 .1 .0))
 
 returns-4 : tie.Need-returns-4
 returns-4 c =
@@ -111,11 +113,11 @@ pub cartesian-metres-spec : {M : Type 1} → statement M
 cartesian-metres-spec =
     tie.close
     (tie.spec
-    is-outside-requires
+    is-ellipsoid-requires
     returns
     angles-fault-requires
     returns-2
-    is-outside-requires-2
+    is-height-requires
     returns-3
     ellipsoid-requires
     position-requires

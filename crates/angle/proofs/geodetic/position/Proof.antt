@@ -10,19 +10,20 @@ use mir.Syntax.{w64}
 use mir.Val.{SFits, toZ, ofZ}
 use mir.ValLaws.{toZ-ofZ}
 use Rattle.bounds.proofs.Zero.{Upto}
-use Rattle.angle.specs.Floats.{near, radians}
+use Rattle.angle.specs.Units.{radians}
 use Rattle.angle.specs.Cartesian.{cartesianAt}
 use Rattle.angle.proofs.Tests.{read-back}
-use Rattle.angle.proofs.Wholes.{Natural, natural, natural-upto, upto, in-float, fits, sub-pos}
+use Rattle.ranges.proofs.Ranges.{Natural, natural}
+use Rattle.angle.proofs.Wholes.{natural-upto, upto, in-float, fits, sub-pos}
 use Rattle.angle.proofs.geodetic.position.Statement.{statement}
 use Rattle.angle.proofs.geodetic.position.Tie as tie
 
 module _ (c : tie.Start) where
   latitude : T (inFloat binary64 (c .args .latitude))
-  latitude = in-float 2880000000 (c .args .latitude) tt (natural-upto (natural 0 2880000000 (c .args .latitude) (c .pre .0)))
+  latitude = in-float 2880000000 (c .args .latitude) tt (natural-upto (natural 0 (c .args .latitude) 2880000000 (c .pre .0)))
 
-  longitude : Natural 35640000000 43200000000 (c .args .longitude)
-  longitude = natural 35640000000 43200000000 (c .args .longitude) (c .pre .1)
+  longitude : Natural 35640000000 (c .args .longitude) 43200000000
+  longitude = natural 35640000000 (c .args .longitude) 43200000000 (c .pre .1)
 
   -- what is past 90 degrees
   past : c .args .longitude -ℤ pos 32400000000 ≡ pos (longitude .n - 32400000000)
@@ -44,7 +45,7 @@ module _ (c : tie.Start) where
   same = toZ-ofZ w64 (c .args .longitude) (c .fits .longitude)
 
   height : T (inFloat binary64 (c .args .height))
-  height = in-float 900000000 (c .args .height) tt (upto 900000000 49999999 900000000 (c .args .height) (lit≤ tt) (lit≤ tt) (c .pre .2))
+  height = in-float 900000000 (c .args .height) tt (upto 900000000 49999999 (c .args .height) 900000000 (lit≤ tt) (lit≤ tt) (c .pre .2))
 
 int-to-float-radians : tie.Need-int-to-float-radians
 int-to-float-radians c = read-back (c .before .args .latitude) (c .before .fits .latitude) (latitude (c .before))
@@ -82,7 +83,7 @@ prime-vertical-requires : tie.Need-prime-vertical-requires
 prime-vertical-requires c κs = search needs
 
 returns : tie.Need-returns
-unfolding cartesianAt radians near round ofBits
+unfolding cartesianAt radians round ofBits
 returns c =
     let a = c .before .before .before .before .before .before .before .before .before .before .before in
     let lat : toZ w64 (ofZ w64 (a .args .latitude)) ≡ a .args .latitude = toZ-ofZ w64 (a .args .latitude) (a .fits .latitude) in

@@ -1,7 +1,8 @@
 -- `angle::projection::cassini_from` meets its contract: each return has the tests that led there. Assumes nothing.
 use borrow.Author.Needs.{needs}
+use borrow.Author.Tests.{not-true, not-false}
 use mathlib.Core.Path.{_≡_, sym, ap, ap₂, _∙_, subst}
-use mathlib.Core.Bool.{Bool, true, false}
+use mathlib.Core.Bool.{Bool, true, false, not}
 use mathlib.Core.List.{[], _∷_}
 use Prim.Native.Nat.{_+_, _-_}
 use native.Mathlib.Omega.{arith}
@@ -11,12 +12,14 @@ use mir.Val.{SFits, toZ, ofZ}
 use mir.ValLaws.{toZ-ofZ}
 use Rattle.refusal.specs.Order.{_gives_, first}
 use Rattle.refusal.specs.Numbers as numbers
-use Rattle.angle.specs.Ranges.{outside, farApart, angleTests, pointTests, anglesFault}
+use Rattle.ranges.specs.Ranges.{within}
+use Rattle.angle.specs.Ranges.{nearby, angleTests, pointTests, anglesFault}
 use Rattle.angle.specs.Cassini.{cassiniAt, cassiniFromOf}
 use Rattle.angle.specs.declared.Origin.{Origin}
-use Rattle.angle.specs.declared.Grid.the-variants.{Refused}
+use Rattle.angle.specs.declared.Projected.the-variants.{Refused}
 use Rattle.refusal.proofs.Orders.{Passed, passed, none, stop, on, unless-some}
-use Rattle.angle.proofs.Wholes.{Natural, natural, fits, sub-pos, apart-is}
+use Rattle.ranges.proofs.Ranges.{Natural, natural}
+use Rattle.angle.proofs.Wholes.{fits, sub-pos, apart-is}
 use Rattle.angle.proofs.projection.cassini_from.Statement.{statement}
 use Rattle.angle.proofs.projection.cassini_from.Tie as tie
 
@@ -25,12 +28,12 @@ module _ (o : Origin) (lat lon : ℤ) where
   by-angles : (first (angleTests lat lon) ≡ 0 → ⊥) → Refused (first (angleTests lat lon)) ≡ cassiniFromOf o lat lon
   unfolding cassiniFromOf
   by-angles f =
-      rw (stop (angleTests lat lon) ((farApart lon (o .longitude) gives numbers.apart) ∷ []) f)
+      rw (stop (angleTests lat lon) ((not (nearby lon (o .longitude)) gives numbers.apart) ∷ []) f)
       (sym (unless-some (first (angleTests lat lon)) Refused (cassiniAt o lat lon) f))
 
-  by-apart : Passed (angleTests lat lon) → farApart lon (o .longitude) ≡ true → Refused numbers.apart ≡ cassiniFromOf o lat lon
+  by-apart : Passed (angleTests lat lon) → nearby lon (o .longitude) ≡ false → Refused numbers.apart ≡ cassiniFromOf o lat lon
   unfolding cassiniFromOf
-  by-apart p e = rw (on (angleTests lat lon) ((farApart lon (o .longitude) gives numbers.apart) ∷ []) p, e)
+  by-apart p e = rw (on (angleTests lat lon) ((not (nearby lon (o .longitude)) gives numbers.apart) ∷ []) p, e)
 
   by-none : Passed (pointTests (o .longitude) lat lon) → cassiniAt o lat lon ≡ cassiniFromOf o lat lon
   unfolding cassiniFromOf
@@ -57,8 +60,8 @@ passed-angles c = let a = c .before .before .args in passed (angleTests (a .lati
 
 -- 4 degrees to either side of the point's longitude
 module _ (c : tie.Else1) where
-  longitude : Natural 35640000000 43200000000 (c .before .before .args .longitude)
-  longitude = natural 35640000000 43200000000 (c .before .before .args .longitude) (passed-angles c .1 .0)
+  longitude : Natural 35640000000 (c .before .before .args .longitude) 43200000000
+  longitude = natural 35640000000 (c .before .before .args .longitude) 43200000000 (not-false _ (passed-angles c .1 .0))
 
   is : toZ w64 (ofZ w64 (c .before .before .args .longitude)) ≡ pos (longitude .n)
   is = toZ-ofZ w64 (c .before .before .args .longitude) (c .before .before .fits .longitude) ∙ longitude .is
@@ -81,16 +84,16 @@ module _ (c : tie.Else1) where
   east-read : toZ w64 (ofZ w64 (toZ w64 (ofZ w64 (c .before .before .args .longitude)) +ℤ pos 1440000000)) ≡ pos (longitude .n + 1440000000)
   east-read = ap (λ (z : ℤ). toZ w64 (ofZ w64 z)) east ∙ toZ-ofZ w64 (pos (longitude .n + 1440000000)) east-fits
 
-sub-is-outside : tie.Need-sub-is-outside
-sub-is-outside c = subst (λ (z : ℤ). SFits w64 z) (sym (west c)) (west-fits c)
+sub-within : tie.Need-sub-within
+sub-within c = subst (λ (z : ℤ). SFits w64 z) (sym (west c)) (west-fits c)
 
-add-is-outside : tie.Need-add-is-outside
-add-is-outside c = subst (λ (z : ℤ). SFits w64 z) (sym (east c)) (east-fits c)
+add-within : tie.Need-add-within
+add-within c = subst (λ (z : ℤ). SFits w64 z) (sym (east c)) (east-fits c)
 
-is-outside-requires : tie.Need-is-outside-requires
-is-outside-requires c κs = search needs
+within-requires : tie.Need-within-requires
+within-requires c κs = search needs
 
-apart : (c : tie.After-is-outside) (t : Bool) → c .is-outside .result ≡ t → farApart (c .before .before .before .before .args .longitude) (c .before .before .before .before .args .origin .longitude) ≡ t
+apart : (c : tie.After-within) (t : Bool) → c .within .result ≡ t → nearby (c .before .before .before .before .args .longitude) (c .before .before .before .before .args .origin .longitude) ≡ t
 apart c t h =
     let d = c .before .before in
     let a = c .before .before .before .before in
@@ -98,24 +101,24 @@ apart c t h =
     let o = a .args .origin .longitude in
     let f : SFits w64 o = search needs in
     let l = longitude d .low in
-    ap (λ (z : ℤ). farApart z o) (longitude d .is)
+    ap (λ (z : ℤ). nearby z o) (longitude d .is)
     ∙ sym (apart-is n o (omega arith))
-    ∙ sym (c .is-outside .ensures ∙ ap₂ (λ (x y : ℤ). outside x y (toZ w64 (ofZ w64 o))) (west-read d) (east-read d) ∙ ap (λ (z : ℤ). outside (pos (n - 1440000000)) (pos (n + 1440000000)) z) (toZ-ofZ w64 o f))
+    ∙ sym (c .within .ensures ∙ ap₂ (λ (x y : ℤ). within x (toZ w64 (ofZ w64 o)) y) (west-read d) (east-read d) ∙ ap (λ (z : ℤ). within (pos (n - 1440000000)) z (pos (n + 1440000000))) (toZ-ofZ w64 o f))
     ∙ h
 
 returns-2 : tie.Need-returns-2
 returns-2 c =
     let a = c .before .before .before .before .before .args in
-    by-apart (a .origin) (a .latitude) (a .longitude) (passed-angles (c .before .before .before)) (apart (c .before) true (c .if2 .taken))
+    by-apart (a .origin) (a .latitude) (a .longitude) (passed-angles (c .before .before .before)) (apart (c .before) false (not-true _ (c .if2 .taken)))
 
 all-passed : (c : tie.Else2) → Passed (pointTests (c .before .before .before .before .before .args .origin .longitude) (c .before .before .before .before .before .args .latitude) (c .before .before .before .before .before .args .longitude))
-all-passed c = let p = passed-angles (c .before .before .before) in (p .0, (p .1 .0, (apart (c .before) false (c .if2 .left), tt)))
+all-passed c = let p = passed-angles (c .before .before .before) in (p .0, (p .1 .0, (ap not (apart (c .before) true (not-false _ (c .if2 .left))), tt)))
 
 place-requires : tie.Need-place-requires
 place-requires c κs =
     let a = c .before .before .before .before .before in
     let p = all-passed c in
-    rw (toZ-ofZ w64 (a .args .latitude) (a .fits .latitude), toZ-ofZ w64 (a .args .longitude) (a .fits .longitude)) (p .0, p .1 .1 .0)
+    rw (toZ-ofZ w64 (a .args .latitude) (a .fits .latitude), toZ-ofZ w64 (a .args .longitude) (a .fits .longitude)) (not-false _ (p .0), not-false _ (p .1 .1 .0))
 
 returns-3 : tie.Need-returns-3
 returns-3 c =
@@ -130,9 +133,9 @@ cassini-from-spec =
     (tie.spec
     angles-fault-requires
     returns
-    sub-is-outside
-    add-is-outside
-    is-outside-requires
+    sub-within
+    add-within
+    within-requires
     returns-2
     place-requires
     returns-3)

@@ -1,14 +1,16 @@
 -- `angle::projection::made` meets its contract: the numbers are in their ranges, and each value is the printed one. Assumes nothing.
 use borrow.Author.Needs.{needs}
+use borrow.Author.Tests.{not-false}
 use mir.Syntax.{w64}
 use mir.Val.{SFits}
 use mir.ValLaws.{toZ-ofZ}
-use Rattle.angle.specs.Floats.{radians}
+use Rattle.angle.specs.Units.{radians}
 use Rattle.angle.specs.Ranges.{originTests, originFault}
 use Rattle.angle.specs.Cassini.{originMade}
 use Rattle.refusal.proofs.Orders.{Passed, passed}
 use Rattle.angle.proofs.Tests.{read-back}
-use Rattle.angle.proofs.Wholes.{natural, natural-upto, in-float}
+use Rattle.ranges.proofs.Ranges.{natural}
+use Rattle.angle.proofs.Wholes.{natural-upto, in-float}
 use Rattle.angle.proofs.projection.made.Statement.{statement}
 use Rattle.angle.proofs.projection.made.Tie as tie
 
@@ -23,7 +25,7 @@ int-to-float-radians : tie.Need-int-to-float-radians
 int-to-float-radians c =
     let z = c .before .before .before .before .args .o .latitude in
     let f : SFits w64 z = search needs in
-    read-back z f (in-float 2880000000 z tt (natural-upto (natural 0 2880000000 z (tests (c .before .before .before .before) .1 .1 .1 .0))))
+    read-back z f (in-float 2880000000 z tt (natural-upto (natural 0 z 2880000000 (not-false _ (tests (c .before .before .before .before) .1 .1 .1 .0)))))
 
 radians-requires : tie.Need-radians-requires
 radians-requires c κs = search needs
@@ -34,12 +36,12 @@ meridian-arc-requires c κs = search needs
 metres-requires : tie.Need-metres-requires
 metres-requires c κs =
     let f : SFits w64 (c .before .before .before .before .before .before .before .args .o .«false_easting») = search needs in
-    rw (toZ-ofZ w64 (c .before .before .before .before .before .before .before .args .o .«false_easting») f) (tests (c .before .before .before .before .before .before .before) .1 .0)
+    rw (toZ-ofZ w64 (c .before .before .before .before .before .before .before .args .o .«false_easting») f) (not-false _ (tests (c .before .before .before .before .before .before .before) .1 .0))
 
 metres-requires-2 : tie.Need-metres-requires-2
 metres-requires-2 c κs =
     let f : SFits w64 (c .before .before .before .before .before .before .before .before .before .args .o .«false_northing») = search needs in
-    rw (toZ-ofZ w64 (c .before .before .before .before .before .before .before .before .before .args .o .«false_northing») f) (tests (c .before .before .before .before .before .before .before .before .before) .1 .1 .0)
+    rw (toZ-ofZ w64 (c .before .before .before .before .before .before .before .before .before .args .o .«false_northing») f) (not-false _ (tests (c .before .before .before .before .before .before .before .before .before) .1 .1 .0))
 
 returns : tie.Need-returns
 unfolding originMade radians

@@ -8,22 +8,23 @@ use mir.Syntax.{w64}
 use mir.Val.{SFits, toZ, ofZ}
 use mir.ValLaws.{toZ-ofZ}
 use Rattle.bounds.proofs.Zero.{Upto}
-use Rattle.angle.specs.Floats.{radians}
+use Rattle.angle.specs.Units.{radians}
 use Rattle.angle.specs.Cassini.{cassiniAt}
 use Rattle.angle.proofs.Tests.{read-back}
-use Rattle.angle.proofs.Wholes.{natural, natural-upto, upto, in-float, fits}
+use Rattle.ranges.proofs.Ranges.{natural}
+use Rattle.angle.proofs.Wholes.{natural-upto, upto, in-float, fits}
 use Rattle.angle.proofs.projection.place.Statement.{statement}
 use Rattle.angle.proofs.projection.place.Tie as tie
 
 module _ (c : tie.Start) where
   latitude : T (inFloat binary64 (c .args .latitude))
-  latitude = in-float 2880000000 (c .args .latitude) tt (natural-upto (natural 0 2880000000 (c .args .latitude) (c .pre .0)))
+  latitude = in-float 2880000000 (c .args .latitude) tt (natural-upto (natural 0 (c .args .latitude) 2880000000 (c .pre .0)))
 
   abbrev apart : ℤ
   apart = c .args .longitude -ℤ c .args .o .longitude
 
   apart-upto : Upto 1440000000 apart
-  apart-upto = upto 1440000000 1439999999 1440000000 apart (lit≤ tt) (lit≤ tt) (c .pre .1)
+  apart-upto = upto 1440000000 1439999999 apart 1440000000 (lit≤ tt) (lit≤ tt) (c .pre .1)
 
   apart-fits : SFits w64 apart
   apart-fits = fits 1440000000 apart tt apart-upto

@@ -3,7 +3,7 @@ use mathlib.Core.Path.{_∙_, ap, ap₂}
 use mathlib.Core.Bool.{_&&_}
 use lib.IntN.{ℤ, pos}
 use Rattle.rounding.proofs.Machine.{told}
-use Rattle.chain.specs.Ranges.{within, equal}
+use Rattle.ranges.specs.Ranges.{within, equal}
 use Rattle.chain.specs.Faults.{kindRule}
 use Rattle.chain.proofs.kinds.frame_rule.Statement.{statement}
 use Rattle.chain.proofs.kinds.frame_rule.Tie as tie

@@ -3,7 +3,7 @@ use mathlib.Core.Path.{_∙_, ap, ap₂}
 use mathlib.Core.Bool.{not, _&&_}
 use lib.IntN.{pos}
 use Rattle.rounding.proofs.Machine.{told}
-use Rattle.chain.specs.Ranges.{equal}
+use Rattle.ranges.specs.Ranges.{equal}
 use Rattle.chain.specs.Faults.{kindRule}
 use Rattle.chain.proofs.kinds.velocity_rule.Statement.{statement}
 use Rattle.chain.proofs.kinds.velocity_rule.Tie as tie

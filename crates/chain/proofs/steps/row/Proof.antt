@@ -7,7 +7,7 @@ use lib.IntN.{pos}
 use lib.ListN.{getD}
 use Rattle.refusal.specs.Order.{pick}
 use Rattle.rounding.proofs.Machine.{rd, fits}
-use Rattle.chain.specs.Ranges.{equal}
+use Rattle.ranges.specs.Ranges.{equal}
 use Rattle.chain.specs.Rows.{rows, rowIndex, rowOf}
 use Rattle.chain.proofs.steps.row.Statement.{statement}
 use Rattle.chain.proofs.steps.row.Tie as tie

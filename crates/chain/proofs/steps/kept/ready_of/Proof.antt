@@ -3,7 +3,7 @@ use mathlib.Core.Path.{_≡_, sym, _∙_, ap}
 use mathlib.Core.Bool.{true, false}
 use lib.IntN.{pos}
 use Rattle.rounding.proofs.Machine.{rd}
-use Rattle.chain.specs.Ranges.{equal}
+use Rattle.ranges.specs.Ranges.{equal}
 use borrow.Author.Needs.{needs}
 use Rattle.chain.proofs.steps.kept.ready_of.Statement.{statement}
 use Rattle.chain.proofs.steps.kept.ready_of.Tie as tie

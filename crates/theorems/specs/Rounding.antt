@@ -3,16 +3,19 @@
 use mathlib.Core.Path.{_≡_}
 use mathlib.Core.Bool.{Bool}
 use Prim.Native.Nat.{ℕ, _+_, _*_, _^_, _≤_, _<_}
-use lib.IntN.{ℤ, pos, negℤ, natAbs, _-ℤ_, _*ℤ_}
+use lib.IntN.{ℤ, pos, negℤ, natAbs, _+ℤ_, _-ℤ_, _*ℤ_}
 use lib.Signed.{_≤ℤ_, _<ℤ_}
 use lib.Ieee.{fin, up, down}
+use Rattle.refusal.specs.Order.{pick}
 use Rattle.rounding.specs.Nearest.{Near, Ties, Symmetric, Rounds, away, rounded}
 use Rattle.rounding.specs.Decimals.{withSign, roundedOf}
 use Rattle.rounding.specs.declared.decimals.Rounded.the-variants.{Whole}
 
--- ---- a fraction: never more than a half off, odd by a symmetric rule, monotone, and numerators less than L + 1 divisors apart round at most L + 1 apart
+-- ---- a fraction: never more than a half off, at a half what the rule takes, and no other number; odd by a symmetric rule, monotone, and numerators less than L + 1 divisors apart round at most L + 1 apart
 pub record Fractions (ties : Ties) (d : ℕ) : Type 0 where
   pub near : (z : ℤ) → natAbs (pos 2 *ℤ (pos d *ℤ rounded ties z d -ℤ z)) ≤ d
+  pub half : (z t : ℤ) → pos 2 *ℤ z ≡ (pos 2 *ℤ t +ℤ pos 1) *ℤ pos d → rounded ties z d ≡ pick (ties t) (t +ℤ pos 1) t
+  pub only : (z r : ℤ) → Rounds ties z d r → rounded ties z d ≡ r
   pub odd : Symmetric ties → (z : ℤ) → rounded ties (negℤ z) d ≡ negℤ (rounded ties z d)
   pub mono : (x y : ℤ) → x <ℤ y → rounded ties x d ≤ℤ rounded ties y d
   pub apart : (L : ℕ) (x y : ℤ) → natAbs (x -ℤ y) < (L + 1) * d → natAbs (rounded ties x d -ℤ rounded ties y d) ≤ L + 1
@@ -30,5 +33,6 @@ Closest = (d : ℕ) (z r q : ℤ) → Near z d r → natAbs (pos d *ℤ r -ℤ z
 
 pub record Rounding : Type 0 where
   pub fractions : (ties : Ties) (d : ℕ) → 0 < d → Fractions ties d
+  pub symmetric : Symmetric away
   pub decimals : (s : Bool) (m : ℕ) (e : ℤ) (p : ℕ) → Decimals s m e p
   pub closest : Closest

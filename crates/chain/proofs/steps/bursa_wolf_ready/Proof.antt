@@ -1,14 +1,14 @@
 -- `chain::steps::bursa_wolf_ready` meets its contract. Assumes nothing.
-use mathlib.Core.Path.{sym, _∙_, ap, subst⁻¹}
+use mathlib.Core.Path.{sym, _∙_, ap}
 use Prim.Native.Nat.{_≤_}
 use lib.IntN.{ℤ, natAbs}
 use Rattle.rounding.proofs.Machine.{told, rd, to₁}
-use Rattle.chain.specs.declared.steps.Turn.{Turn}
+use Rattle.chain.specs.declared.Kind.{Kind}
 use Rattle.chain.specs.Faults.{kindRange}
 use Rattle.chain.specs.Parts.{byConvention, rotation11}
-use Rattle.chain.specs.Ready.{Prepares}
+use Rattle.chain.specs.Ready.{readyKind}
 use Rattle.chain.proofs.Sizes.{bursa-wolf-ok}
-use Rattle.chain.proofs.Prepared.{turn-same, turn-prepares}
+use Rattle.chain.proofs.Prepared.{turn-same}
 use Rattle.chain.specs.declared.steps.Ready.the-variants.{Turned}
 use Rattle.chain.proofs.Sizes.{BursaWolfOk}
 use Rattle.chain.proofs.steps.bursa_wolf_ready.Statement.{statement}
@@ -30,6 +30,7 @@ turned-requires-3 c κs =
     to₁ (λ (r : ℤ). natAbs r ≤ 1000000) (told {z = s .args .t .rz} (c .struct-told3 .given .1 .1 .1 .1 .1 .1 .0 .1)) (ranges s .rz)
 
 returns : tie.Need-returns
+unfolding readyKind
 returns c =
     let s = c .before .before .before .before .before .before .before in
     let t = c .before .before .before .before .before .before .struct-told .given in
@@ -41,7 +42,7 @@ returns c =
     let ry = rd (record { sfits = c .before .before .before .turned2 .ok }) ∙ c .before .before .before .turned2 .ensures ∙ ap by (told (t .1 .1 .1 .1 .1 .0 .1)) in
     let rz = rd (record { sfits = c .before .turned3 .ok }) ∙ c .before .turned3 .ensures ∙ ap by (told (t .1 .1 .1 .1 .1 .1 .0 .1)) in
     let sc = told (t .1 .1 .1 .1 .1 .1 .1 .0 .1) in
-    subst⁻¹ (λ (x : Turn). Prepares (s .args .step) (Turned x)) (turn-same dx dy dz rx ry rz sc) (turn-prepares (s .args .step) (s .pre .0) (s .args .t) (s .pre .1))
+    ap Turned (turn-same dx dy dz rx ry rz sc) ∙ ap (λ (k : Kind). readyKind k (s .args .step .before) (s .args .step .after)) (sym (s .pre .1))
 
 pub bursa-wolf-ready-spec : {M : Type 1} → statement M
 bursa-wolf-ready-spec = tie.close (tie.spec turned-requires turned-requires-2 turned-requires-3 returns)

@@ -1,7 +1,8 @@
 //! The polynomials and the functions over them: sine and cosine, root and arctangent.
 
 pub(crate) const K: f64 = 4.84813681109536e-11;
-/// Seconds in a radian.
+/// Seconds in a radian, with the digits of docs/ORDERS.md.
+#[allow(clippy::excessive_precision)]
 pub(crate) const SECONDS: f64 = 206264.806247096355;
 
 const SIN: [f64; 8] = [

@@ -7,7 +7,8 @@ use crate::ranges::{self, Position};
 use crate::refusal::{unless, Refusal, ANGLE, OUTSIDE, RANGE};
 use crate::series::{cos, sin};
 
-/// Seconds in a radian.
+/// Seconds in a radian, with the digits of docs/ORDERS.md.
+#[allow(clippy::excessive_precision)]
 pub const SECONDS: f64 = 206264.806247096355;
 
 /// The quantities of the order that are worth looking at; angles in radians, lengths in metres.

@@ -30,15 +30,14 @@ realization datum epoch = record { datum = datum; epoch = epoch }
 -- ---- a point: issue, datum, epoch, X, Y, Z. Its id stays with the caller
 unfoldable pub pointFrom : List ℤ → Point
 pointFrom ns = record {
-  id = record { high = 0; low = 0 };
-  issue = number ns 0;
+  label = record { id = record { high = 0; low = 0 }; issue = number ns 0 };
   realization = realization (number ns 1) (number ns 2);
   position = record { x = number ns 3; y = number ns 4; z = number ns 5 };
 }
 
 unfoldable pub pointNumbers : Point → List ℤ
 pointNumbers p =
-    p .issue
+    p .label .issue
     ∷ p .realization .datum
     ∷ p .realization .epoch
     ∷ p .position .x

@@ -9,6 +9,7 @@ use crate::decode::chain_from;
 use crate::status::status;
 use chain::Answer;
 use chain::Id;
+use chain::Label;
 use chain::Point;
 use chain::Position;
 use chain::Realization;
@@ -26,8 +27,10 @@ fn point_from(n: &[i64]) -> Point
     ensures { λ r. ⌜ r ≡ pointFrom (now (n .entry)) ⌝ }
 {
     Point {
-        id: Id { high: 0, low: 0 },
-        issue: n[0],
+        label: Label {
+            id: Id { high: 0, low: 0 },
+            issue: n[0],
+        },
         realization: Realization {
             datum: n[1],
             epoch: n[2],
@@ -48,7 +51,7 @@ fn give(answer: Answer, out: &mut [i64]) -> i64
     match answer {
         Answer::Refused(n) => status(n),
         Answer::Converted(p) => {
-            let issue = p.issue;
+            let issue = p.label.issue;
             let datum = p.realization.datum;
             let epoch = p.realization.epoch;
             let x = p.position.x;

@@ -1,28 +1,17 @@
 // Whole sheets and plans, from bytes to bytes.
-ghost use mathlib.Core.Path.{_≡_};
 ghost use Rattle.sheet_rules.specs.Sheet.{sheetOf};
 ghost use Rattle.plan_rules.specs.Plan.{planOf};
-ghost use Rattle.listing.specs.Fold.{roomFor};
 ghost use Rattle.capi.specs.Printing.{Printed};
 
-// The longest input that is read.
-const MOST: usize = 65536;
 // Minus the number of a wrong length: a length is never below 0.
 const NO_ROOM: i64 = -255;
-
-// The room that an input of n bytes asks for: a line prints at most 11 bytes for each of its own.
-fn room_for(n: usize) -> usize
-    ensures { λ r. ⌜ r ≡ roomFor n ⌝ }
-{
-    if n < MOST { 11 * n + 7 } else { 11 * MOST + 7 }
-}
 
 // What a whole sheet prints, at the start of `out`. The answer is the place past it, or NO_ROOM.
 #[no_mangle]
 pub extern "C" fn swivelcrane_sheet(input: &[u8], out: &mut [u8]) -> i64
     ensures { λ r. ⌜ Printed (sheetOf (now (input .entry))) (now (input .entry)) (now (out .entry)) (now (out .exit)) r ⌝ }
 {
-    if out.len() < room_for(input.len()) {
+    if out.len() < listing::room_for(input.len()) {
         return NO_ROOM;
     }
     sheet_rules::sheet(input, out) as i64
@@ -33,7 +22,7 @@ pub extern "C" fn swivelcrane_sheet(input: &[u8], out: &mut [u8]) -> i64
 pub extern "C" fn swivelcrane_plan(input: &[u8], out: &mut [u8]) -> i64
     ensures { λ r. ⌜ Printed (planOf (now (input .entry))) (now (input .entry)) (now (out .entry)) (now (out .exit)) r ⌝ }
 {
-    if out.len() < room_for(input.len()) {
+    if out.len() < listing::room_for(input.len()) {
         return NO_ROOM;
     }
     plan_rules::plan(input, out) as i64

@@ -12,13 +12,14 @@ use Rattle.chain.specs.declared.Point.{Point}
 use Rattle.chain.specs.declared.Step.{Step}
 use Rattle.chain.specs.declared.Chain.{Chain}
 use Rattle.chain.specs.declared.Answer.the-variants.{Converted, Refused}
-use Rattle.chain.specs.Faults.{sameRealization, inArea, pointTests, stepTests, stepFault, joinTest, laterTests, stepsTests, chainTests, stepsOf}
-use Rattle.chain.specs.Convert.{Walk, at, outside, placeTests, conversionTests, movedTo, answerOf, convert}
+use Rattle.chain.specs.Faults.{sameRealization, inArea, pointTests, stepTests, StepOk, stepFault, joinTest, laterTests, stepsTests, chainTests, stepsOf}
+use Rattle.chain.proofs.Sizes.{step-ok}
+use Rattle.chain.specs.Convert.{Walk, at, left, placeTests, conversionTests, movedTo, answerOf, convert}
 
 -- no step is refused by itself
 abbrev pub Sound : List Step → Type 0
 Sound [] = Unit {0}
-Sound (s ∷ ss) = (stepFault s ≡ 0) × Sound ss
+Sound (s ∷ ss) = StepOk s × Sound ss
 
 -- ---- the chain's tests
 numbered-later : (s : Step) (ss : List Step) → T (numbered (laterTests s ss))
@@ -34,12 +35,12 @@ unfolding stepFault
 sound-later s [] e = tt
 sound-later s (t ∷ ts) e =
     let f = both-pass (stepTests t) (joinTest s t ∷ laterTests t ts) tt e in
-    (f .0, sound-later t ts (head-holds (sameRealization (s .after) (t .before)) 4 (first (laterTests t ts)) (f .1) .1))
+    (step-ok t (f .0), sound-later t ts (head-holds (sameRealization (s .after) (t .before)) 4 (first (laterTests t ts)) (f .1) .1))
 
 pub sound-steps : (ss : List Step) → first (stepsTests ss) ≡ 0 → Sound ss
 unfolding stepFault
 sound-steps [] e = tt
-sound-steps (s ∷ ss) e = let f = both-pass (stepTests s) (laterTests s ss) tt e in (f .0, sound-later s ss (f .1))
+sound-steps (s ∷ ss) e = let f = both-pass (stepTests s) (laterTests s ss) tt e in (step-ok s (f .0), sound-later s ss (f .1))
 
 pub chain-holds : (c : Chain) → first (chainTests c) ≡ 0 → (c .length ≤ 8) × Sound (stepsOf c)
 chain-holds c e =
@@ -105,7 +106,7 @@ module _ (c : Chain) (p : Point) (wanted reached : Realization) where
   answered zero (at x) q e =
       let f : movedTo p reached x ≡ q = cc in
       (refl, ap (λ (t : Point). at (t .position)) f, sym f ∙ ap (λ (t : Point). movedTo p reached (t .position)) f)
-  answered zero outside q e = (refl, cc, cc)
+  answered zero left q e = (refl, cc, cc)
   answered (suc n) w q e = (cc, cc, cc)
 
   pub converted : (w : Walk) (q : Point) → convert c p wanted reached w ≡ Converted q → Conversion c p wanted reached w q

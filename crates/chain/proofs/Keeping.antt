@@ -27,7 +27,7 @@ use Rattle.ranges.specs.Ranges.{within, upTo, equal, shiftRange, scaleRange}
 use Rattle.chain.specs.Faults.{stepFault, pointFault, inArea, sameRealization, pointTests, stepTests, joinTest, laterTests, stepsTests, chainTests}
 use Rattle.chain.specs.Axes.{Axis, onX, onY, onZ, coordinate}
 use Rattle.chain.specs.Parts.{plus, forwardBy}
-use Rattle.chain.specs.Convert.{at, outside, onward, walk, forwardStep, answerOf, startOf, endOf, placeTests, movedTo, convert, forwardOf}
+use Rattle.chain.specs.Convert.{at, left, onward, walk, forwardStep, answerOf, startOf, endOf, placeTests, movedTo, convert, forwardOf}
 use Rattle.chain.specs.Ready.{readyParts, ReadyOk, Prepares}
 use Rattle.chain.specs.Prepared.{numbersOf, readyOf, number, readyAt, readySteps, readyRange, Kept, Keeps, MadeReady, carried, readyTests, forwardReadyOf, chainOf, Readied, Held, Ends}
 use Rattle.ranges.proofs.Ranges.{both, all, up-to, up-to-holds, equal-self}
@@ -80,10 +80,10 @@ module _ (l : List ℤ) (i : ℕ) (r : Ready) where
       zero-add j = omega arith
 
 -- ---- a chain with one step more
-kept : (l m : List ℤ) (i n : ℕ) → ((k : ℕ) → k < i + n → readyAt m k ≡ readyAt l k) → readySteps m i n ≡ readySteps l i n
+same-before : (l m : List ℤ) (i n : ℕ) → ((k : ℕ) → k < i + n → readyAt m k ≡ readyAt l k) → readySteps m i n ≡ readySteps l i n
 unfolding readySteps
-kept l m i zero h = refl
-kept l m i (suc n) h = rw (h i (omega arith), kept l m (suc i) n (λ k g. h k (omega arith)))
+same-before l m i zero h = refl
+same-before l m i (suc n) h = rw (h i (omega arith), same-before l m (suc i) n (λ k g. h k (omega arith)))
 
 more : (l : List ℤ) (i n : ℕ) → readySteps l i (n + 1) ≡ readySteps l i n ++ (readyAt l (i + n) ∷ [])
 unfolding readySteps
@@ -108,7 +108,7 @@ held-more l m ss s h e g f made =
     let b : (ltb (length ss) 8 && eqb (stepFault s) 0) ≡ true = rw (lt-ltb (length ss) 8 g, eq-eqb (stepFault s) 0 f) in
     let q : Kept l (length ss) s m = subst (λ (t : Bool). Keeps t l (length ss) s m) b made in
     let z : 0 + length ss ≡ length ss = omega arith in
-    rw (length-append, more m 0 (length ss), q .numbers, kept l (sets l (8 * length ss) (numbersOf (q .ready))) 0 (length ss) (λ k i. before l (length ss) (q .ready) k (omega arith)), z, here l (length ss) (q .ready) (omega arith))
+    rw (length-append, more m 0 (length ss), q .numbers, same-before l (sets l (8 * length ss) (numbersOf (q .ready))) 0 (length ss) (λ k i. before l (length ss) (q .ready) k (omega arith)), z, here l (length ss) (q .ready) (omega arith))
     (readied-more ss (readySteps l 0 (length ss)) s (q .ready) h (q .prepares))
 
 pub made-length : (l m : List ℤ) (i : ℕ) (s : Step) → MadeReady l i s m → length m ≡ length l
@@ -137,7 +137,7 @@ carried-walk p end (s ∷ ss) (r ∷ rs) q h =
     let e : forwardBy (readyParts r) q ≡ forwardStep s q = ap (plus q) (h .0 .same q) in
     rw (ok-range r (h .0 .ok), e) (either (inArea (forwardStep s q)) (carried-walk p end ss rs (forwardStep s q) (h .1)))
   where
-    either : (b : Bool) → carried p end rs (forwardStep s q) ≡ answerOf p end (walk forwardStep ss (forwardStep s q)) → pick b (carried p end rs (forwardStep s q)) (Refused refusal.left) ≡ answerOf p end (onward (pick b (at (forwardStep s q)) outside) (walk forwardStep ss))
+    either : (b : Bool) → carried p end rs (forwardStep s q) ≡ answerOf p end (walk forwardStep ss (forwardStep s q)) → pick b (carried p end rs (forwardStep s q)) (Refused refusal.left) ≡ answerOf p end (onward (pick b (at (forwardStep s q)) left) (walk forwardStep ss))
     either true e = e
     either false e = refl
 

@@ -1,3 +1,4 @@
+pub mod Rounding
 pub mod StepLaws
 pub mod Within
 pub mod Sizes

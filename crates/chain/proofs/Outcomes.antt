@@ -19,10 +19,9 @@ use Rattle.chain.specs.declared.Answer.the-variants.{Converted, Refused}
 use Rattle.ranges.specs.Ranges.{issueRange}
 use Rattle.chain.specs.Faults.{realizationRange, agrees, givenPosition, inArea, pointRange, pointTests, pointFault, laterTests, stepsTests, chainTests, stepsOf}
 use Rattle.chain.specs.Axes.{onX, onY, onZ}
-use Rattle.chain.specs.Convert.{Walk, at, outside, walk, forwardStep, startOf, endOf, placeTests, conversionTests, movedTo, answerOf, convert, forwardOf}
+use Rattle.chain.specs.Convert.{Walk, at, left, walk, forwardStep, startOf, endOf, placeTests, conversionTests, movedTo, answerOf, convert, forwardOf}
 use Rattle.ranges.proofs.Ranges.{all, up-to-holds}
 use Rattle.chain.proofs.Within.{area-small}
-use Rattle.chain.proofs.Sizes.{step-ok}
 use Rattle.chain.proofs.Walk.{walk-area}
 use Rattle.chain.proofs.Accepted.{Sound, converted}
 
@@ -36,14 +35,14 @@ record Dated (r : Realization) : Type 0 where
 end-dated : (r : Realization) (ss : List Step) → Sound ss → Dated r → Dated (endOf r ss)
 unfolding endOf
 end-dated r [] ok d = d
-end-dated r (s ∷ ss) ok d = let o = step-ok s (ok .0) in end-dated (s .after) ss (ok .1) (record { range = o .after; agree = o .agreed })
+end-dated r (s ∷ ss) ok d = let o = ok .0 in end-dated (s .after) ss (ok .1) (record { range = o .after; agree = o .agreed })
 
 -- the area lies within the range of a coordinate
 area-given : (p : Position) → inArea p ≡ true → givenPosition p ≡ true
 unfolding givenPosition
 area-given p h = let s = area-small p h in rw (up-to-holds 640000000000 (p .x) (s .on onX), up-to-holds 640000000000 (p .y) (s .on onY), up-to-holds 640000000000 (p .z) (s .on onZ))
 
-faultless : (p : Point) → issueRange (p .issue) ≡ true → Dated (p .realization) → givenPosition (p .position) ≡ true → pointFault p ≡ 0
+faultless : (p : Point) → issueRange (p .label .issue) ≡ true → Dated (p .realization) → givenPosition (p .position) ≡ true → pointFault p ≡ 0
 unfolding pointFault pointRange
 faultless p i d g = rw (i, d .range, g, d .agree)
 
@@ -54,7 +53,7 @@ module _ (c : Chain) (p : Point) where
       let ss = stepsOf c in
       let a = converted c p (startOf (p .realization) ss) (endOf (p .realization) ss) (walk forwardStep ss (p .position)) q e in
       let h = head-holds (pointRange p) 1 _ f in
-      let r = all (issueRange (p .issue)) (realizationRange (p .realization)) (givenPosition (p .position)) (h .0) in
+      let r = all (issueRange (p .label .issue)) (realizationRange (p .realization)) (givenPosition (p .position)) (h .0) in
       let d : Dated (p .realization) = record { range = r .1; agree = head-holds (agrees (p .realization)) 2 0 (h .1) .0 } in
       let i = walk-area forwardStep ss (p .position) (q .position) (a .accept .area) (a .ended) in
       ap pointFault (a .is) ∙ faultless (movedTo p (endOf (p .realization) ss) (q .position)) (r .0) (end-dated (p .realization) ss (a .accept .sound) d) (area-given (q .position) i)
@@ -74,7 +73,7 @@ module _ (c : Chain) (p : Point) where
   from-walk : (r : Realization) (w : Walk) (k n : ℕ) → k < 100 → unless k Refused (answerOf p r w) ≡ Refused n → n < 100
   unfolding answerOf
   from-walk r (at q) zero n l e = let z : _≡_ {A = ℕ} 0 1 = cc in absurd (omega arith)
-  from-walk r outside zero n l e = let z : 11 ≡ n = cc in omega arith
+  from-walk r left zero n l e = let z : 11 ≡ n = cc in omega arith
   from-walk r w (suc k) n l e = let z : suc k ≡ n = cc in omega arith
 
   pub refused-short : (n : ℕ) → forwardOf c p ≡ Refused n → n < 100

@@ -13,8 +13,8 @@ use Rattle.chain.specs.declared.Position.{Position}
 use Rattle.chain.specs.declared.Realization.{Realization}
 use Rattle.chain.specs.declared.Kind.the-variants.{Shift}
 use Rattle.chain.specs.declared.Step.{Step}
-use Rattle.chain.specs.Faults.{stepFault, stepTests, joinTest, laterTests, stepsTests}
-use Rattle.chain.specs.Convert.{onward, kept, walk, startOf, endOf}
+use Rattle.chain.specs.Faults.{StepOk, stepTests, joinTest, laterTests, stepsTests}
+use Rattle.chain.specs.Convert.{onward, arrive, walk, startOf, endOf}
 use Rattle.refusal.proofs.Orders.{orElse, first-append}
 use Rattle.chain.proofs.Accepted.{Sound}
 
@@ -45,7 +45,7 @@ module _ (l : List Step) (n i : ℕ) (below : i < n) (inside : i < length l) whe
   pub later-from : (s : Step) → first (laterTests s (drop i (take n l))) ≡ orElse (first (stepTests here ++ (joinTest s here ∷ []))) (first (laterTests here (drop (i + 1) (take n l))))
   later-from s = ap (λ (ss : List Step). first (laterTests s ss)) from ∙ later-first s here (drop (i + 1) (take n l))
 
-  pub walk-from : (f : Step → Position → Position) (p : Position) → walk f (drop i (take n l)) p ≡ onward (kept (f here p)) (walk f (drop (i + 1) (take n l)))
+  pub walk-from : (f : Step → Position → Position) (p : Position) → walk f (drop i (take n l)) p ≡ onward (arrive (f here p)) (walk f (drop (i + 1) (take n l)))
   unfolding walk
   walk-from f p = ap (λ (ss : List Step). walk f ss p) from
 
@@ -56,7 +56,7 @@ none-left [] (suc n) = refl
 none-left (x ∷ xs) (suc n) = none-left xs n
 
 -- from the last place of i + 1 steps down
-pub walk-down : (l : List Step) (i : ℕ) (f : Step → Position → Position) (p : Position) → i < length l → walk f (reverse (take (i + 1) l)) p ≡ onward (kept (f (getD l i no-step) p)) (walk f (reverse (take i l)))
+pub walk-down : (l : List Step) (i : ℕ) (f : Step → Position → Position) (p : Position) → i < length l → walk f (reverse (take (i + 1) l)) p ≡ onward (arrive (f (getD l i no-step) p)) (walk f (reverse (take i l)))
 unfolding walk
 walk-down l i f p h =
     ap (λ (k : ℕ). walk f (reverse (take k l)) p) (add-one i)
@@ -64,7 +64,7 @@ walk-down l i f p h =
     ∙ ap (λ (ss : List Step). walk f ss p) (reverse-append (take i l) (getD l i no-step ∷ []))
 
 -- each step of a sound chain is sound
-pub sound-at : (l : List Step) (n i : ℕ) → i < n → i < length l → Sound (take n l) → stepFault (getD l i no-step) ≡ 0
+pub sound-at : (l : List Step) (n i : ℕ) → i < n → i < length l → Sound (take n l) → StepOk (getD l i no-step)
 sound-at [] n i h k ok = absurd (NatL.not-suc-le-zero k)
 sound-at (x ∷ xs) zero i h k ok = absurd (NatL.not-suc-le-zero h)
 sound-at (x ∷ xs) (suc n) zero h k ok = ok .0

@@ -5,10 +5,8 @@ use Prim.Native.Nat.{ℕ, _+_, _*_, _≤_}
 use lib.Dec.{lit<}
 use native.Mathlib.Omega.{arith}
 use lib.IntN.{ℤ, pos, negℤ, natAbs, _+ℤ_, _-ℤ_, _*ℤ_}
-use Rattle.rounding.proofs.Zn.{v, k, _⊕_, _⊖_, _⊗_, eq, abs, unabs, abs-neg, mul-le}
+use Rattle.rounding.proofs.Zn.{v, k, _⊕_, _⊗_, eq, abs-neg, mul-le}
 use Rattle.rounding.proofs.Machine.{of₃, of₄}
-use Rattle.rounding.specs.Quotient.{roundDiv}
-use Rattle.rounding.proofs.Fractions.{round-one, round-near}
 use Rattle.chain.specs.declared.Position.{Position}
 use Rattle.chain.specs.declared.Shift as shift'
 use Rattle.chain.specs.declared.Velocity as velocity'
@@ -20,13 +18,14 @@ use Rattle.chain.specs.declared.steps.Turn.{Turn}
 use Rattle.chain.specs.declared.steps.Scale.{Scale}
 use Rattle.chain.specs.declared.steps.Ready.{Ready}
 use Rattle.chain.specs.declared.steps.Ready.the-variants.{Fixed, Turned, Scaled}
-use Rattle.chain.specs.Faults.{stepFault}
+use Rattle.chain.specs.Faults.{KindOk, StepOk}
 use Rattle.chain.specs.Rows.{rowOf}
-use Rattle.chain.specs.Parts.{Parts, linear, part, gain, fixed, signed, radians, shiftAt, scaleAt, shiftParts, velocityParts, bursaWolfParts, frameParts, kindParts, partsOf}
+use Rattle.chain.specs.Parts.{stepRound, Parts, linear, part, gain, fixed, byConvention, rotation11, shiftAt, scaleAt, shiftParts, velocityParts, bursaWolfParts, frameParts, kindParts, partsOf}
 use Rattle.chain.specs.Axes.{Axis, onX, onY, onZ, coordinate, partOn, Small}
 use Rattle.chain.specs.Ready.{readyParts, slopeParts, ReadyOk, Prepares}
+use Rattle.chain.proofs.Rounding.{step-size, step-whole}
 use Rattle.chain.proofs.StepLaws.{Mild, Milds, nothing, part-small}
-use Rattle.chain.proofs.Sizes.{StepOk, step-ok, milds, fixed-mild, turned-mild, shift-ok, velocity-ok, velocity-years, bursa-wolf-ok, turned-size, row-ok, frame-years, shift-at-size, scale-at-size}
+use Rattle.chain.proofs.Sizes.{milds, fixed-mild, turned-mild, shift-ok, velocity-ok, velocity-years, moved-size, bursa-wolf-ok, turned-size, row-ok, frame-years, shift-at-size, scale-at-size}
 
 abbrev pub position : ℤ → ℤ → ℤ → Position
 position x y z = record { x = x; y = y; z = z }
@@ -55,49 +54,45 @@ pub gain-small : (r : Ready) (p : Position) → ReadyOk r → Small 650000000000
 gain-small r p ok s = record { on = λ i. rw (gain-on i (readyParts r) p) (part-small (partOn i (readyParts r)) p (ready-mild r ok .on i) s) }
 
 -- ---- a part that is the same everywhere, and one over a single coordinate
-pub fixed-part : (n : ℤ) (d : ℕ) (p : Position) → part (fixed n d) p ≡ roundDiv n d
+pub fixed-part : (n : ℤ) (d : ℕ) (p : Position) → part (fixed n d) p ≡ stepRound n d
 unfolding part linear
-fixed-part n d p = ap (λ (z : ℤ). roundDiv z d) (ap (λ (z : ℤ). n +ℤ z) (nothing (pos 0) (pos 0) (pos 0) p refl) ∙ eq (v n ⊕ k 0) (v n) (omega arith))
+fixed-part n d p = ap (λ (z : ℤ). stepRound z d) (ap (λ (z : ℤ). n +ℤ z) (nothing (pos 0) (pos 0) (pos 0) p refl) ∙ eq (v n ⊕ k 0) (v n) (omega arith))
 
 pub fixed-gain : (g p : Position) → gain (readyParts (Fixed g)) p ≡ g
 unfolding gain
 fixed-gain g p =
-    of₃ position (fixed-part (g .x) 1 p ∙ round-one (g .x)) (fixed-part (g .y) 1 p ∙ round-one (g .y)) (fixed-part (g .z) 1 p ∙ round-one (g .z))
+    of₃ position (fixed-part (g .x) 1 p ∙ step-whole (g .x)) (fixed-part (g .y) 1 p ∙ step-whole (g .y)) (fixed-part (g .z) 1 p ∙ step-whole (g .z))
 
 pub slope-gain :
     (kx ky kz a : ℤ) (p : Position) →
-    position (roundDiv (kx +ℤ a *ℤ p .x) 100000000000000) (roundDiv (ky +ℤ a *ℤ p .y) 100000000000000) (roundDiv (kz +ℤ a *ℤ p .z) 100000000000000) ≡ gain (slopeParts kx ky kz a) p
+    position (stepRound (kx +ℤ a *ℤ p .x) 100000000000000) (stepRound (ky +ℤ a *ℤ p .y) 100000000000000) (stepRound (kz +ℤ a *ℤ p .z) 100000000000000) ≡ gain (slopeParts kx ky kz a) p
 unfolding gain part linear
 slope-gain kx ky kz a p = of₃ position
     (over (kx +ℤ a *ℤ p .x) _ (eq (v kx ⊕ v a ⊗ v (p .x)) (v kx ⊕ (v a ⊗ v (p .x) ⊕ k 0 ⊗ v (p .y) ⊕ k 0 ⊗ v (p .z))) (omega arith)))
     (over (ky +ℤ a *ℤ p .y) _ (eq (v ky ⊕ v a ⊗ v (p .y)) (v ky ⊕ (k 0 ⊗ v (p .x) ⊕ v a ⊗ v (p .y) ⊕ k 0 ⊗ v (p .z))) (omega arith)))
     (over (kz +ℤ a *ℤ p .z) _ (eq (v kz ⊕ v a ⊗ v (p .z)) (v kz ⊕ (k 0 ⊗ v (p .x) ⊕ k 0 ⊗ v (p .y) ⊕ v a ⊗ v (p .z))) (omega arith)))
   where
-    over : (m n : ℤ) → m ≡ n → roundDiv m 100000000000000 ≡ roundDiv n 100000000000000
-    over m n e = ap (λ (z : ℤ). roundDiv z 100000000000000) e
+    over : (m n : ℤ) → m ≡ n → stepRound m 100000000000000 ≡ stepRound n 100000000000000
+    over m n e = ap (λ (z : ℤ). stepRound z 100000000000000) e
 
 -- ---- what the code makes of a velocity, of a Bursa-Wolf step and of a row
 abbrev moved : ℤ → ℤ → ℤ
-moved u dt = roundDiv (u *ℤ dt) 1000
+moved u dt = stepRound (u *ℤ dt) 1000
 
 abbrev pub movedOf : velocity'.Velocity → ℤ → Position
 movedOf t dt = position (moved (t .vx) dt) (moved (t .vy) dt) (moved (t .vz) dt)
 
 moved-small : (u dt : ℤ) → natAbs u ≤ 10000 → natAbs dt ≤ 120000 → natAbs (moved u dt) ≤ 100000000
-moved-small u dt h l =
-    let z = u *ℤ dt in
-    let b = unabs _ (mul-le u dt 10000 120000 h l) (v z) in
-    let n = unabs 1000 (round-near (omega arith) z .near) (k 2 ⊗ (k 1000 ⊗ v (moved u dt) ⊖ v z)) in
-    abs (v (moved u dt)) (omega arith) (omega arith)
+moved-small u dt h l = step-size (omega arith) 100000000 (u *ℤ dt) (moved-size u dt h l)
 
 abbrev pub turnOf : bursaWolf'.BursaWolf → Turn
 turnOf t = record {
   dx = t .dx;
   dy = t .dy;
   dz = t .dz;
-  rx = radians (signed (t .convention) (t .rx));
-  ry = radians (signed (t .convention) (t .ry));
-  rz = radians (signed (t .convention) (t .rz));
+  rx = rotation11 (byConvention (t .convention) (t .rx));
+  ry = rotation11 (byConvention (t .convention) (t .ry));
+  rz = rotation11 (byConvention (t .convention) (t .rz));
   s = t .s;
 }
 
@@ -134,9 +129,9 @@ small x y z hx hy hz = record { on = on }
     on onZ = hz
 
 -- ---- each kind made ready gains what its step gains
-module _ (s : Step) (ok : stepFault s ≡ 0) where
-  good : (kind : Kind) → s .kind ≡ kind → StepOk kind (s .before) (s .after)
-  good kind e = subst (λ (x : Kind). StepOk x (s .before) (s .after)) e (step-ok s ok)
+module _ (s : Step) (ok : StepOk s) where
+  good : (kind : Kind) → s .kind ≡ kind → KindOk kind (s .before) (s .after)
+  good kind e = subst (λ (x : Kind). KindOk x (s .before) (s .after)) e ok
 
   gains : (kind : Kind) → s .kind ≡ kind → (p : Position) → gain (kindParts kind (s .before) (s .after)) p ≡ gain (partsOf s) p
   gains kind e p = ap (λ (x : Kind). gain (kindParts x (s .before) (s .after)) p) (sym e)

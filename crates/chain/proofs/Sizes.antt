@@ -10,7 +10,6 @@ use lib.IntN.{ℤ, pos, negℤ, natAbs, _-ℤ_, _*ℤ_}
 use lib.ListN.{getD}
 use Rattle.refusal.specs.Order.{pick}
 use Rattle.rounding.proofs.Zn.{v, k, _⊖_, _⊗_, abs, unabs, unle, mul-le, add-le, abs-neg}
-use Rattle.rounding.proofs.Fractions.{round-near}
 use Rattle.chain.specs.declared.Realization.{Realization}
 use Rattle.chain.specs.declared.Shift as shift'
 use Rattle.chain.specs.declared.Velocity as velocity'
@@ -21,24 +20,17 @@ use Rattle.chain.specs.declared.Kind.{Kind}
 use Rattle.chain.specs.declared.Kind.the-variants.{Shift, Velocity, BursaWolf, Frame}
 use Rattle.chain.specs.declared.Step.{Step}
 use Rattle.ranges.specs.Ranges.{within, equal, datumRange, epochRange, shiftRange, rotationRange, scaleRange, velocityRange}
-use Rattle.chain.specs.Faults.{agrees, realizationRange, kindRange, kindRule, stepRange, stepFault}
+use Rattle.chain.specs.Faults.{KindOk, StepOk, agrees, realizationRange, kindRange, kindRule, stepRange, stepFault}
 use Rattle.chain.specs.Rows.{rows, rowIndex, rowOf, figure}
-use Rattle.chain.specs.Parts.{Parts, fixed, shiftParts, velocityParts, signed, radians, over11, over14, turnedParts, bursaWolfParts, atEpoch, shiftAt, scaleAt, scaledParts, frameParts, kindParts}
+use Rattle.chain.specs.Parts.{Parts, fixed, shiftParts, velocityParts, byConvention, rotation11, over11, over14, turnedParts, bursaWolfParts, atEpoch, shiftAt, scaleAt, scaledParts, frameParts, kindParts}
 use Rattle.chain.specs.Axes.{Axis, onX, onY, onZ, partOn}
 use Rattle.ranges.proofs.Ranges.{both, all, bounds, up-to}
 use Rattle.refusal.proofs.Orders.{head-holds}
+use Rattle.chain.proofs.Rounding.{step-size}
 use Rattle.chain.proofs.StepLaws.{Mild, Milds, Flat, Flats}
 
 -- ---- what a step that is not refused keeps
-pub record StepOk (kind : Kind) (r a : Realization) : Type 0 where
-  pub range : kindRange kind ≡ true
-  pub before : realizationRange r ≡ true
-  pub after : realizationRange a ≡ true
-  pub agree : agrees r ≡ true
-  pub agreed : agrees a ≡ true
-  pub rule : kindRule kind r a ≡ true
-
-pub step-ok : (s : Step) → stepFault s ≡ 0 → StepOk (s .kind) (s .before) (s .after)
+pub step-ok : (s : Step) → stepFault s ≡ 0 → StepOk s
 unfolding stepFault stepRange
 step-ok s e =
     let f = head-holds (stepRange s) _ _ e in
@@ -71,7 +63,7 @@ apart lo hi x y h l =
     omega arith
 
 -- a velocity's years, in thousandths
-pub velocity-years : (t : velocity'.Velocity) (r a : Realization) → StepOk (Velocity t) r a → natAbs (a .epoch -ℤ r .epoch) ≤ 120000
+pub velocity-years : (t : velocity'.Velocity) (r a : Realization) → KindOk (Velocity t) r a → natAbs (a .epoch -ℤ r .epoch) ≤ 120000
 unfolding kindRule realizationRange
 velocity-years t r a ok =
     let f = all (equal (r .datum) (a .datum)) (not (equal (pos 0) (r .epoch))) (not (equal (pos 0) (a .epoch))) (ok .rule) in
@@ -85,7 +77,7 @@ beq-not true true e n = absurd (n refl)
 beq-not true false e n = e
 beq-not false y e n = refl
 
-pub frame-years : (r a : Realization) → StepOk Frame r a → natAbs (r .epoch -ℤ pos 2010000) ≤ 90000
+pub frame-years : (r a : Realization) → KindOk Frame r a → natAbs (r .epoch -ℤ pos 2010000) ≤ 90000
 unfolding kindRule realizationRange agrees
 frame-years r a ok =
     let f = all (within (pos 5) (r .datum) (pos 9)) (equal (pos 10) (a .datum)) (equal (r .epoch) (a .epoch)) (ok .rule) in
@@ -103,18 +95,15 @@ frame-years r a ok =
         omega arith
 
 -- ---- rotations
-pub signed-size : (c : Convention) (r : ℤ) → natAbs (signed c r) ≡ natAbs r
-signed-size PositionVector r = refl
-signed-size CoordinateFrame r = abs-neg r
+pub convention-size : (c : Convention) (r : ℤ) → natAbs (byConvention c r) ≡ natAbs r
+convention-size PositionVector r = refl
+convention-size CoordinateFrame r = abs-neg r
 
 -- at most 1,000,000 of 0.00001" are at most 4,848,137 of 10^-11 radian
-pub radians-size : (r : ℤ) → natAbs r ≤ 1000000 → natAbs (radians r) ≤ 4848137
-unfolding radians
-radians-size r h =
-    let z = r *ℤ pos 484813681110 in
-    let b = unabs _ (mul-le r (pos 484813681110) 1000000 484813681110 h (omega arith)) (v z) in
-    let n = unabs 100000000000 (round-near (omega arith) z .near) (k 2 ⊗ (k 100000000000 ⊗ v (radians r) ⊖ v z)) in
-    abs (v (radians r)) (omega arith) (omega arith)
+pub rotation11-size : (r : ℤ) → natAbs r ≤ 1000000 → natAbs (rotation11 r) ≤ 4848137
+unfolding rotation11
+rotation11-size r h =
+    step-size (omega arith) 4848137 (r *ℤ pos 484813681110) (NatL.le-trans (mul-le r (pos 484813681110) 1000000 484813681110 h (omega arith)) (lit≤ tt))
 
 -- ---- the rows
 pub record RowOk (row : List ℤ) : Type 0 where
@@ -153,8 +142,8 @@ module _ (row : List ℤ) (ok : RowOk row) (dt : ℤ) (years : natAbs dt ≤ 900
 pub fixed-mild : (n : ℤ) (d : ℕ) → 0 < d → natAbs n ≤ 100000000 * d → Mild (fixed n d)
 fixed-mild n d h l = record { slope = omega arith; start = l }
 
-fixed-flat : (n : ℤ) (d : ℕ) → Flat (fixed n d)
-fixed-flat n d = record { flat = refl }
+fixed-flat : (n : ℤ) (d : ℕ) → 0 < d → Flat (fixed n d)
+fixed-flat n d h = record { over = h; flat = refl }
 
 over11-mild : (n a b c : ℤ) → natAbs n ≤ 100000000 → natAbs a + natAbs b + natAbs c ≤ 11696274 → Mild (over11 n a b c)
 over11-mild n a b c h l = record { slope = omega arith; start = mul-le n (pos 100000000000) 100000000 100000000000 h (omega arith) }
@@ -233,8 +222,8 @@ bursa-wolf-ok t e =
     }
 
 -- a rotation as a step's parts have it
-pub turned-size : (c : Convention) (r : ℤ) → natAbs r ≤ 1000000 → natAbs (radians (signed c r)) ≤ 4848137
-turned-size c r h = radians-size (signed c r) (omega (arith, signed-size c r))
+pub turned-size : (c : Convention) (r : ℤ) → natAbs r ≤ 1000000 → natAbs (rotation11 (byConvention c r)) ≤ 4848137
+turned-size c r h = rotation11-size (byConvention c r) (omega (arith, convention-size c r))
 
 pub turned-mild :
     (dx dy dz rx ry rz s : ℤ) →
@@ -252,7 +241,7 @@ scaled-mild tx ty tz e hx hy hz he =
     (over14-mild tz (pos 0) (pos 0) (negℤ e) hz (omega (arith, abs-neg e)))
 
 -- ---- a step that is not refused is mild
-pub kind-mild : (kind : Kind) (r a : Realization) → StepOk kind r a → Milds (kindParts kind r a)
+pub kind-mild : (kind : Kind) (r a : Realization) → KindOk kind r a → Milds (kindParts kind r a)
 unfolding kindParts shiftParts velocityParts bursaWolfParts frameParts
 kind-mild (Shift t) r a ok =
     let o = shift-ok t (ok .range) in
@@ -266,7 +255,7 @@ kind-mild (Velocity t) r a ok =
 kind-mild (BursaWolf t) r a ok =
     let o = bursa-wolf-ok t (ok .range) in
     let c = t .convention in
-    turned-mild (t .dx) (t .dy) (t .dz) (radians (signed c (t .rx))) (radians (signed c (t .ry))) (radians (signed c (t .rz))) (t .s) (o .dx) (o .dy) (o .dz)
+    turned-mild (t .dx) (t .dy) (t .dz) (rotation11 (byConvention c (t .rx))) (rotation11 (byConvention c (t .ry))) (rotation11 (byConvention c (t .rz))) (t .s) (o .dx) (o .dy) (o .dz)
     (turned-size c (t .rx) (o .rx)) (turned-size c (t .ry) (o .ry)) (turned-size c (t .rz) (o .rz)) (o .s)
 kind-mild Frame r a ok =
     let row = rowOf (r .datum) in
@@ -279,8 +268,8 @@ kind-mild Frame r a ok =
 -- shifts and velocities are the same everywhere
 pub shift-flat : (t : shift'.Shift) (r a : Realization) → Flats (kindParts (Shift t) r a)
 unfolding kindParts shiftParts
-shift-flat t r a = flats _ (fixed-flat (t .dx) 1) (fixed-flat (t .dy) 1) (fixed-flat (t .dz) 1)
+shift-flat t r a = flats _ (fixed-flat (t .dx) 1 (omega arith)) (fixed-flat (t .dy) 1 (omega arith)) (fixed-flat (t .dz) 1 (omega arith))
 
 pub velocity-flat : (t : velocity'.Velocity) (r a : Realization) → Flats (kindParts (Velocity t) r a)
 unfolding kindParts velocityParts
-velocity-flat t r a = flats _ (fixed-flat _ 1000) (fixed-flat _ 1000) (fixed-flat _ 1000)
+velocity-flat t r a = flats _ (fixed-flat _ 1000 (omega arith)) (fixed-flat _ 1000 (omega arith)) (fixed-flat _ 1000 (omega arith))

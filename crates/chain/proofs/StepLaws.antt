@@ -1,17 +1,17 @@
 -- One step, there and back, over its three affine fractions alone: a step's inverse, started m units off from where the step forward ended, ends at most
--- m + 1 units off, and so does the step forward after its inverse; where no coordinate enters, nothing is added. Only `Near` of the rounding is used.
--- Assumes nothing.
-use mathlib.Core.Path.{_≡_, refl, sym, _∙_, ap}
+-- m + 1 units off, and so does the step forward after its inverse; where no coordinate enters, nothing is added. The rounding is symmetric round zero, so that
+-- a turn of the inverse is a move by the opposite parts, and one law serves both ways. Assumes nothing.
+use mathlib.Core.Path.{_≡_, refl, sym, _∙_, ap, subst}
 use Prim.Native.Nat.{ℕ, _+_, _*_, _<_, _≤_}
 use native.Mathlib.Nat as NatL
 use native.Mathlib.Omega.{arith}
-use lib.IntN.{ℤ, pos, natAbs, _+ℤ_, _-ℤ_, _*ℤ_}
-use Rattle.rounding.proofs.Zn.{P, N, v, k, _⊕_, _⊖_, _⊗_, eq, uneq, abs, unabs, mul-le, add-le, dist}
-use Rattle.rounding.specs.Quotient.{roundDiv}
-use Rattle.rounding.proofs.Fractions.{round-apart, round-near}
+use lib.IntN.{ℤ, pos, negℤ, negℤ-negℤ, natAbs, _+ℤ_, _-ℤ_, _*ℤ_}
+use Rattle.rounding.proofs.Zn.{v, k, neg, _⊕_, _⊖_, _⊗_, eq, uneq, abs, unabs, mul-le, add-le, abs-neg, dist}
+use Rattle.rounding.proofs.Machine.{of₃, of₄}
 use Rattle.chain.specs.declared.Position.{Position}
-use Rattle.chain.specs.Parts.{Part, Parts, linear, part, gain, plus, minus, forwardBy, again, inverseBy}
+use Rattle.chain.specs.Parts.{stepRound, Part, Parts, linear, part, gain, plus, minus, forwardBy, again, inverseBy}
 use Rattle.chain.specs.Axes.{Axis, onX, onY, onZ, coordinate, partOn, Small}
+use Rattle.chain.proofs.Rounding.{step-apart, step-size, step-opposite}
 
 -- no coordinate of p and q lies more than e apart
 pub record Off (e : ℕ) (p q : Position) : Type 0 where
@@ -27,6 +27,7 @@ pub record Milds (t : Parts) : Type 0 where
 
 -- a part that is the same everywhere: no coordinate enters
 pub record Flat (t : Part) : Type 0 where
+  pub over : 0 < t .d
   pub flat : natAbs (t .a) + natAbs (t .b) + natAbs (t .c) ≡ 0
 
 pub record Flats (t : Parts) : Type 0 where
@@ -67,7 +68,7 @@ apart-is u a b c x y z x' y' z' =
 -- two positions at most e apart have parts at most L + 1 apart
 pub part-apart : (t : Part) (p q : Position) (e L : ℕ) → Mild t → Off e p q → e ≤ 8500 * (L + 1) → natAbs (part t p -ℤ part t q) ≤ L + 1
 unfolding part linear
-part-apart t p q e L mild off h = round-apart (omega (arith, mild .slope)) L (t .k +ℤ linear t p) (t .k +ℤ linear t q) (close
+part-apart t p q e L mild off h = step-apart (omega (arith, mild .slope)) L (t .k +ℤ linear t p) (t .k +ℤ linear t q) (close
     (apart-is (t .k) (t .a) (t .b) (t .c) (p .x) (p .y) (p .z) (q .x) (q .y) (q .z))
     (sum-le (t .a) (t .b) (t .c) (p .x -ℤ q .x) (p .y -ℤ q .y) (p .z -ℤ q .z) e (off .on onX) (off .on onY) (off .on onZ))
     (less (natAbs (t .a) + natAbs (t .b) + natAbs (t .c)) (t .d) e (L + 1) (mild .slope) (omega arith) h))
@@ -80,53 +81,106 @@ pub part-small : (t : Part) (p : Position) → Mild t → Small 650000000000 p �
 unfolding part linear
 part-small t p mild small =
     let s = sum-le (t .a) (t .b) (t .c) (p .x) (p .y) (p .z) 650000000000 (small .on onX) (small .on onY) (small .on onZ) in
-    let b = unabs _ (add-le (t .k) (linear t p) (100000000 * t .d) ((natAbs (t .a) + natAbs (t .b) + natAbs (t .c)) * 650000000000) (mild .start) s) (v (t .k +ℤ linear t p)) in
-    let n = unabs (t .d) (round-near (omega (arith, mild .slope)) (t .k +ℤ linear t p) .near) (k 2 ⊗ (k (t .d) ⊗ v (part t p) ⊖ v (t .k +ℤ linear t p))) in
-    abs (v (part t p)) (below (t .d) (P (part t p)) (N (part t p)) (omega (arith, mild .slope))) (below (t .d) (N (part t p)) (P (part t p)) (omega (arith, mild .slope)))
-  where
-    below : (d a b : ℕ) → d * a < d * (b + 180000001) → a ≤ b + 180000000
-    below d a b h = let l : a < b + 180000001 = NatL.lt-of-mul-lt-mul-left d h in omega arith
+    step-size (omega (arith, mild .slope)) 180000000 (t .k +ℤ linear t p)
+    (NatL.le-trans (add-le (t .k) (linear t p) (100000000 * t .d) ((natAbs (t .a) + natAbs (t .b) + natAbs (t .c)) * 650000000000) (mild .start) s) (omega (arith, mild .slope)))
 
 -- a flat part is the same at any two positions
 pub same-part : (t : Part) (p q : Position) → Flat t → part t p ≡ part t q
 unfolding part linear
 same-part t p q f =
-    ap (λ (z : ℤ). roundDiv (t .k +ℤ z) (t .d)) (nothing (t .a) (t .b) (t .c) p (f .flat) ∙ sym (nothing (t .a) (t .b) (t .c) q (f .flat)))
+    ap (λ (z : ℤ). stepRound (t .k +ℤ z) (t .d)) (nothing (t .a) (t .b) (t .c) p (f .flat) ∙ sym (nothing (t .a) (t .b) (t .c) q (f .flat)))
 
--- ---- a step, by axis
-pub forward-on : (i : Axis) (t : Parts) (p : Position) → coordinate i (forwardBy t p) ≡ coordinate i p +ℤ part (partOn i t) p
-unfolding forwardBy gain plus
-forward-on onX t p = refl
-forward-on onY t p = refl
-forward-on onZ t p = refl
+-- ---- the opposite parts: −(k + a·X + b·Y + c·Z)/d. What they gain is the opposite, since −round(z) = round(−z)
+opposite : Part → Part
+opposite t = record { k = negℤ (t .k); a = negℤ (t .a); b = negℤ (t .b); c = negℤ (t .c); d = t .d }
 
-pub again-on : (i : Axis) (t : Parts) (q c : Position) → coordinate i (again t q c) ≡ coordinate i q -ℤ part (partOn i t) c
-unfolding again gain minus
-again-on onX t q c = refl
-again-on onY t q c = refl
-again-on onZ t q c = refl
+opposites : Parts → Parts
+opposites t = record { px = opposite (t .px); py = opposite (t .py); pz = opposite (t .pz) }
+
+opposite-on : (i : Axis) (t : Parts) → partOn i (opposites t) ≡ opposite (partOn i t)
+unfolding opposites
+opposite-on onX t = refl
+opposite-on onY t = refl
+opposite-on onZ t = refl
+
+part-opposite : (t : Part) (p : Position) → 0 < t .d → part (opposite t) p ≡ negℤ (part t p)
+unfolding part linear opposite
+part-opposite t p h =
+    ap (λ (z : ℤ). stepRound z (t .d))
+    (eq (neg (v (t .k)) ⊕ (neg (v (t .a)) ⊗ v (p .x) ⊕ neg (v (t .b)) ⊗ v (p .y) ⊕ neg (v (t .c)) ⊗ v (p .z)))
+    (neg (v (t .k) ⊕ (v (t .a) ⊗ v (p .x) ⊕ v (t .b) ⊗ v (p .y) ⊕ v (t .c) ⊗ v (p .z)))) (omega arith))
+    ∙ step-opposite h (t .k +ℤ linear t p)
+
+twice : (t : Part) → opposite (opposite t) ≡ t
+unfolding opposite
+twice t = of₄ (λ (k a b c : ℤ). record { k = k; a = a; b = b; c = c; d = t .d }) (negℤ-negℤ (t .k)) (negℤ-negℤ (t .a)) (negℤ-negℤ (t .b)) (negℤ-negℤ (t .c))
+
+opposite-mild : (t : Part) → Mild t → Mild (opposite t)
+unfolding opposite
+opposite-mild t m = record {
+  slope = omega (arith, m .slope, abs-neg (t .a), abs-neg (t .b), abs-neg (t .c));
+  start = omega (arith, m .start, abs-neg (t .k));
+}
+
+opposite-flat : (t : Part) → Flat t → Flat (opposite t)
+unfolding opposite
+opposite-flat t f = record { over = f .over; flat = omega (arith, f .flat, abs-neg (t .a), abs-neg (t .b), abs-neg (t .c)) }
+
+opposites-mild : (t : Parts) → Milds t → Milds (opposites t)
+opposites-mild t m = record { on = λ i. rw (opposite-on i t) (opposite-mild (partOn i t) (m .on i)) }
+
+opposites-flat : (t : Parts) → Flats t → Flats (opposites t)
+opposites-flat t f = record { on = λ i. rw (opposite-on i t) (opposite-flat (partOn i t) (f .on i)) }
+
+-- ---- a move: from q by what is gained at c. A step forward moves p by its gain at p; a turn of the inverse moves q by the opposite gain at the candidate
+move : Parts → Position → Position → Position
+move t q c = plus q (gain t c)
+
+pub record Divides (t : Parts) : Type 0 where
+  pub on : (i : Axis) → 0 < partOn i t .d
+
+mild-divides : (t : Parts) → Milds t → Divides t
+mild-divides t m = record { on = λ i. omega (arith, m .on i .slope) }
+
+flat-divides : (t : Parts) → Flats t → Divides t
+flat-divides t f = record { on = λ i. f .on i .over }
+
+move-on : (i : Axis) (t : Parts) (q c : Position) → coordinate i (move t q c) ≡ coordinate i q +ℤ part (partOn i t) c
+unfolding move gain plus
+move-on onX t q c = refl
+move-on onY t q c = refl
+move-on onZ t q c = refl
+
+-- by the opposite parts it takes away what the parts gain
+move-back : (i : Axis) (t : Parts) (q c : Position) → Divides t → coordinate i (move (opposites t) q c) ≡ coordinate i q -ℤ part (partOn i t) c
+move-back i t q c h =
+    move-on i (opposites t) q c
+    ∙ ap (λ (z : ℤ). coordinate i q +ℤ z) (ap (λ (u : Part). part u c) (opposite-on i t) ∙ part-opposite (partOn i t) c (h .on i))
+
+forward-is : (t : Parts) (p : Position) → forwardBy t p ≡ move t p p
+unfolding forwardBy move
+forward-is t p = refl
+
+-- the way back uses the symmetry here: q − round(z) is q + round(−z)
+again-is : (t : Parts) (q c : Position) → Divides t → again t q c ≡ move (opposites t) q c
+unfolding again minus gain
+again-is t q c h = of₃ (λ (x y z : ℤ). record { x = x; y = y; z = z }) (sym (move-back onX t q c h)) (sym (move-back onY t q c h)) (sym (move-back onZ t q c h))
+
+-- the opposite of the opposite
+move-twice : (t : Parts) (q c : Position) → move (opposites (opposites t)) q c ≡ move t q c
+unfolding opposites
+move-twice t q c = rw (twice (t .px), twice (t .py), twice (t .pz))
 
 pub small-le : {m n : ℕ} {p : Position} → m ≤ n → Small m p → Small n p
 small-le h s = record { on = λ i. NatL.le-trans (s .on i) h }
 
 -- a turn of the inverse adds at most a part's size
 pub again-small : (m : ℕ) (t : Parts) (q c : Position) → Milds t → Small m q → Small 650000000000 c → Small (m + 180000000) (again t q c)
-again-small m t q c mild s h = record { on = λ i. rw (again-on i t q c) (less-by (coordinate i q) (part (partOn i t) c) (s .on i) (part-small (partOn i t) c (mild .on i) h)) }
-  where
-    less-by : (x y : ℤ) → natAbs x ≤ m → natAbs y ≤ 180000000 → natAbs (x -ℤ y) ≤ m + 180000000
-    less-by x y a b =
-        let f = unabs m a (v x) in
-        let g = unabs 180000000 b (v y) in
-        abs (v x ⊖ v y) (omega arith) (omega arith)
+again-small m t q c mild s h = rw (again-is t q c (mild-divides t mild)) (record {
+  on = λ i. rw (move-on i (opposites t) q c) (add-le (coordinate i q) (part (partOn i (opposites t)) c) m 180000000 (s .on i) (part-small (partOn i (opposites t)) c (opposites-mild t mild .on i) h));
+})
 
 -- ---- distances on one axis
--- from |q' − (p + r)| ≤ m and |r' − r| ≤ e
-closer : (q' p r r' : ℤ) (m e : ℕ) → natAbs (q' -ℤ (p +ℤ r)) ≤ m → natAbs (r' -ℤ r) ≤ e → natAbs (q' -ℤ r' -ℤ p) ≤ m + e
-closer q' p r r' m e h l =
-    let f = unabs m h (v q' ⊖ (v p ⊕ v r)) in
-    let g = unabs e l (v r' ⊖ v r) in
-    abs (v q' ⊖ v r' ⊖ v p) (omega arith) (omega arith)
-
 -- from |p' − (q − r)| ≤ m and |r' − r| ≤ e
 ends : (p' q r r' : ℤ) (m e : ℕ) → natAbs (p' -ℤ (q -ℤ r)) ≤ m → natAbs (r' -ℤ r) ≤ e → natAbs (p' +ℤ r' -ℤ q) ≤ m + e
 ends p' q r r' m e h l =
@@ -140,11 +194,11 @@ begins q' p r m e h l =
     let g = unabs e l (v r) in
     abs (v q' ⊖ v p) (omega arith) (omega arith)
 
-home : (q r : ℤ) (e : ℕ) → natAbs r ≤ e → natAbs (q -ℤ r -ℤ q) ≤ e
-home q r e h = let f = unabs e h (v r) in abs (v q ⊖ v r ⊖ v q) (omega arith) (omega arith)
+home : (q r : ℤ) (e : ℕ) → natAbs r ≤ e → natAbs (q +ℤ r -ℤ q) ≤ e
+home q r e h = let f = unabs e h (v r) in abs (v q ⊕ v r ⊖ v q) (omega arith) (omega arith)
 
-turn : (q r s : ℤ) (e : ℕ) → natAbs (r -ℤ s) ≤ e → natAbs (q -ℤ r -ℤ (q -ℤ s)) ≤ e
-turn q r s e h = let f = unabs e h (v r ⊖ v s) in abs (v q ⊖ v r ⊖ (v q ⊖ v s)) (omega arith) (omega arith)
+turn : (q r s : ℤ) (e : ℕ) → natAbs (r -ℤ s) ≤ e → natAbs (q +ℤ r -ℤ (q +ℤ s)) ≤ e
+turn q r s e h = let f = unabs e h (v r ⊖ v s) in abs (v q ⊕ v r ⊖ (v q ⊕ v s)) (omega arith) (omega arith)
 
 far : (x y z : ℤ) (m e : ℕ) → natAbs (x -ℤ y) ≤ m → natAbs (y -ℤ z) ≤ e → natAbs (x -ℤ z) ≤ m + e
 far x y z m e h l =
@@ -166,72 +220,81 @@ off-self p = record { on = λ i. none-off {r = coordinate i p} refl }
 off-far : {p q r : Position} {m e : ℕ} → Off m p q → Off e q r → Off (m + e) p r
 off-far {p} {q} {r} {m} {e} h l = record { on = λ i. far (coordinate i p) (coordinate i q) (coordinate i r) m e (h .on i) (l .on i) }
 
--- ---- one step, forward and then inverse
+-- ---- a move and the opposite one
 module _ (t : Parts) (mild : Milds t) where
-  -- a turn whose candidate is e off from p ends L + 1 further off than q' was
-  again-off : (q' p c : Position) (m e L : ℕ) → Off m q' (forwardBy t p) → Off e c p → e ≤ 8500 * (L + 1) → Off (m + (L + 1)) (again t q' c) p
-  again-off q' p c m e L h l b = record {
-    on = λ i. rw (again-on i t q' c)
-        (closer (coordinate i q') (coordinate i p) (part (partOn i t) p) (part (partOn i t) c) m (L + 1) (rw (forward-on i t p) at (h .on i)) (part-apart (partOn i t) c p e L (mild .on i) l b));
+  -- from m off from where the opposite move took q, a move ends L + 1 further off from q, where the gains are taken at positions e apart
+  undone : (p' q c c' : Position) (m e L : ℕ) → Off m p' (move (opposites t) q c) → Off e c' c → e ≤ 8500 * (L + 1) → Off (m + (L + 1)) (move t p' c') q
+  undone p' q c c' m e L h l b = record {
+    on = λ i. rw (move-on i t p' c')
+        (ends (coordinate i p') (coordinate i q) (part (partOn i t) c) (part (partOn i t) c') m (L + 1) (rw (move-back i t q c (mild-divides t mild)) at (h .on i)) (part-apart (partOn i t) c' c e L (mild .on i) l b));
   }
 
-  start-off : (q' p : Position) (m : ℕ) → Small 650000000000 p → Off m q' (forwardBy t p) → Off (m + 180000000) q' p
+  -- a move is at most a part's size
+  start-off : (q' p : Position) (m : ℕ) → Small 650000000000 p → Off m q' (move t p p) → Off (m + 180000000) q' p
   start-off q' p m small h = record {
-    on = λ i. begins (coordinate i q') (coordinate i p) (part (partOn i t) p) m 180000000 (rw (forward-on i t p) at (h .on i)) (part-small (partOn i t) p (mild .on i) small);
+    on = λ i. begins (coordinate i q') (coordinate i p) (part (partOn i t) p) m 180000000 (rw (move-on i t p p) at (h .on i)) (part-small (partOn i t) p (mild .on i) small);
   }
+
+  home-off : (q : Position) → Small 650000000000 q → Off 180000000 (move t q q) q
+  home-off q s = record { on = λ i. rw (move-on i t q q) (home (coordinate i q) (part (partOn i t) q) 180000000 (part-small (partOn i t) q (mild .on i) s)) }
+
+  -- from one place, by gains at positions e apart, L + 1 apart
+  turn-off : (q c d : Position) (e L : ℕ) → Off e c d → e ≤ 8500 * (L + 1) → Off (L + 1) (move t q c) (move t q d)
+  turn-off q c d e L h l = record {
+    on = λ i. rw (move-on i t q c, move-on i t q d)
+        (turn (coordinate i q) (part (partOn i t) c) (part (partOn i t) d) (L + 1) (part-apart (partOn i t) c d e L (mild .on i) h l));
+  }
+
+-- where no coordinate enters, the opposite move is undone exactly
+undone-exactly : (t : Parts) → Flats t → (p' q c c' : Position) (m : ℕ) → Off m p' (move (opposites t) q c) → Off m (move t p' c') q
+undone-exactly t flat p' q c c' m h = record {
+  on = λ i. rw (move-on i t p' c')
+      (NatL.le-trans
+      (ends (coordinate i p') (coordinate i q) (part (partOn i t) c) (part (partOn i t) c') m 0 (rw (move-back i t q c (flat-divides t flat)) at (h .on i))
+      (none-off (same-part (partOn i t) c' c (flat .on i)))) (omega arith));
+}
+
+-- ---- one step. The inverse's turns undo the step forward, and the step forward undoes the inverse's last turn
+module _ (t : Parts) (mild : Milds t) where
+  abbrev back : Parts
+  back = opposites t
+
+  again-off : (q' p c : Position) (m e L : ℕ) → Off m q' (move t p p) → Off e c p → e ≤ 8500 * (L + 1) → Off (m + (L + 1)) (again t q' c) p
+  again-off q' p c m e L h l b =
+      rw (again-is t q' c (mild-divides t mild))
+      (undone back (opposites-mild t mild) q' p p c m e L (subst (λ (x : Position). Off m q' x) (sym (move-twice t p p)) h) l b)
 
   -- the inverse, started m ≤ 7 units off from where the step forward ended, ends at most m + 1 units off: the turns bring 180,000,000 to 21,177 to 3 to 1
   pub inverse-off : (q' p : Position) (m : ℕ) → Small 650000000000 p → m ≤ 7 → Off m q' (forwardBy t p) → Off (m + 1) (inverseBy t q') p
   unfolding inverseBy
-  inverse-off q' p m small m≤7 h =
+  inverse-off q' p m small m≤7 o =
+      let h = subst (λ (x : Position). Off m q' x) (forward-is t p) o in
       again-off q' p _ m (m + (2 + 1)) 0 h
       (again-off q' p _ m (m + (21176 + 1)) 2 h
-      (again-off q' p _ m (m + 180000000) 21176 h (start-off q' p m small h) (omega arith)) (omega arith)) (omega arith)
-
--- ---- one step, inverse and then forward
-module _ (t : Parts) (mild : Milds t) where
-  home-off : (q : Position) → Small 650000000000 q → Off 180000000 (again t q q) q
-  home-off q s = record { on = λ i. rw (again-on i t q q) (home (coordinate i q) (part (partOn i t) q) 180000000 (part-small (partOn i t) q (mild .on i) s)) }
-
-  -- two candidates e apart are L + 1 apart after a turn
-  turn-off : (q c d : Position) (e L : ℕ) → Off e c d → e ≤ 8500 * (L + 1) → Off (L + 1) (again t q c) (again t q d)
-  turn-off q c d e L h l = record {
-    on = λ i. rw (again-on i t q c, again-on i t q d)
-        (turn (coordinate i q) (part (partOn i t) c) (part (partOn i t) d) (L + 1) (part-apart (partOn i t) c d e L (mild .on i) h l));
-  }
-
-  ends-off : (p' q c : Position) (m e L : ℕ) → Off m p' (again t q c) → Off e p' c → e ≤ 8500 * (L + 1) → Off (m + (L + 1)) (forwardBy t p') q
-  ends-off p' q c m e L h l b = record {
-    on = λ i. rw (forward-on i t p')
-        (ends (coordinate i p') (coordinate i q) (part (partOn i t) c) (part (partOn i t) p') m (L + 1) (rw (again-on i t q c) at (h .on i)) (part-apart (partOn i t) p' c e L (mild .on i) l b));
-  }
+      (again-off q' p _ m (m + 180000000) 21176 h (start-off t mild q' p m small h) (omega arith)) (omega arith)) (omega arith)
 
   -- the step forward, started m ≤ 7 units off from where the inverse ended, ends at most m + 1 units off
   pub forward-off : (p' q : Position) (m : ℕ) → Small 650000000000 q → m ≤ 7 → Off m p' (inverseBy t q) → Off (m + 1) (forwardBy t p') q
   unfolding inverseBy
-  forward-off p' q m s m≤7 h =
-      let c₁ = again t q q in
-      let c₂ = again t q c₁ in
-      let a = turn-off q c₁ q 180000000 21176 (home-off q s) (omega arith) in
-      let b = turn-off q c₂ c₁ 21177 2 a (omega arith) in
-      ends-off p' q c₂ m (m + 3) 0 h (off-far h b) (omega arith)
+  forward-off p' q m s m≤7 o =
+      let one : (c : Position) → again t q c ≡ move back q c = λ c. again-is t q c (mild-divides t mild) in
+      let h = rw (one q, one (move back q q), one (move back q (move back q q))) at o in
+      let c₁ = move back q q in
+      let c₂ = move back q c₁ in
+      let a = turn-off back (opposites-mild t mild) q c₁ q 180000000 21176 (home-off back (opposites-mild t mild) q s) (omega arith) in
+      let b = turn-off back (opposites-mild t mild) q c₂ c₁ 21177 2 a (omega arith) in
+      rw (forward-is t p') (undone t mild p' q c₂ p' m (m + 3) 0 h (off-far h b) (omega arith))
 
 -- ---- an exact step adds nothing, either way
 module _ (t : Parts) (flat : Flats t) where
   pub inverse-exact : (q' p : Position) (m : ℕ) → Off m q' (forwardBy t p) → Off m (inverseBy t q') p
   unfolding inverseBy
-  inverse-exact q' p m h = record {
-    on = λ i. rw (again-on i t q' (again t q' (again t q' q')))
-        (NatL.le-trans
-        (closer (coordinate i q') (coordinate i p) (part (partOn i t) p) (part (partOn i t) (again t q' (again t q' q'))) m 0 (rw (forward-on i t p) at (h .on i))
-        (none-off (same-part (partOn i t) (again t q' (again t q' q')) p (flat .on i)))) (omega arith));
-  }
+  inverse-exact q' p m o =
+      rw (again-is t q' (again t q' (again t q' q')) (flat-divides t flat))
+      (undone-exactly (opposites t) (opposites-flat t flat) q' p p _ m (subst (λ (x : Position). Off m q' x) (forward-is t p ∙ sym (move-twice t p p)) o))
 
   pub forward-exact : (p' q : Position) (m : ℕ) → Off m p' (inverseBy t q) → Off m (forwardBy t p') q
   unfolding inverseBy
-  forward-exact p' q m h = record {
-    on = λ i. rw (forward-on i t p')
-        (NatL.le-trans
-        (ends (coordinate i p') (coordinate i q) (part (partOn i t) (again t q (again t q q))) (part (partOn i t) p') m 0
-        (rw (again-on i t q (again t q (again t q q))) at (h .on i)) (none-off (same-part (partOn i t) p' (again t q (again t q q)) (flat .on i)))) (omega arith));
-  }
+  forward-exact p' q m o =
+      rw (forward-is t p')
+      (undone-exactly t flat p' q _ p' m (subst (λ (x : Position). Off m p' x) (again-is t q (again t q (again t q q)) (flat-divides t flat)) o))

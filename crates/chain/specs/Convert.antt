@@ -23,18 +23,19 @@ inverseStep s = inverseBy (partsOf s)
 -- ---- a walk over steps: each step's result is tested for the area, and its candidates on the way are not
 pub data Walk : Type 0 where
   at : Position → Walk
-  outside : Walk
+  left : Walk
 
 abbrev pub onward : Walk → (Position → Walk) → Walk
 onward (at p) f = f p
-onward outside f = outside
+onward left f = left
 
-abbrev pub kept : Position → Walk
-kept p = pick (inArea p) (at p) outside
+-- where a step arrives: there, where it is in the area
+abbrev pub arrive : Position → Walk
+arrive p = pick (inArea p) (at p) left
 
 unfoldable pub walk : (Step → Position → Position) → List Step → Position → Walk
 walk f [] p = at p
-walk f (s ∷ ss) p = onward (kept (f s p)) (walk f ss)
+walk f (s ∷ ss) p = onward (arrive (f s p)) (walk f ss)
 
 -- ---- where a chain starts and where it ends. The empty chain does both wherever the point is
 unfoldable pub startOf : Realization → List Step → Realization
@@ -53,13 +54,13 @@ placeTests p wanted = (not (sameRealization (p .realization) wanted) gives refus
 abbrev pub conversionTests : Chain → Point → Realization → List Test
 conversionTests c p wanted = chainTests c ++ (pointTests p ++ placeTests p wanted)
 
--- the point at another position: id and issue pass through
+-- the point at another position: its label (id and issue) passes through
 abbrev pub movedTo : Point → Realization → Position → Point
-movedTo p r q = record { id = p .id; issue = p .issue; realization = r; position = q }
+movedTo p r q = record { label = p .label; realization = r; position = q }
 
 unfoldable pub answerOf : Point → Realization → Walk → Answer
 answerOf p r (at q) = Converted (movedTo p r q)
-answerOf p r outside = Refused refusal.left
+answerOf p r left = Refused refusal.left
 
 unfoldable pub convert : Chain → Point → Realization → Realization → Walk → Answer
 convert c p wanted reached w = unless (first (conversionTests c p wanted)) Refused (answerOf p reached w)

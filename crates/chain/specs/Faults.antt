@@ -1,4 +1,5 @@
 -- What a point, a step and a chain are refused for, each by itself and in the order of the refusal table.
+use mathlib.Core.Path.{_≡_}
 use mathlib.Core.Bool.{Bool, true, not, Bool·beq, _&&_}
 use mathlib.Core.List.{List, [], _∷_, _++_}
 use Prim.Native.Nat.{ℕ}
@@ -36,7 +37,7 @@ inArea p = area (p .x) (p .y) (p .z)
 
 -- ---- a point, by its numbers alone. The id is not examined
 unfoldable pub pointRange : Point → Bool
-pointRange p = issueRange (p .issue) && realizationRange (p .realization) && givenPosition (p .position)
+pointRange p = issueRange (p .label .issue) && realizationRange (p .realization) && givenPosition (p .position)
 
 abbrev pub pointTests : Point → List Test
 pointTests p = (not (pointRange p) gives refusal.range) ∷ (not (agrees (p .realization)) gives refusal.epoch) ∷ []
@@ -72,6 +73,18 @@ stepTests s =
 
 unfoldable pub stepFault : Step → ℕ
 stepFault s = first (stepTests s)
+
+-- what a step keeps that is not refused by itself: its numbers in range, its datums and epochs agreeing, its kind's rule
+pub record KindOk (kind : Kind) (r a : Realization) : Type 0 where
+  pub range : kindRange kind ≡ true
+  pub before : realizationRange r ≡ true
+  pub after : realizationRange a ≡ true
+  pub agree : agrees r ≡ true
+  pub agreed : agrees a ≡ true
+  pub rule : kindRule kind r a ≡ true
+
+abbrev pub StepOk : Step → Type 0
+StepOk s = KindOk (s .kind) (s .before) (s .after)
 
 -- ---- a chain: its length, then each step in turn, by itself and whether it begins where the one before it ended
 abbrev pub stepsOf : Chain → List Step

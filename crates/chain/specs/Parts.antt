@@ -3,7 +3,7 @@
 use mathlib.Core.List.{List}
 use Prim.Native.Nat.{ℕ, _+_}
 use lib.IntN.{ℤ, pos, negℤ, _+ℤ_, _-ℤ_, _*ℤ_}
-use Rattle.rounding.specs.Quotient.{roundDiv}
+use Rattle.rounding.specs.Nearest.{away, rounded}
 use Rattle.chain.specs.declared.Position.{Position}
 use Rattle.chain.specs.declared.Realization.{Realization}
 use Rattle.chain.specs.declared.Shift as shift'
@@ -17,6 +17,10 @@ use Rattle.chain.specs.declared.Step.{Step}
 use Rattle.chain.specs.Rows.{rowOf, figure}
 
 -- ---- the fractions
+-- how a step's parts and rotations are rounded: to the nearest whole number, a half away from zero
+unfoldable pub stepRound : ℤ → ℕ → ℤ
+stepRound = rounded away
+
 -- one axis' part, (k + a·X + b·Y + c·Z)/d
 pub record Part : Type 0 where
   pub k : ℤ
@@ -34,7 +38,7 @@ unfoldable pub linear : Part → Position → ℤ
 linear t p = t .a *ℤ p .x +ℤ t .b *ℤ p .y +ℤ t .c *ℤ p .z
 
 unfoldable pub part : Part → Position → ℤ
-part t p = roundDiv (t .k +ℤ linear t p) (t .d)
+part t p = stepRound (t .k +ℤ linear t p) (t .d)
 
 -- g at a position
 unfoldable pub gain : Parts → Position → Position
@@ -54,13 +58,13 @@ velocityParts t dt = record { px = fixed (t .vx *ℤ dt) 1000; py = fixed (t .vy
 
 -- ---- B, Bursa-Wolf
 -- P (position vector) takes a rotation as it is, C (coordinate frame) with the other sign
-abbrev pub signed : Convention → ℤ → ℤ
-signed PositionVector r = r
-signed CoordinateFrame r = negℤ r
+abbrev pub byConvention : Convention → ℤ → ℤ
+byConvention PositionVector r = r
+byConvention CoordinateFrame r = negℤ r
 
 -- a rotation of r·0.00001", in whole units of 10^-11 radian: the nearest to r times 4.84813681110, which is exact
-unfoldable pub radians : ℤ → ℤ
-radians r = roundDiv (r *ℤ pos 484813681110) 100000000000
+unfoldable pub rotation11 : ℤ → ℤ
+rotation11 r = stepRound (r *ℤ pos 484813681110) 100000000000
 
 -- k + (a·X + b·Y + c·Z)/10^11 is one fraction
 abbrev pub over11 : ℤ → ℤ → ℤ → ℤ → Part
@@ -73,7 +77,7 @@ turnedParts dx dy dz rx ry rz s = record { px = over11 dx s (negℤ rz) ry; py =
 unfoldable pub bursaWolfParts : bursaWolf'.BursaWolf → Parts
 bursaWolfParts t =
     turnedParts (t .dx) (t .dy) (t .dz)
-    (radians (signed (t .convention) (t .rx))) (radians (signed (t .convention) (t .ry))) (radians (signed (t .convention) (t .rz)))
+    (rotation11 (byConvention (t .convention) (t .rx))) (rotation11 (byConvention (t .convention) (t .ry))) (rotation11 (byConvention (t .convention) (t .rz)))
     (t .s)
 
 -- ---- F, frame: −[(T + Tv dt/1000) + (D + Dv dt/1000) × coordinate/10^11], dt = epoch − 2,010,000

@@ -26,7 +26,7 @@ fine = 0
 
 -- ---- a point: issue, datum, epoch, coordinates
 abbrev issued : ℤ → Point
-issued n = record { id = record { high = 0x4131_0000_0000_0000; low = 0 }; issue = n; realization = on 8 2010000; position = a1 }
+issued n = record { label = record { id = record { high = 0x4131_0000_0000_0000; low = 0 }; issue = n }; realization = on 8 2010000; position = a1 }
 
 abbrev at : Realization → ℕ → Fault
 at r w = by (pointFault (point r a1)) w

@@ -33,10 +33,15 @@ pub struct Id {
     pub low: u64,
 }
 
-// A control point.
-pub struct Point {
+// What a point is labelled with: its name, and the issue of its coordinates (1 to 65,535). A conversion hands it on as it is.
+pub struct Label {
     pub id: Id,
     pub issue: i64,
+}
+
+// A control point.
+pub struct Point {
+    pub label: Label,
     pub realization: Realization,
     pub position: Position,
 }

@@ -47,7 +47,8 @@ pub(crate) fn in_area(p: Position) -> bool
 pub(crate) fn point_in_range(point: Point) -> bool
     ensures { λ t. ⌜ t ≡ pointRange point ⌝ }
 {
+    let label = point.label;
     let r = point.realization;
     let p = point.position;
-    within(1, point.issue, 65535) & realization_in_range(r) & given(p)
+    within(1, label.issue, 65535) & realization_in_range(r) & given(p)
 }

@@ -3,9 +3,8 @@
 ghost use mathlib.Core.Path.{_≡_};
 ghost use Prim.Native.Nat.{_≤_};
 ghost use lib.IntN.{ℤ, pos, natAbs, negℤ, _+ℤ_, _*ℤ_};
-ghost use Rattle.rounding.specs.Quotient.{roundDiv};
-ghost use Rattle.chain.specs.Faults.{stepFault};
-ghost use Rattle.chain.specs.Parts.{signed, radians, atEpoch, part, over11, gain, plus, minus, forwardBy, again, inverseBy};
+ghost use Rattle.chain.specs.Faults.{StepOk};
+ghost use Rattle.chain.specs.Parts.{stepRound, byConvention, rotation11, atEpoch, part, over11, gain, plus, minus, forwardBy, again, inverseBy};
 ghost use Rattle.chain.specs.Rows.{rowOf};
 ghost use Rattle.chain.specs.Axes.{Small};
 ghost use Rattle.chain.specs.Ready.{Prepares, turnParts, slopeParts, readyParts, ReadyOk, TurnOk, ScaleOk, PartOk, LinearOk};
@@ -63,9 +62,9 @@ fn row(datum: i64) -> [i64; 8]
 }
 
 // A rotation as convention P has it.
-fn signed(convention: Convention, r: i64) -> i64
+fn by_convention(convention: Convention, r: i64) -> i64
     requires { ⌜ natAbs r ≤ 1000000 ⌝ }
-    ensures { λ t. ⌜ t ≡ signed convention r ⌝ }
+    ensures { λ t. ⌜ t ≡ byConvention convention r ⌝ }
 {
     match convention {
         Convention::PositionVector => r,
@@ -74,9 +73,9 @@ fn signed(convention: Convention, r: i64) -> i64
 }
 
 // 0.00001" to the nearest 10^-11 radian.
-fn radians(r: i64) -> i64
+fn rotation11(r: i64) -> i64
     requires { ⌜ natAbs r ≤ 1000000 ⌝ }
-    ensures { λ t. ⌜ t ≡ radians r ⌝ }
+    ensures { λ t. ⌜ t ≡ rotation11 r ⌝ }
 {
     rounding::quotient::round_div(r * 484813681110, 100000000000)
 }
@@ -84,13 +83,13 @@ fn radians(r: i64) -> i64
 // A rotation as it is applied.
 fn turned(convention: Convention, r: i64) -> i64
     requires { ⌜ natAbs r ≤ 1000000 ⌝ }
-    ensures { λ t. ⌜ t ≡ radians (signed convention r) ⌝ }
+    ensures { λ t. ⌜ t ≡ rotation11 (byConvention convention r) ⌝ }
 {
-    radians(signed(convention, r))
+    rotation11(by_convention(convention, r))
 }
 
 fn bursa_wolf_ready(step: Step, t: BursaWolf) -> Ready
-    requires { ⌜ (stepFault step ≡ 0) × (step .kind ≡ Kind.BursaWolf t) ⌝ }
+    requires { ⌜ (StepOk step) × (step .kind ≡ Kind.BursaWolf t) ⌝ }
     ensures { λ r. ⌜ Prepares step r ⌝ }
 {
     let c = t.convention;
@@ -109,7 +108,7 @@ fn bursa_wolf_ready(step: Step, t: BursaWolf) -> Ready
 }
 
 fn shift_ready(step: Step, t: Shift) -> Ready
-    requires { ⌜ (stepFault step ≡ 0) × (step .kind ≡ Kind.Shift t) ⌝ }
+    requires { ⌜ (StepOk step) × (step .kind ≡ Kind.Shift t) ⌝ }
     ensures { λ r. ⌜ Prepares step r ⌝ }
 {
     Ready::Fixed(Position {
@@ -122,13 +121,13 @@ fn shift_ready(step: Step, t: Shift) -> Ready
 // v units a year over dt thousandths of a year.
 fn moved(v: i64, dt: i64) -> i64
     requires { ⌜ (natAbs v ≤ 10000) × (natAbs dt ≤ 120000) ⌝ }
-    ensures { λ r. ⌜ r ≡ roundDiv (v *ℤ dt) 1000 ⌝ }
+    ensures { λ r. ⌜ r ≡ stepRound (v *ℤ dt) 1000 ⌝ }
 {
     rounding::quotient::round_div(v * dt, 1000)
 }
 
 fn velocity_ready(step: Step, t: Velocity) -> Ready
-    requires { ⌜ (stepFault step ≡ 0) × (step .kind ≡ Kind.Velocity t) ⌝ }
+    requires { ⌜ (StepOk step) × (step .kind ≡ Kind.Velocity t) ⌝ }
     ensures { λ r. ⌜ Prepares step r ⌝ }
 {
     let before = step.before;
@@ -157,7 +156,7 @@ fn shift_over14(t: i64, tv: i64, dt: i64) -> i64
 }
 
 fn frame_ready(step: Step) -> Ready
-    requires { ⌜ (stepFault step ≡ 0) × (step .kind ≡ Kind.Frame) ⌝ }
+    requires { ⌜ (StepOk step) × (step .kind ≡ Kind.Frame) ⌝ }
     ensures { λ r. ⌜ Prepares step r ⌝ }
 {
     let before = step.before;
@@ -177,7 +176,7 @@ fn frame_ready(step: Step) -> Ready
 
 // A step that is not refused, made ready.
 fn prepare(step: Step) -> Ready
-    requires { ⌜ stepFault step ≡ 0 ⌝ }
+    requires { ⌜ StepOk step ⌝ }
     ensures { λ r. ⌜ Prepares step r ⌝ }
 {
     let kind = step.kind;
@@ -218,7 +217,7 @@ fn turn_gain(t: Turn, p: Position) -> Position
 // (k + slope·z)/10^14, rounded once. With the rows' figures the numerator fits i64.
 fn scale_part(k: i64, slope: i64, z: i64) -> i64
     requires { ⌜ (natAbs k ≤ 1971000000000000000) × (natAbs slope ≤ 1202000) × (natAbs z ≤ 650000000000) ⌝ }
-    ensures { λ r. ⌜ r ≡ roundDiv (k +ℤ slope *ℤ z) 100000000000000 ⌝ }
+    ensures { λ r. ⌜ r ≡ stepRound (k +ℤ slope *ℤ z) 100000000000000 ⌝ }
 {
     rounding::quotient::round_div(k + slope * z, 100000000000000)
 }

@@ -8,9 +8,8 @@ use lib.Seq.{length-take-le}
 use native.Mathlib.Decide.{ℕ-discrete}
 use native.Mathlib.Omega.{arith}
 use borrow.Author.Tests.{eq-eqb, ne-eqb}
-use Rattle.line.specs.declared.Fault.{Fault}
 use Rattle.line.specs.Fields.{body, fields, Form, filled, inBody, said}
-use Rattle.line.specs.Lines.{fault, judged, answered}
+use Rattle.line.specs.Readers.{judged, readAs}
 use Rattle.line.specs.Reading.{TellsLine, Told, Framed}
 use Rattle.line.proofs.Walk as W
 
@@ -19,19 +18,19 @@ pub record Careful {A : Type 0} (faultOf : A → ℕ) (carried : A → A) : Type
   pub same : (a : A) → faultOf (carried a) ≡ faultOf a
   pub kept : (a : A) → faultOf a ≡ 0 → carried a ≡ a
 
-module _ {A R : Type 0} (faultOf : A → ℕ) (good : A → R) (refused : Fault → R) where
+module _ {A R : Type 0} (faultOf : A → ℕ) (good : A → R) (refused : ℕ → R) where
   judged-none : (a : A) → faultOf a ≡ 0 → judged faultOf good refused a ≡ good a
   judged-none a e = rw (eq-eqb (faultOf a) 0 e)
 
-  judged-some : (a : A) → (faultOf a ≡ 0 → ⊥) → judged faultOf good refused a ≡ refused (fault (faultOf a))
+  judged-some : (a : A) → (faultOf a ≡ 0 → ⊥) → judged faultOf good refused a ≡ refused (faultOf a)
   judged-some a e = rw (ne-eqb (faultOf a) 0 e)
 
   -- what the code does with a fault's number
   pub judge-none : (a : A) (n : ℕ) → n ≡ faultOf a → n ≡ 0 → good a ≡ judged faultOf good refused a
   judge-none a n e z = sym (judged-none a (sym e ∙ z))
 
-  pub judge-some : (a : A) (n : ℕ) → n ≡ faultOf a → (n ≡ 0 → ⊥) → refused (fault n) ≡ judged faultOf good refused a
-  judge-some a n e z = ap (λ (k : ℕ). refused (fault k)) e ∙ sym (judged-some a (λ q. z (e ∙ q)))
+  pub judge-some : (a : A) (n : ℕ) → n ≡ faultOf a → (n ≡ 0 → ⊥) → refused n ≡ judged faultOf good refused a
+  judge-some a n e z = ap refused e ∙ sym (judged-some a (λ q. z (e ∙ q)))
 
   module _ {carried : A → A} (careful : Careful faultOf carried) where
     judged-same : (a : A) → judged faultOf good refused (carried a) ≡ judged faultOf good refused a
@@ -40,28 +39,28 @@ module _ {A R : Type 0} (faultOf : A → ℕ) (good : A → R) (refused : Fault 
         go : Dec (faultOf a ≡ 0) → judged faultOf good refused (carried a) ≡ judged faultOf good refused a
         go (yes e) = ap (judged faultOf good refused) (careful .kept a e)
         go (no e) =
-            judged-some (carried a) (λ q. e (sym (careful .same a) ∙ q)) ∙ ap (λ (k : ℕ). refused (fault k)) (careful .same a)
+            judged-some (carried a) (λ q. e (sym (careful .same a) ∙ q)) ∙ ap refused (careful .same a)
             ∙ sym (judged-some a e)
 
-    module _ (form : Form A) (line : List ℕ) (end : ℕ) (framed : Framed line end (body line)) where
+    module _ (malformed : R) (form : Form A) (line : List ℕ) (end : ℕ) (framed : Framed line end (body line)) where
       abbrev Answer : R
-      Answer = answered faultOf good refused (said form line)
+      Answer = readAs faultOf good refused malformed (said form line)
 
       -- too long, or no line feed at its end
-      pub bad-frame : length line ≤ end → refused (fault 1) ≡ Answer
+      pub bad-frame : length line ≤ end → malformed ≡ Answer
       bad-frame h = go (body line) framed
         where
-          go : (o : Option (List ℕ)) → Framed line end o → refused (fault 1) ≡ answered faultOf good refused (inBody form o)
+          go : (o : Option (List ℕ)) → Framed line end o → malformed ≡ readAs faultOf good refused malformed (inBody form o)
           go none f = refl
           go (some s) f = absurd (omega arith)
 
       module _ (h : end < length line) {v : A} {next : ℕ} (told : Told (take end line) carried form 0 v next) where
         by-frame : (x : R)
-            → ((o : Option A) → TellsLine (take end line) carried o v next → x ≡ answered faultOf good refused o)
+            → ((o : Option A) → TellsLine (take end line) carried o v next → x ≡ readAs faultOf good refused malformed o)
             → x ≡ Answer
         by-frame x k = go (body line) framed
           where
-            go : (o : Option (List ℕ)) → Framed line end o → x ≡ answered faultOf good refused (inBody form o)
+            go : (o : Option (List ℕ)) → Framed line end o → x ≡ readAs faultOf good refused malformed (inBody form o)
             go none f = absurd (omega arith)
             go (some s) f =
                 rw (← f .1)
@@ -72,16 +71,16 @@ module _ {A R : Type 0} (faultOf : A → ℕ) (good : A → R) (refused : Fault 
         body-length = length-take-le end line (omega arith)
 
         -- a field bad, missing or left over
-        pub bad-form : (next ≡ end + 1 → ⊥) → refused (fault 1) ≡ Answer
-        bad-form n = by-frame (refused (fault 1)) go
+        pub bad-form : (next ≡ end + 1 → ⊥) → malformed ≡ Answer
+        bad-form n = by-frame (malformed) go
           where
-            go : (o : Option A) → TellsLine (take end line) carried o v next → refused (fault 1) ≡ answered faultOf good refused o
+            go : (o : Option A) → TellsLine (take end line) carried o v next → malformed ≡ readAs faultOf good refused malformed o
             go none t = refl
             go (some a) t = absurd (n (t .1 ∙ ap (λ (k : ℕ). k + 1) body-length))
 
         pub good-form : (x : R) → next ≡ end + 1 → x ≡ judged faultOf good refused v → x ≡ Answer
         good-form x n e = by-frame x go
           where
-            go : (o : Option A) → TellsLine (take end line) carried o v next → x ≡ answered faultOf good refused o
+            go : (o : Option A) → TellsLine (take end line) carried o v next → x ≡ readAs faultOf good refused malformed o
             go none t = absurd (t (n ∙ ap (λ (k : ℕ). k + 1) (sym body-length)))
             go (some a) t = e ∙ ap (judged faultOf good refused) (t .0) ∙ judged-same a

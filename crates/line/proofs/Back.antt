@@ -14,7 +14,7 @@ use Rattle.chain.specs.declared.Point.{Point}
 use Rattle.chain.specs.Faults.{pointFault}
 use Rattle.line.specs.declared.PointLine.the-variants as P
 use Rattle.line.specs.Forms.{pointForm}
-use Rattle.line.specs.Lines.{readPoint}
+use Rattle.line.specs.Readers.{readPoint}
 use Rattle.line.proofs.Lengths.{length-point}
 use Rattle.line.proofs.Walk as W
 use Rattle.line.proofs.Clean.{Clean, fields-clean, fields-tab, clean-number, clean-named}
@@ -57,11 +57,11 @@ line-back form f fs h c cs =
     rw (e, b) (ap (filled form) (fields-joined f fs c cs))
 
 -- ---- a point line: written for a point with no fault and an id that a line can hold, it is read back as the point
-module _ (p : Point) (none-found : pointFault p ≡ 0) (named : Named (p .id)) where
+module _ (p : Point) (none-found : pointFault p ≡ 0) (named : Named (p .label .id)) where
   abbrev after-letter : List (List ℕ)
   after-letter =
-      nameText (p .id)
-      ∷ integer (p .issue)
+      nameText (p .label .id)
+      ∷ integer (p .label .issue)
       ∷ integer (p .realization .datum)
       ∷ integer (p .realization .epoch)
       ∷ integer (p .position .x)
@@ -72,9 +72,9 @@ module _ (p : Point) (none-found : pointFault p ≡ 0) (named : Named (p .id)) w
   clean-fields : AllClean after-letter
   unfolding AllClean
   clean-fields = (
-    clean-named (nameText (p .id)) (p .id) (name-back (p .id) named),
+    clean-named (nameText (p .label .id)) (p .label .id) (name-back (p .label .id) named),
     (
-      clean-integer (p .issue),
+      clean-integer (p .label .issue),
       (
         clean-integer (p .realization .datum),
         (clean-integer (p .realization .epoch), (clean-integer (p .position .x), (clean-integer (p .position .y), (clean-integer (p .position .z), tt)))),
@@ -85,7 +85,7 @@ module _ (p : Point) (none-found : pointFault p ≡ 0) (named : Named (p .id)) w
   filled-point : filled pointForm ((80 ∷ []) ∷ after-letter) ≡ some p
   unfolding filled pointForm
   filled-point =
-      rw (name-back (p .id) named, number-back (p .issue), number-back (p .realization .datum), number-back (p .realization .epoch), number-back (p .position .x), number-back (p .position .y), number-back (p .position .z))
+      rw (name-back (p .label .id) named, number-back (p .label .issue), number-back (p .realization .datum), number-back (p .realization .epoch), number-back (p .position .x), number-back (p .position .y), number-back (p .position .z))
 
   clean-letter : Clean (80 ∷ [])
   unfolding Clean

@@ -14,11 +14,9 @@ use Rattle.refusal.specs.Order.{pick}
 use Rattle.chain.specs.declared.Id.{Id}
 use Rattle.line.specs.Number.{isDigit, digits, plain, positive, negative, numberOf}
 use Rattle.line.specs.Name.{isNameByte, allNameBytes, packed, nameOf}
-use Rattle.line.specs.Fields.{fields, taken, onward, ends, field, filled}
-use Rattle.line.specs.Reading.{TellsLine, Got}
+use Rattle.line.specs.Fields.{fields}
 use Rattle.line.proofs.Capped.{never}
 use Rattle.line.proofs.WrittenNames.{all-tail}
-use Rattle.line.proofs.Walk as W
 
 -- no tab in a field
 unfoldable pub Clean : List ℕ → Type 0
@@ -90,54 +88,3 @@ clean-named s id e = clean-name s (go (leb 1 (length s)) (leb (length s) 16) (al
     go true true false q = cc
     go true false v q = let w : _≡_ {A = ℕ} 0 1 = cc in absurd (omega arith)
     go false u v q = let w : _≡_ {A = ℕ} 0 1 = cc in absurd (omega arith)
-
--- ---- one field, read by itself
--- with a tab in it there are two fields or more
-data Parted (s : List ℕ) : Type 0 where
-  whole : Clean s → Parted s
-  parted : (f g : List ℕ) (fs : List (List ℕ)) → fields s ≡ f ∷ g ∷ fs → Parted s
-
-some-field : (s : List ℕ) → (f : List ℕ) × ((fs : List (List ℕ)) × (fields s ≡ f ∷ fs))
-some-field s = let x = W.field-at s 0 (omega arith) in (x .first, (x .rest, sym (W.from-start s) ∙ x .is))
-
-split-at-tab : (s : List ℕ) → Parted s
-unfolding Clean fields
-split-at-tab [] = whole tt
-split-at-tab (b ∷ s) = go (ℕ-discrete b 9) (split-at-tab s)
-  where
-    go : Dec (b ≡ 9) → Parted s → Parted (b ∷ s)
-    go (yes e) p = let x = some-field s in parted [] (x .0) (x .1 .0) (rw (eq-eqb b 9 e) (ap (λ (l : List (List ℕ)). [] ∷ l) (x .1 .1)))
-    go (no e) (whole c) = whole (e, c)
-    go (no e) (parted f g fs q) = parted (b ∷ f) g fs (rw (ne-eqb b 9 e, q))
-
--- such a field, and the end
-one-field : {B : Type 0} (o : Option B) → onward (taken o []) (λ b rest. filled (ends b) rest) ≡ o
-unfolding filled
-one-field none = refl
-one-field (some b) = refl
-
-more-fields : {B : Type 0} (o : Option B) (g : List ℕ) (fs : List (List ℕ)) → onward (taken o (g ∷ fs)) (λ b rest. filled (ends b) rest) ≡ none
-unfolding filled
-more-fields none g fs = refl
-more-fields (some b) g fs = refl
-
-module _ {B : Type 0} (read : List ℕ → Option B) (clean : (s : List ℕ) (b : B) → read s ≡ some b → Clean s) where
-  unread : (s f g : List ℕ) (fs : List (List ℕ)) → fields s ≡ f ∷ g ∷ fs → (o : Option B) → read s ≡ o → o ≡ none
-  unread s f g fs q none e = refl
-  unread s f g fs q (some b) e =
-      let n = ap length (sym (fields-clean s (clean s b e)) ∙ q) in
-      absurd (omega arith)
-
-  -- the form of this one field says what the field says
-  pub alone-is : (s : List ℕ) → filled (field read ends) (fields s) ≡ read s
-  unfolding filled
-  alone-is s = go (split-at-tab s)
-    where
-      go : Parted s → filled (field read ends) (fields s) ≡ read s
-      go (whole c) = rw (fields-clean s c) (one-field (read s))
-      go (parted f g fs q) = rw q (more-fields (read f) g fs ∙ sym (unread s f g fs q (read s) refl))
-
-  -- a reader of fields, at the first place of bytes that are one field
-  pub alone : {C : Type 0} {image : B → C} {v : C} {s : List ℕ} {next : ℕ} → Got s image read 0 v next → TellsLine s image (read s) v next
-  alone {image = image} {v} {s} {next} g =
-      rw (sym (alone-is s), sym (W.from-start s)) (W.more {k = ends} g (λ h. h) (λ b q h. W.done q h) .tells)

@@ -40,23 +40,23 @@ module _ (s t : List ℕ) (i : ℕ) where
 
 -- ---- two points
 module _ (p q : Point) (equal : Bool) where
-  pub other-high : (p .id .high ≡ q .id .high → ⊥) → Refused 16 ≡ weighed p q equal
-  other-high h = rw (ne-eqb (p .id .high) (q .id .high) h)
+  pub other-high : (p .label .id .high ≡ q .label .id .high → ⊥) → Refused 16 ≡ weighed p q equal
+  other-high h = rw (ne-eqb (p .label .id .high) (q .label .id .high) h)
 
-  module _ (h : p .id .high ≡ q .id .high) where
-    pub other-low : (p .id .low ≡ q .id .low → ⊥) → Refused 16 ≡ weighed p q equal
-    other-low l = rw (eq-eqb (p .id .high) (q .id .high) h, ne-eqb (p .id .low) (q .id .low) l)
+  module _ (h : p .label .id .high ≡ q .label .id .high) where
+    pub other-low : (p .label .id .low ≡ q .label .id .low → ⊥) → Refused 16 ≡ weighed p q equal
+    other-low l = rw (eq-eqb (p .label .id .high) (q .label .id .high) h, ne-eqb (p .label .id .low) (q .label .id .low) l)
 
-    module _ (l : p .id .low ≡ q .id .low) where
-      pub second-later : ltZ (p .issue) (q .issue) ≡ true → Second ≡ weighed p q equal
-      second-later a = rw (eq-eqb (p .id .high) (q .id .high) h, eq-eqb (p .id .low) (q .id .low) l, a)
+    module _ (l : p .label .id .low ≡ q .label .id .low) where
+      pub second-later : ltZ (p .label .issue) (q .label .issue) ≡ true → Second ≡ weighed p q equal
+      second-later a = rw (eq-eqb (p .label .id .high) (q .label .id .high) h, eq-eqb (p .label .id .low) (q .label .id .low) l, a)
 
-      module _ (a : ltZ (p .issue) (q .issue) ≡ false) where
-        pub first-later : ltZ (q .issue) (p .issue) ≡ true → First ≡ weighed p q equal
-        first-later b = rw (eq-eqb (p .id .high) (q .id .high) h, eq-eqb (p .id .low) (q .id .low) l, a, b)
+      module _ (a : ltZ (p .label .issue) (q .label .issue) ≡ false) where
+        pub first-later : ltZ (q .label .issue) (p .label .issue) ≡ true → First ≡ weighed p q equal
+        first-later b = rw (eq-eqb (p .label .id .high) (q .label .id .high) h, eq-eqb (p .label .id .low) (q .label .id .low) l, a, b)
 
-        pub one-line : ltZ (q .issue) (p .issue) ≡ false → equal ≡ true → First ≡ weighed p q equal
-        one-line b e = rw (eq-eqb (p .id .high) (q .id .high) h, eq-eqb (p .id .low) (q .id .low) l, a, b, e)
+        pub one-line : ltZ (q .label .issue) (p .label .issue) ≡ false → equal ≡ true → First ≡ weighed p q equal
+        one-line b e = rw (eq-eqb (p .label .id .high) (q .label .id .high) h, eq-eqb (p .label .id .low) (q .label .id .low) l, a, b, e)
 
-        pub two-lines : ltZ (q .issue) (p .issue) ≡ false → equal ≡ false → Refused 17 ≡ weighed p q equal
-        two-lines b e = rw (eq-eqb (p .id .high) (q .id .high) h, eq-eqb (p .id .low) (q .id .low) l, a, b, e)
+        pub two-lines : ltZ (q .label .issue) (p .label .issue) ≡ false → equal ≡ false → Refused 17 ≡ weighed p q equal
+        two-lines b e = rw (eq-eqb (p .label .id .high) (q .label .id .high) h, eq-eqb (p .label .id .low) (q .label .id .low) l, a, b, e)

@@ -14,7 +14,7 @@ use Rattle.refusal.proofs.Orders as orders
 use Rattle.ranges.specs.Ranges.{upTo, datumRange, epochRange, issueRange, givenRange, shiftRange, velocityRange, rotationRange, scaleRange, ellipsoidRange, offsetRange, latitudeRange, longitudeRange}
 use Rattle.chain.specs.Faults.{realizationRange, agrees, givenPosition, pointRange, pointFault, kindRange, kindRule, stepRange, stepFault}
 use Rattle.angle.specs.Ranges.{angleTests, originTests, anglesFault, originFault}
-use Rattle.line.specs.Lines.{geodeticFault}
+use Rattle.line.specs.Readers.{geodeticFault}
 use Rattle.line.specs.Reading.{cap, cappedZ, cappedRealization, cappedPosition, cappedPoint, cappedKind, cappedStep, cappedOrigin, cappedGeodetic}
 use Rattle.line.proofs.Answers.{Careful}
 use Rattle.line.proofs.Capped.{Sure, sure-within, sure-either, both, halves, careful-first}
@@ -83,12 +83,12 @@ sure-point : Sure cappedPoint pointRange
 unfolding pointRange
 sure-point =
     record {
-      same = λ p. both (both (sure-issue .same (p .issue)) (sure-realization .same (p .realization))) (sure-position .same (p .position));
+      same = λ p. both (both (sure-issue .same (p .label .issue)) (sure-realization .same (p .realization))) (sure-position .same (p .position));
       kept =
           λ p e.
-          let s = halves (issueRange (p .issue) && realizationRange (p .realization)) (givenPosition (p .position)) e in
-          let t = halves (issueRange (p .issue)) (realizationRange (p .realization)) (s .0) in
-          rw (sure-issue .kept (p .issue) (t .0), sure-realization .kept (p .realization) (t .1), sure-position .kept (p .position) (s .1));
+          let s = halves (issueRange (p .label .issue) && realizationRange (p .realization)) (givenPosition (p .position)) e in
+          let t = halves (issueRange (p .label .issue)) (realizationRange (p .realization)) (s .0) in
+          rw (sure-issue .kept (p .label .issue) (t .0), sure-realization .kept (p .realization) (t .1), sure-position .kept (p .position) (s .1));
     }
 
 pub careful-point : Careful pointFault cappedPoint

@@ -69,11 +69,11 @@ module _ (p : Point) (none : pointFault p ≡ 0) where
       go true e = refl
       go false e = absurd (never (sym e))
 
-  parts : (issueRange (p .issue) ≡ true) × (realizationRange (p .realization) ≡ true) × (givenPosition (p .position) ≡ true)
+  parts : (issueRange (p .label .issue) ≡ true) × (realizationRange (p .realization) ≡ true) × (givenPosition (p .position) ≡ true)
   unfolding pointRange
   parts =
-      let s = halves (issueRange (p .issue) && realizationRange (p .realization)) (givenPosition (p .position)) in-range in
-      let t = halves (issueRange (p .issue)) (realizationRange (p .realization)) (s .0) in
+      let s = halves (issueRange (p .label .issue) && realizationRange (p .realization)) (givenPosition (p .position)) in-range in
+      let t = halves (issueRange (p .label .issue)) (realizationRange (p .realization)) (s .0) in
       (t .0, t .1, s .1)
 
   times : (datumRange (p .realization .datum) ≡ true) × (epochRange (p .realization .epoch) ≡ true)
@@ -102,7 +102,7 @@ module _ (p : Point) (none : pointFault p ≡ 0) where
   length-point =
       rw (sym (T.point-is p))
       (simp length-append
-      (omega (arith, length-name (p .id), length-plus 4 1 65535 (p .issue) (omega arith) (parts .0), length-plus 1 1 10 (p .realization .datum) (omega arith) (times .0), length-epoch, length-coordinate (p .position .x) (places .0), length-coordinate (p .position .y) (places .1), length-coordinate (p .position .z) (places .2))))
+      (omega (arith, length-name (p .label .id), length-plus 4 1 65535 (p .label .issue) (omega arith) (parts .0), length-plus 1 1 10 (p .realization .datum) (omega arith) (times .0), length-epoch, length-coordinate (p .position .x) (places .0), length-coordinate (p .position .y) (places .1), length-coordinate (p .position .z) (places .2))))
 
 -- a projected line of numbers below 10^18 in size: at most 60 bytes
 pub length-projected : (id : Id) (e n : ℤ) → natAbs e < 10 ^ 18 → natAbs n < 10 ^ 18 → length (projectedText id e n) ≤ 60

@@ -1,3 +1,4 @@
+pub mod Lines
 pub mod Walk
 pub mod Numbers
 pub mod Names
@@ -7,9 +8,8 @@ pub mod Faults
 pub mod Texts
 pub mod Compared
 pub mod Lengths
-pub mod Good
+pub mod Readers
 pub mod WrittenNumbers
 pub mod WrittenNames
 pub mod Clean
-pub mod Alone
 pub mod Back

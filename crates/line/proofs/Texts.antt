@@ -121,7 +121,13 @@ upper-last n = go (decLt n 10)
         let y : n / 10 ≡ 0 → ⊥ = λ q. omega arith in
         rw (upper-some (n / 10) y) (sym (decimal-more n (omega arith)))
 
--- up to six digits
+-- up to three digits, and up to six
+pub three-is : (n : ℕ) → n < 1000 → leading (n / 100) ++ (leading (n / 10) ++ ((48 + n % 10) ∷ [])) ≡ decimal n
+three-is n h =
+    ap (λ (l : List ℕ). l ++ (leading (n / 10) ++ ((48 + n % 10) ∷ []))) (leading-first (n / 100) (omega arith))
+    ∙ upper-on (n / 100) (n / 10) _ (omega arith)
+    ∙ upper-last n
+
 pub short-is : (n : ℕ) → n < 1000000
     → leading (n / 100000) ++ (leading (n / 10000) ++ (leading (n / 1000) ++ (leading (n / 100) ++ (leading (n / 10) ++ ((48 + n % 10) ∷ []))))) ≡ decimal n
 short-is n h =
@@ -275,8 +281,8 @@ projected-is id e n = simp tabbed
 
 pub point-is : (p : Point)
     → (80 ∷ 9 ∷ [])
-    ++ ((nameText (p .id) ++ (9 ∷ []))
-    ++ ((integer (p .issue) ++ (9 ∷ []))
+    ++ ((nameText (p .label .id) ++ (9 ∷ []))
+    ++ ((integer (p .label .issue) ++ (9 ∷ []))
     ++ ((integer (p .realization .datum) ++ (9 ∷ []))
     ++ ((integer (p .realization .epoch) ++ (9 ∷ []))
     ++ ((integer (p .position .x) ++ (9 ∷ []))

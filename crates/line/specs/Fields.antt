@@ -8,18 +8,18 @@ use lib.ListN.{length, getD, take}
 use Rattle.refusal.specs.Order.{pick}
 use Rattle.line.specs.Bytes.{tab, lineFeed}
 
--- at most so many bytes, with the line feed
-abbrev pub most : ℕ
-most = 200
+-- a line has at most so many bytes, with the line feed
+abbrev pub longestLine : ℕ
+longestLine = 200
 
 -- a line's bytes before its line feed; nothing where it has none at its end, or is too long
 unfoldable pub body : List ℕ → Option (List ℕ)
 body line =
     pick (ltb 0 (length line))
-    (pick (leb (length line) most) (pick (eqb (getD line (length line - 1) 0) lineFeed) (some (take (length line - 1) line)) none) none)
+    (pick (leb (length line) longestLine) (pick (eqb (getD line (length line - 1) 0) lineFeed) (some (take (length line - 1) line)) none) none)
     none
 
--- a byte in front of the first field
+-- a byte in front of the first of some pieces (fields here, lines of an input elsewhere)
 abbrev pub front : ℕ → List (List ℕ) → List (List ℕ)
 front b [] = (b ∷ []) ∷ []
 front b (f ∷ fs) = (b ∷ f) ∷ fs

@@ -29,7 +29,7 @@ pointForm =
     field numberOf λ x.
     field numberOf λ y.
     field numberOf λ z.
-    ends (record { id = id; issue = issue; realization = record { datum = datum; epoch = epoch }; position = record { x = x; y = y; z = z } })
+    ends (record { label = record { id = id; issue = issue }; realization = record { datum = datum; epoch = epoch }; position = record { x = x; y = y; z = z } })
 
 abbrev pub stepOf : Realization → Realization → Kind → Step
 stepOf before after kind = record { kind = kind; before = before; after = after }

@@ -14,7 +14,7 @@ use Rattle.line.specs.declared.PointLine.{PointLine}
 use Rattle.line.specs.declared.PointLine.the-variants as P
 use Rattle.line.specs.declared.Verdict.{Verdict}
 use Rattle.line.specs.declared.Verdict.the-variants.{First, Second, Refused}
-use Rattle.line.specs.Lines.{readPoint}
+use Rattle.line.specs.Readers.{readPoint}
 
 unfoldable pub sameBytes : List ℕ → List ℕ → Bool
 sameBytes [] [] = true
@@ -27,20 +27,22 @@ sameName a b = pick (eqb (a .high) (b .high)) (eqb (a .low) (b .low)) false
 
 -- neither issue is the later one
 abbrev pub sameIssue : Point → Point → Bool
-sameIssue p q = pick (ltZ (p .issue) (q .issue)) false (not (ltZ (q .issue) (p .issue)))
+sameIssue p q = pick (ltZ (p .label .issue) (q .label .issue)) false (not (ltZ (q .label .issue) (p .label .issue)))
 
 -- two points that were read; `equal` says whether their lines are byte-equal
 abbrev pub weighTests : Point → Point → Bool → List Test
-weighTests p q equal = (not (sameName (p .id) (q .id)) gives refusal.ids) ∷ ((sameIssue p q && not equal) gives refusal.same) ∷ []
+weighTests p q equal = (not (sameName (p .label .id) (q .label .id)) gives refusal.ids) ∷ ((sameIssue p q && not equal) gives refusal.same) ∷ []
 
 -- 16, 17, and then the greater issue
 abbrev pub weighed : Point → Point → Bool → Verdict
-weighed p q equal = unless (first (weighTests p q equal)) Refused (pick (ltZ (p .issue) (q .issue)) Second First)
+weighed p q equal = unless (first (weighTests p q equal)) Refused (pick (ltZ (p .label .issue) (q .label .issue)) Second First)
 
 -- 1, 2, 3 of the first line, then of the second
 abbrev pub compared : PointLine → PointLine → Bool → Verdict
-compared (P.Refused f) b equal = Refused (f .number)
-compared (P.Point p) (P.Refused f) equal = Refused (f .number)
+compared (P.Malformed f) b equal = Refused (f .number)
+compared (P.Refused n) b equal = Refused n
+compared (P.Point p) (P.Malformed f) equal = Refused (f .number)
+compared (P.Point p) (P.Refused n) equal = Refused n
 compared (P.Point p) (P.Point q) equal = weighed p q equal
 
 unfoldable pub laterOf : List ℕ → List ℕ → Verdict

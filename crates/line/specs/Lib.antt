@@ -3,6 +3,7 @@ pub mod Number
 pub mod Fields
 pub mod Name
 pub mod Forms
+pub mod Readers
 pub mod Lines
 pub mod Text
 pub mod Later

@@ -120,8 +120,7 @@ cappedPosition p = record { x = cappedZ (p .x); y = cappedZ (p .y); z = cappedZ 
 abbrev pub cappedPoint : Point → Point
 cappedPoint p =
     record {
-      id = p .id;
-      issue = cappedZ (p .issue);
+      label = record { id = p .label .id; issue = cappedZ (p .label .issue) };
       realization = cappedRealization (p .realization);
       position = cappedPosition (p .position);
     }

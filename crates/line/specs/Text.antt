@@ -48,8 +48,8 @@ unfoldable pub pointText : Point → List ℕ
 pointText p =
     lineText
     ((letterP ∷ [])
-    ∷ nameText (p .id)
-    ∷ integer (p .issue)
+    ∷ nameText (p .label .id)
+    ∷ integer (p .label .issue)
     ∷ integer (p .realization .datum)
     ∷ integer (p .realization .epoch)
     ∷ integer (p .position .x)

@@ -33,16 +33,16 @@ fn is_before(issue: i64, other: i64) -> bool
 fn weigh(p: chain::Point, q: chain::Point, equal: bool) -> Verdict
     ensures { λ r. ⌜ r ≡ weighed p q equal ⌝ }
 {
-    if p.id.high != q.id.high {
+    if p.label.id.high != q.label.id.high {
         return Verdict::Refused(refusal::IDS);
     }
-    if p.id.low != q.id.low {
+    if p.label.id.low != q.label.id.low {
         return Verdict::Refused(refusal::IDS);
     }
-    if is_before(p.issue, q.issue) {
+    if is_before(p.label.issue, q.label.issue) {
         return Verdict::Second;
     }
-    if is_before(q.issue, p.issue) {
+    if is_before(q.label.issue, p.label.issue) {
         return Verdict::First;
     }
     if equal {
@@ -56,9 +56,11 @@ fn by_issue(a: PointLine, b: PointLine, equal: bool) -> Verdict
     ensures { λ r. ⌜ r ≡ compared a b equal ⌝ }
 {
     match a {
-        PointLine::Refused(f) => Verdict::Refused(f.number),
+        PointLine::Malformed(f) => Verdict::Refused(f.number),
+        PointLine::Refused(n) => Verdict::Refused(n),
         PointLine::Point(p) => match b {
-            PointLine::Refused(f) => Verdict::Refused(f.number),
+            PointLine::Malformed(f) => Verdict::Refused(f.number),
+            PointLine::Refused(n) => Verdict::Refused(n),
             PointLine::Point(q) => weigh(p, q, equal),
         },
     }

@@ -8,7 +8,7 @@ use crate::name::name;
 use crate::number::number;
 ghost use mathlib.Core.Path.{_≡_};
 ghost use Rattle.line.specs.Forms.{geodeticForm};
-ghost use Rattle.line.specs.Lines.{readGeodetic, judged, geodeticFault};
+ghost use Rattle.line.specs.Readers.{readGeodetic, judged, geodeticFault};
 ghost use Rattle.line.specs.Reading.{Told, cappedGeodetic};
 
 // A position as its fields say it, with numbers up to the cap, and where the field after them would begin.
@@ -42,7 +42,7 @@ fn judge_geodetic(g: Geodetic) -> GeodeticLine
     if number == 0 {
         GeodeticLine::Geodetic(g)
     } else {
-        GeodeticLine::Refused(Fault { number })
+        GeodeticLine::Refused(number)
     }
 }
 
@@ -59,7 +59,7 @@ pub fn read_geodetic(line: &[u8]) -> GeodeticLine
             return judge_geodetic(g);
         }
     }
-    GeodeticLine::Refused(Fault {
+    GeodeticLine::Malformed(Fault {
         number: refusal::FORM,
     })
 }

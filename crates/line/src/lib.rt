@@ -1,8 +1,9 @@
-// Lines: bytes to records and records to bytes, and the later of two point lines.
+// Lines: the lines of an input, bytes to records and records to bytes, and the later of two point lines.
 //
 // A line is at most 200 bytes with the line feed at its end; its fields are parted by one tab. Every function here takes any bytes
 // of any length. What is refused is refused for its form first, whatever its numbers are.
 mod compare;
+mod ends;
 mod field;
 mod geodetic_line;
 mod name;
@@ -14,9 +15,8 @@ mod write;
 
 pub use compare::later_of_two;
 pub use compare::later_verdict;
+pub use ends::line_end;
 pub use geodetic_line::read_geodetic;
-pub use name::read_name;
-pub use number::read_number;
 pub use origin_line::read_origin;
 pub use point_line::read_point;
 pub use step_line::read_step;
@@ -24,40 +24,33 @@ pub use write::write_point;
 pub use write::write_projected;
 pub use write::write_refusal;
 
-// Why a line is refused: a number of the refusal table.
+// What is wrong with the form of a line: a number of the refusal table.
 pub struct Fault {
     pub number: u8,
 }
 
-// One field's bytes as a number: below 10^13 in size; in plain form but beyond that, and so beyond every range; or of bad form.
-pub enum NumberField {
-    Number(i64),
-    Beyond,
-    Refused(Fault),
-}
-
-// One field's bytes as a point's name.
-pub enum NameField {
-    Name(chain::Id),
-    Refused(Fault),
-}
+// A reader answers three ways: the record; malformed, where the line is not of the form; refused with a number of the refusal table, where the form is
+// good and what the fields say is not.
 
 // P: a control point.
 pub enum PointLine {
     Point(chain::Point),
-    Refused(Fault),
+    Malformed(Fault),
+    Refused(u8),
 }
 
 // S: a step of a chain.
 pub enum StepLine {
     Step(chain::Step),
-    Refused(Fault),
+    Malformed(Fault),
+    Refused(u8),
 }
 
 // O: a state origin, by its whole numbers.
 pub enum OriginLine {
     Origin(angle::OriginNumbers),
-    Refused(Fault),
+    Malformed(Fault),
+    Refused(u8),
 }
 
 // G: a named position, latitude and longitude in 0.00001".
@@ -69,7 +62,8 @@ pub struct Geodetic {
 
 pub enum GeodeticLine {
     Geodetic(Geodetic),
-    Refused(Fault),
+    Malformed(Fault),
+    Refused(u8),
 }
 
 // Which of two point lines is the later one, or why neither is.

@@ -1,11 +1,8 @@
 // A point's name: 1 to 16 of A-Z, 0-9 and hyphen, held as two words.
-use crate::Fault;
-use crate::NameField;
 use crate::field::closed;
 use crate::field::nowhere;
 ghost use mathlib.Core.Path.{_≡_};
 ghost use Rattle.line.specs.Name.{isNameByte, nameOf};
-ghost use Rattle.line.specs.Lines.{readName};
 ghost use Rattle.line.specs.Reading.{Got, Packed, itself};
 
 // A name, and where the next field begins.
@@ -86,20 +83,5 @@ pub fn name(s: &[u8], at: usize) -> Named
             low: second.value,
         },
         next,
-    }
-}
-
-// One field's bytes as a name: the id, or FORM.
-pub fn read_name(field: &[u8]) -> NameField
-    ensures { λ r. ⌜ r ≡ readName (now (field .entry)) ⌝ }
-{
-    let r = name(field, 0);
-    if r.next == field.len() + 1 {
-        let id = r.id;
-        NameField::Name(id)
-    } else {
-        NameField::Refused(Fault {
-            number: refusal::FORM,
-        })
     }
 }

@@ -1,24 +1,16 @@
 // A number in plain form: decimal, no plus, no spare zeros, no -0. It may have any length: from 10^13 on it is carried as 10^13,
 // which no range reaches, so that a number too large is told from a bad one and nothing wraps.
-use crate::Fault;
-use crate::NumberField;
 use crate::field::closed;
 use crate::field::nowhere;
 ghost use mathlib.Core.Path.{_≡_};
 ghost use Prim.Native.Nat.{_+_, _-_, _*_, _≤_, _<_};
 ghost use lib.IntN.{pos, negℤ};
 ghost use Rattle.line.specs.Number.{digits, plain, numberOf};
-ghost use Rattle.line.specs.Lines.{inReach, readNumber};
 ghost use Rattle.line.specs.Reading.{Got, capped, cappedZ, cap, Long, Sized};
 
 const CAP: u64 = 10000000000000;
 // One digit more on a number below this is still far from wrapping.
 const ROOM: u64 = 100000000000000000;
-
-// The numbers that are carried as they are.
-const LEAST: i64 = -9999999999999;
-
-const MOST: i64 = 9999999999999;
 
 const MINUS: u8 = 45;
 
@@ -159,31 +151,5 @@ pub fn number(s: &[u8], at: usize) -> Integer
             value: above_zero(m.value),
             next: m.next,
         }
-    }
-}
-
-fn in_reach(z: i64) -> NumberField
-    ensures { λ r. ⌜ r ≡ inReach z ⌝ }
-{
-    if z < LEAST {
-        return NumberField::Beyond;
-    }
-    if MOST < z {
-        return NumberField::Beyond;
-    }
-    NumberField::Number(z)
-}
-
-// One field's bytes as a number: the number, or that it is 10^13 or more in size, or FORM.
-pub fn read_number(field: &[u8]) -> NumberField
-    ensures { λ r. ⌜ r ≡ readNumber (now (field .entry)) ⌝ }
-{
-    let r = number(field, 0);
-    if r.next == field.len() + 1 {
-        in_reach(r.value)
-    } else {
-        NumberField::Refused(Fault {
-            number: refusal::FORM,
-        })
     }
 }

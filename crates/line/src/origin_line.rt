@@ -6,7 +6,7 @@ use crate::field::letter;
 use crate::number::number;
 ghost use mathlib.Core.Path.{_≡_};
 ghost use Rattle.line.specs.Forms.{originForm};
-ghost use Rattle.line.specs.Lines.{readOrigin, judged};
+ghost use Rattle.line.specs.Readers.{readOrigin, judged};
 ghost use Rattle.line.specs.Reading.{Told, cappedOrigin};
 ghost use Rattle.angle.specs.Ranges.{originFault};
 
@@ -44,7 +44,7 @@ fn judge_origin(o: angle::OriginNumbers) -> OriginLine
     if number == 0 {
         OriginLine::Origin(o)
     } else {
-        OriginLine::Refused(Fault { number })
+        OriginLine::Refused(number)
     }
 }
 
@@ -61,7 +61,7 @@ pub fn read_origin(line: &[u8]) -> OriginLine
             return judge_origin(o);
         }
     }
-    OriginLine::Refused(Fault {
+    OriginLine::Malformed(Fault {
         number: refusal::FORM,
     })
 }

@@ -7,7 +7,7 @@ use crate::name::name;
 use crate::number::number;
 ghost use mathlib.Core.Path.{_≡_};
 ghost use Rattle.line.specs.Forms.{pointForm};
-ghost use Rattle.line.specs.Lines.{readPoint, judged};
+ghost use Rattle.line.specs.Readers.{readPoint, judged};
 ghost use Rattle.line.specs.Reading.{Told, cappedPoint};
 ghost use Rattle.chain.specs.Faults.{pointFault};
 
@@ -32,8 +32,10 @@ fn point_fields(s: &[u8]) -> PointFields
     let z = number(s, y.next);
     PointFields {
         point: chain::Point {
-            id,
-            issue: issue.value,
+            label: chain::Label {
+                id,
+                issue: issue.value,
+            },
             realization: chain::Realization {
                 datum: datum.value,
                 epoch: epoch.value,
@@ -55,7 +57,7 @@ fn judge_point(p: chain::Point) -> PointLine
     if number == 0 {
         PointLine::Point(p)
     } else {
-        PointLine::Refused(Fault { number })
+        PointLine::Refused(number)
     }
 }
 
@@ -72,7 +74,7 @@ pub fn read_point(line: &[u8]) -> PointLine
             return judge_point(p);
         }
     }
-    PointLine::Refused(Fault {
+    PointLine::Malformed(Fault {
         number: refusal::FORM,
     })
 }

@@ -12,7 +12,7 @@ ghost use mathlib.Core.List.{[], _∷_};
 ghost use Rattle.line.specs.Bytes.{letterT, letterV, letterB, letterF, letterP, letterC};
 ghost use Rattle.line.specs.Fields.{letterOf};
 ghost use Rattle.line.specs.Forms.{stepForm, threeForm, bursaWolfForm, kindForm, shift, velocity, conventionOf};
-ghost use Rattle.line.specs.Lines.{readStep, judged};
+ghost use Rattle.line.specs.Readers.{readStep, judged};
 ghost use Rattle.line.specs.Reading.{Got, Told, Tail, itself, cappedStep, cappedKind};
 ghost use Rattle.chain.specs.Faults.{stepFault};
 
@@ -182,7 +182,7 @@ fn judge_step(step: chain::Step) -> StepLine
     if number == 0 {
         StepLine::Step(step)
     } else {
-        StepLine::Refused(Fault { number })
+        StepLine::Refused(number)
     }
 }
 
@@ -199,7 +199,7 @@ pub fn read_step(line: &[u8]) -> StepLine
             return judge_step(step);
         }
     }
-    StepLine::Refused(Fault {
+    StepLine::Malformed(Fault {
         number: refusal::FORM,
     })
 }

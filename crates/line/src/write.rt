@@ -51,6 +51,16 @@ fn short(out: &mut [u8], at: usize, n: u64) -> usize
     digit(out, e, n)
 }
 
+// A number of up to three digits: a refusal's. Most lines of a bad sheet end in one, so it has no more digits to look at than it needs.
+fn three(out: &mut [u8], at: usize, n: u64) -> usize
+    requires { ⌜ n < 1000 ⌝ }
+    ensures { λ r. ⌜ Wrote (now (out .entry)) at (decimal n) (now (out .exit)) r ⌝ }
+{
+    let a = leading_digit(out, at, n / 100);
+    let b = leading_digit(out, a, n / 10);
+    digit(out, b, n)
+}
+
 // The last six digits of n, zeros and all. They are worked out side by side: no digit waits for another.
 fn six_digits(out: &mut [u8], at: usize, n: u64) -> usize
     ensures { λ r. ⌜ Wrote (now (out .entry)) at (six n) (now (out .exit)) r ⌝ }
@@ -141,8 +151,8 @@ pub fn write_point(out: &mut [u8], at: usize, p: chain::Point) -> usize
     ensures { λ r. ⌜ Wrote (now (out .entry)) at (pointText p) (now (out .exit)) r ⌝ }
 {
     let a = letter(out, at, b'P');
-    let b = name(out, a, p.id);
-    let c = whole(out, b, p.issue, TAB);
+    let b = name(out, a, p.label.id);
+    let c = whole(out, b, p.label.issue, TAB);
     let d = whole(out, c, p.realization.datum, TAB);
     let e = whole(out, d, p.realization.epoch, TAB);
     let f = whole(out, e, p.position.x, TAB);
@@ -173,6 +183,6 @@ pub fn write_refusal(out: &mut [u8], at: usize, line: u64, number: u8) -> usize
     let a = letter(out, at, b'R');
     let b = natural(out, a, line);
     let c = byte(out, b, TAB);
-    let d = natural(out, c, wide(number));
+    let d = three(out, c, wide(number));
     byte(out, d, LINE_FEED)
 }

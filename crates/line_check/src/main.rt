@@ -4,8 +4,6 @@ mod show;
 
 use crate::show::geodetic;
 use crate::show::later;
-use crate::show::name_field;
-use crate::show::number_field;
 use crate::show::origin;
 use crate::show::point;
 use crate::show::step;
@@ -192,33 +190,33 @@ fn later_lines() {
     later(b"", b"");
 }
 
-fn single_fields() {
-    number_field(b"0");
-    number_field(b"-5");
-    number_field(b"9999999999999");
-    number_field(b"-9999999999999");
-    number_field(b"10000000000000");
-    number_field(b"-10000000000000");
-    number_field(b"18446744073709551616");
-    number_field(b"-123456789012345678901234567890");
-    number_field(b"");
-    number_field(b"-");
-    number_field(b"00");
-    number_field(b"-0");
-    number_field(b"+1");
-    number_field(b"1\t");
-    number_field(b"1\n");
-    number_field(b"12a");
-    number_field(b"123456789012345678901234567890x");
-    name_field(b"A");
-    name_field(b"EIGHT-88");
-    name_field(b"NINE-NINE");
-    name_field(b"SIXTEEN-BYTES-16");
-    name_field(b"SEVENTEEN-BYTES-17");
-    name_field(b"");
-    name_field(b"a");
-    name_field(b"A\t");
-    name_field(b"A B");
+fn numbers_and_names() {
+    point(b"P\tA1\t1\t6\t2000000\t0\t2\t3\n");
+    point(b"P\tA1\t1\t6\t2000000\t-5\t2\t3\n");
+    point(b"P\tA1\t1\t6\t2000000\t9999999999999\t2\t3\n");
+    point(b"P\tA1\t1\t6\t2000000\t-9999999999999\t2\t3\n");
+    point(b"P\tA1\t1\t6\t2000000\t10000000000000\t2\t3\n");
+    point(b"P\tA1\t1\t6\t2000000\t-10000000000000\t2\t3\n");
+    point(b"P\tA1\t1\t6\t2000000\t18446744073709551616\t2\t3\n");
+    point(b"P\tA1\t1\t6\t2000000\t-123456789012345678901234567890\t2\t3\n");
+    point(b"P\tA1\t1\t6\t2000000\t\t2\t3\n");
+    point(b"P\tA1\t1\t6\t2000000\t-\t2\t3\n");
+    point(b"P\tA1\t1\t6\t2000000\t00\t2\t3\n");
+    point(b"P\tA1\t1\t6\t2000000\t-0\t2\t3\n");
+    point(b"P\tA1\t1\t6\t2000000\t+1\t2\t3\n");
+    point(b"P\tA1\t1\t6\t2000000\t1\t\t2\t3\n");
+    point(b"P\tA1\t1\t6\t2000000\t1\n\t2\t3\n");
+    point(b"P\tA1\t1\t6\t2000000\t12a\t2\t3\n");
+    point(b"P\tA1\t1\t6\t2000000\t123456789012345678901234567890x\t2\t3\n");
+    geodetic(b"G\tA\t0\t36720000000\n");
+    geodetic(b"G\tEIGHT-88\t0\t36720000000\n");
+    geodetic(b"G\tNINE-NINE\t0\t36720000000\n");
+    geodetic(b"G\tSIXTEEN-BYTES-16\t0\t36720000000\n");
+    geodetic(b"G\tSEVENTEEN-BYTES-17\t0\t36720000000\n");
+    geodetic(b"G\t\t0\t36720000000\n");
+    geodetic(b"G\ta\t0\t36720000000\n");
+    geodetic(b"G\tA\t\t0\t36720000000\n");
+    geodetic(b"G\tA B\t0\t36720000000\n");
 }
 
 fn main() {
@@ -232,5 +230,5 @@ fn main() {
     origins();
     positions();
     later_lines();
-    single_fields();
+    numbers_and_names();
 }

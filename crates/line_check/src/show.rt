@@ -1,8 +1,6 @@
 // How each reader's answer is printed: what was read of an accepted line, the number of a refused one.
 use libc::STDOUT_FILENO;
 use line::GeodeticLine;
-use line::NameField;
-use line::NumberField;
 use line::OriginLine;
 use line::PointLine;
 use line::StepLine;
@@ -31,26 +29,10 @@ fn projected(id: chain::Id, a: i64, b: i64) {
     print(&out, n);
 }
 
-pub(crate) fn number_field(f: &[u8]) {
-    match line::read_number(f) {
-        NumberField::Number(z) => pair(z, 0),
-        NumberField::Beyond => {
-            io::write_all(STDOUT_FILENO, b"beyond\n");
-        }
-        NumberField::Refused(f) => number(f.number),
-    }
-}
-
-pub(crate) fn name_field(f: &[u8]) {
-    match line::read_name(f) {
-        NameField::Name(id) => projected(id, 0, 0),
-        NameField::Refused(f) => number(f.number),
-    }
-}
-
 pub(crate) fn point(l: &[u8]) {
     match line::read_point(l) {
-        PointLine::Refused(f) => number(f.number),
+        PointLine::Malformed(f) => number(f.number),
+        PointLine::Refused(n) => number(n),
         PointLine::Point(p) => {
             let mut out = [0u8; 200];
             let n = line::write_point(&mut out, 0, p);
@@ -96,7 +78,8 @@ fn bursa_wolf(t: chain::BursaWolf) {
 
 pub(crate) fn step(l: &[u8]) {
     match line::read_step(l) {
-        StepLine::Refused(f) => number(f.number),
+        StepLine::Malformed(f) => number(f.number),
+        StepLine::Refused(n) => number(n),
         StepLine::Step(s) => {
             pair(s.before.datum, s.before.epoch);
             pair(s.after.datum, s.after.epoch);
@@ -108,7 +91,8 @@ pub(crate) fn step(l: &[u8]) {
 
 pub(crate) fn origin(l: &[u8]) {
     match line::read_origin(l) {
-        OriginLine::Refused(f) => number(f.number),
+        OriginLine::Malformed(f) => number(f.number),
+        OriginLine::Refused(n) => number(n),
         OriginLine::Origin(o) => {
             pair(o.ellipsoid, o.latitude);
             pair(o.longitude, o.false_easting);
@@ -119,7 +103,8 @@ pub(crate) fn origin(l: &[u8]) {
 
 pub(crate) fn geodetic(l: &[u8]) {
     match line::read_geodetic(l) {
-        GeodeticLine::Refused(f) => number(f.number),
+        GeodeticLine::Malformed(f) => number(f.number),
+        GeodeticLine::Refused(n) => number(n),
         GeodeticLine::Geodetic(g) => {
             let id = g.id;
             projected(id, g.latitude, g.longitude);

@@ -1,4 +1,5 @@
--- A program answers its input line by line, with a state carried from line to line: what it prints is the answers one after the other.
+-- A program answers its input line by line, with a state carried from line to line: it replies to each line, and what it prints is the replies one after the
+-- other.
 use Prim.Native.Nat.{ℕ, _+_, _*_, _≤_, min}
 use mathlib.Core.Path.{_≡_}
 use mathlib.Core.List.{List, [], _∷_, _++_}
@@ -6,28 +7,29 @@ use lib.Dec.{eqb, ltb}
 use lib.ListN.{length, getD, take, drop}
 use Rattle.refusal.specs.Numbers as refusal
 use Rattle.refusal.specs.Order.{pick}
+use Rattle.line.specs.Lines.{lines}
 use Rattle.line.specs.Text.{refusalText, Wrote}
-use Rattle.listing.specs.Lines.{lines}
 
--- the rules of a program: what a line prints in a state, and the state after it
-pub record Rules (S : Type 0) : Type 0 where
-  pub answer : S → List ℕ → List ℕ
+-- the rules of a program with states S and replies R: the reply to a line in a state, the state after the line, and how a reply is printed
+pub record Rules (S R : Type 0) : Type 0 where
+  pub reply : S → List ℕ → R
   pub next : S → List ℕ → S
+  pub text : R → List ℕ
 
-unfoldable pub run : {S : Type 0} → Rules S → S → List (List ℕ) → List ℕ
+unfoldable pub run : {S R : Type 0} → Rules S R → S → List (List ℕ) → List ℕ
 run r s [] = []
-run r s (l ∷ ls) = r .answer s l ++ run r (r .next s l) ls
+run r s (l ∷ ls) = r .text (r .reply s l) ++ run r (r .next s l) ls
 
 -- a whole input, of at most so many bytes; more prints only R, 0, 15
-abbrev pub most : ℕ
-most = 65536
+abbrev pub longestInput : ℕ
+longestInput = 65536
 
-unfoldable pub printed : {S : Type 0} → Rules S → S → List ℕ → List ℕ
-printed r s input = pick (ltb most (length input)) (refusalText 0 refusal.long) (run r s (lines input))
+unfoldable pub printed : {S R : Type 0} → Rules S R → S → List ℕ → List ℕ
+printed r s input = pick (ltb longestInput (length input)) (refusalText 0 refusal.long) (run r s (lines input))
 
--- the room that an input of n bytes asks for: 11 bytes for each byte, up to the most that is read, and 7
+-- the room that an input of n bytes asks for: 11 bytes for each byte, up to the longest input, and 7
 unfoldable pub roomFor : ℕ → ℕ
-roomFor n = 11 * min n most + 7
+roomFor n = 11 * min n longestInput + 7
 
 -- what a call that prints does: the array held `before` and holds `after`, and r is the place past the text
 pub record Prints (text input before after : List ℕ) (r : ℕ) : Type 0 where

@@ -1,19 +1,33 @@
-// An input as its lines.
+// A program that answers its input line by line: how long an input may be, and how much room its text asks for.
+ghost use Prim.Native.Nat.{_+_};
 ghost use mathlib.Core.Path.{_≡_};
-ghost use Rattle.listing.specs.Lines.{lineEnd};
+ghost use lib.ListN.{length};
+ghost use Rattle.listing.specs.Fold.{longestInput, roomFor};
 
-const FEED: u8 = 10;
+// The longest input that is read, in bytes. Of a longer one nothing is read.
+pub const LONGEST_INPUT: usize = 65536;
 
-// The place past the line that begins at `from`: past its line feed, or the end of the input. A place at or past the end is its own answer.
-pub fn line_end(input: &[u8], from: usize) -> usize
-    ensures { λ r. ⌜ r ≡ lineEnd (now (input .entry)) from ⌝ }
+// The room that an input of n bytes asks for, in bytes: a line prints at most 11 for each of its own.
+pub fn room_for(n: usize) -> usize
+    ensures { λ r. ⌜ r ≡ roomFor n ⌝ }
 {
-    let mut place = from;
-    while place < input.len() {
-        if input[place] == FEED {
-            return place + 1;
-        }
-        place = place + 1;
+    if n < LONGEST_INPUT {
+        11 * n + 7
+    } else {
+        11 * LONGEST_INPUT + 7
     }
-    place
+}
+
+// Room for the longest input that is read and one byte more, by which a longer one shows.
+pub fn input_space() -> [u8; 65537]
+    ensures { λ r. ⌜ longestInput + 1 ≡ length r ⌝ }
+{
+    [0; 65537]
+}
+
+// Room for what any input prints.
+pub fn output_space() -> [u8; 720903]
+    ensures { λ r. ⌜ roomFor longestInput ≡ length r ⌝ }
+{
+    [0; 720903]
 }

@@ -1,37 +1,38 @@
 -- How the code carries a plan: the accepted origin's values, made once.
 use mathlib.Core.Path.{_≡_}
-use mathlib.Core.Bool.{Bool, true, false}
-use mathlib.Core.List.{List}
 use mathlib.Core.Option.{Option, none, some}
 use Prim.Native.Nat.{ℕ, _+_}
-use Rattle.angle.specs.declared.Origin.{Origin}
 use Rattle.angle.specs.declared.OriginNumbers.{OriginNumbers}
-use Rattle.angle.specs.Ranges.{originFault}
-use Rattle.angle.specs.Cassini.{originMade}
-use Rattle.line.specs.Text.{Wrote}
+use Rattle.angle.specs.declared.OriginAnswer.the-variants as answer
+use Rattle.angle.specs.Cassini.{originOf}
+use Rattle.plan_rules.specs.declared.PlanOrigin.{PlanOrigin}
+use Rattle.plan_rules.specs.declared.PlanOrigin.the-variants.{Missing, Made}
+use Rattle.plan_rules.specs.declared.Reply.{Reply}
+use Rattle.plan_rules.specs.declared.Reply.the-variants as reply
 use Rattle.plan_rules.specs.declared.State.{State}
-use Rattle.plan_rules.specs.declared.Answered.{Answered}
+use Rattle.plan_rules.specs.declared.Decided.{Decided}
 use Rattle.plan_rules.specs.Plan.{Plan}
 
--- the values are those of the accepted origin
-abbrev pub Made : Bool → Origin → Option OriginNumbers → Type 0
-Made made m none = made ≡ false
-Made made m (some o) = (made ≡ true) × (m ≡ originMade o) × (originFault o ≡ 0)
+-- the values are those that the accepted origin's numbers give
+abbrev pub Values : PlanOrigin → Option OriginNumbers → Type 0
+Values Missing none = Unit {0}
+Values Missing (some o) = ⊥
+Values (Made m) none = ⊥
+Values (Made m) (some o) = originOf o ≡ answer.Made m
 
 -- the state holds the plan
 pub record Holds (st : State) (p : Plan) : Type 0 where
   pub line : st .line ≡ p .line
-  pub origin : Made (st .made) (st .origin) (p .origin)
+  pub origin : Values (st .origin) (p .origin)
 
--- what a line gave: its text written, and the plan after it held
-pub record Gave (text : List ℕ) (next : Plan) (out : List ℕ) (at : ℕ) (out' : List ℕ) (r : Answered) : Type 0 where
-  pub wrote : Wrote out at text out' (r .at)
+-- what was decided on a line: the reply to it, and the plan after it held
+pub record Gave (answer : Reply) (next : Plan) (r : Decided) : Type 0 where
+  pub reply : r .reply ≡ answer
   pub holds : Holds (r .state) next
 
--- the plan after a line, with the origin after it
-abbrev pub withOrigin : Plan → Option OriginNumbers → Plan
-withOrigin p origin = record { line = p .line + 1; origin = origin }
-
--- the state after a line that leaves the origin as it is
+-- the state after a line that leaves the origin as it is, and what is decided on a refused line
 unfoldable pub afterIn : State → State
-afterIn st = record { line = st .line + 1; made = st .made; origin = st .origin }
+afterIn st = record { line = st .line + 1; origin = st .origin }
+
+unfoldable pub refusedIn : State → ℕ → Decided
+refusedIn st number = record { reply = reply.Refused (st .line) number; state = afterIn st }

@@ -2,13 +2,14 @@
 use mathlib.Core.Path.{_≡_, refl, sym, _∙_, ap}
 use mathlib.Core.Bool.{Bool, true, false, not, _||_}
 use mathlib.Core.List.{List, [], _∷_, _++_}
-use Prim.Native.Nat.{ℕ, _+_, _<_}
+use Prim.Native.Nat.{ℕ, zero, suc, _+_, _<_}
 use native.Mathlib.Omega.{arith}
-use borrow.Author.Tests.{eq-eqb, ne-eqb, leb-false}
-use lib.Dec.{eqb, leb}
+use borrow.Author.Tests.{not-false, leb-false}
+use lib.Dec.{eqb}
 use lib.IntN.{ℤ}
-use lib.ListN.{length, getD, length-append}
-use Rattle.refusal.specs.Order.{pick}
+use lib.ListN.{length, length-append}
+use Rattle.refusal.specs.Order.{pick, first, unless}
+use Rattle.refusal.proofs.Orders.{passed, unless-none, unless-some}
 use Rattle.chain.specs.declared.Realization.{Realization}
 use Rattle.chain.specs.declared.Step.{Step}
 use Rattle.chain.specs.declared.Point.{Point}
@@ -18,19 +19,15 @@ use Rattle.chain.specs.Convert.{startOf, endOf, forwardOf}
 use Rattle.chain.specs.Prepared.{MadeReady, forwardReadyOf, chainOf, Ends}
 use Rattle.chain.proofs.Keeping.{same-self, some, held-none, held-more, made-length, sound-more, prepared-forward}
 use Rattle.line.specs.declared.StepLine.the-variants as step-line
-use Rattle.line.specs.declared.PointLine.the-variants as point-line
 use Rattle.line.specs.declared.StepLine.{StepLine}
 use Rattle.line.specs.Bytes.{letterS, letterP}
-use Rattle.line.specs.Fields.{said}
-use Rattle.line.specs.Forms.{pointForm, stepForm}
-use Rattle.line.specs.Lines.{readPoint, readStep}
-use Rattle.line.specs.Text.{Wrote, refusalText}
-use Rattle.line.proofs.Texts.{nothing}
-use Rattle.listing.proofs.Laws.{no-fault, Left}
+use Rattle.line.specs.Readers.{readStep}
+use Rattle.listing.proofs.Fold.{by-letter}
 use Rattle.sheet_rules.specs.declared.State.{State}
-use Rattle.sheet_rules.specs.declared.Answered.{Answered}
-use Rattle.sheet_rules.specs.Sheet.{Sheet, fresh, rules, nextOf, passed, afterPoint, joins, stepRefusal, stepAnswer, afterStep, withStep, withoutStep}
-use Rattle.sheet_rules.specs.State.{Holds, Gave, refusalIn, afterIn, withIn}
+use Rattle.sheet_rules.specs.declared.Reply.the-variants as reply
+use Rattle.sheet_rules.specs.declared.Decided.{Decided}
+use Rattle.sheet_rules.specs.Sheet.{Sheet, fresh, nextOf, refuse, stepTests, stepReply, afterStep, withStep, withoutStep}
+use Rattle.sheet_rules.specs.State.{Holds, Gave, testsIn, refusalIn, afterIn, refusedIn, withIn}
 
 -- ---- a step that joins
 joined : (ss : List Step) (start end from : Realization) → Ends start end ss → (eqb (length ss) 0 || sameRealization end from) ≡ sameRealization (endOf from ss) from
@@ -38,7 +35,7 @@ unfolding endOf
 joined [] start end from e = sym (same-self from)
 joined (s ∷ ss) start end from e = let b = some s ss in rw (b, e .ends)
 
-pub same-refusal : {st : State} {l : List ℤ} {s : Sheet} → Holds st l s → (t : Step) → refusalIn st (t .before) ≡ stepRefusal s t
+pub same-refusal : {st : State} {l : List ℤ} {s : Sheet} → Holds st l s → (t : Step) → refusalIn st (t .before) ≡ first (stepTests s t)
 unfolding refusalIn
 same-refusal {st} {l} {s} h t = rw (h .refused, h .closed, h .count, joined (s .steps) (st .start) (st .end) (t .before) (h .ends))
 
@@ -47,18 +44,11 @@ pub record Open (st : State) (from : Realization) : Type 0 where
   pub joins : (eqb (st .length) 0 || sameRealization (st .end) from) ≡ true
   pub few : st .length < 8
 
-passes : (a b c d : Bool) → _≡_ {A = ℕ} (pick a 8 (pick b 7 (pick (not c) 5 (pick d 6 0)))) 0 → (c ≡ true) × (d ≡ false)
-passes true b c d e = absurd (omega arith)
-passes false true c d e = absurd (omega arith)
-passes false false false d e = absurd (omega arith)
-passes false false true true e = absurd (omega arith)
-passes false false true false e = (refl, refl)
-
 pub opened : (st : State) (from : Realization) → refusalIn st from ≡ 0 → Open st from
 unfolding refusalIn
 opened st from e =
-    let p = passes (st .refused) (st .closed) (eqb (st .length) 0 || sameRealization (st .end) from) (leb 8 (st .length)) e in
-    record { joins = p .0; few = leb-false 8 (st .length) (p .1) }
+    let p = passed (testsIn st from) tt e in
+    record { joins = not-false _ (p .1 .1 .0); few = leb-false 8 (st .length) (p .1 .1 .1 .0) }
 
 start-more : (ss : List Step) (start : Realization) (t : Step) → start ≡ startOf start ss → pick (eqb (length ss) 0) (t .before) start ≡ startOf (pick (eqb (length ss) 0) (t .before) start) (ss ++ (t ∷ []))
 unfolding startOf
@@ -97,42 +87,40 @@ hold-after h a b c d e f = record {
   sound = h .sound;
 }
 
--- ---- what each kind of line gives
-at-none : (out : List ℕ) (at r : ℕ) → r ≡ at → Wrote out at [] out r
-at-none out at r e = rw e (nothing out at)
-
+-- ---- what is decided on each kind of line
 module _ {st : State} {l : List ℤ} {s : Sheet} (h : Holds st l s) (t : Step) (n : ℕ) (e : n ≡ refusalIn st (t .before)) where
-  is : n ≡ stepRefusal s t
-  is = e ∙ same-refusal h t
+  is : first (stepTests s t) ≡ n
+  is = sym (e ∙ same-refusal h t)
 
   -- an accepted step
-  pub gave-step : n ≡ 0 → stepFault t ≡ 0 → (out : List ℕ) (at : ℕ) (m : List ℤ) (r : Answered) → MadeReady l (st .length) t m → r .state ≡ withIn st t → r .at ≡ at → Gave (stepAnswer s (step-line.Step t)) (afterStep s (step-line.Step t)) out at out m r
-  gave-step z f out at m r made er ea =
-      let q : eqb (stepRefusal s t) 0 ≡ true = eq-eqb (stepRefusal s t) 0 (sym is ∙ z) in
-      rw q (record { wrote = at-none out at (r .at) ea; holds = rw er (hold-with h t f (opened st (t .before) (sym e ∙ z)) m made) })
+  pub gave-step : n ≡ 0 → stepFault t ≡ 0 → (m : List ℤ) (r : Decided) → MadeReady l (st .length) t m → r .reply ≡ reply.Nothing → r .state ≡ withIn st t → Gave (stepReply s (step-line.Step t)) (afterStep s (step-line.Step t)) m r
+  gave-step z f m r made ea er =
+      let q = is ∙ z in
+      record {
+        reply = ea ∙ sym (unless-none (first (stepTests s t)) (refuse s) reply.Nothing q);
+        holds = rw (unless-none (first (stepTests s t)) (λ (_ : ℕ). withoutStep s) (withStep s t) q, er) (hold-with h t f (opened st (t .before) (sym e ∙ z)) m made);
+      }
 
   -- a refused one
-  pub gave-no-step : (n ≡ 0 → ⊥) → (out out' : List ℕ) (at : ℕ) (r : Answered) → Wrote out at (refusalText (st .line) n) out' (r .at) → r .state ≡ afterIn st true (st .closed) → Gave (stepAnswer s (step-line.Step t)) (afterStep s (step-line.Step t)) out at out' l r
-  gave-no-step z out out' at r w er =
-      let q : eqb (stepRefusal s t) 0 ≡ false = ne-eqb (stepRefusal s t) 0 (λ y. z (is ∙ y)) in
-      rw q (record { wrote = rw (← is, ← h .line) w; holds = rw er (hold-after h true (st .closed) true (s .closed) refl (h .closed)) })
+  pub gave-no-step : (n ≡ 0 → ⊥) → (r : Decided) → r ≡ refusedIn st n true (st .closed) → Gave (stepReply s (step-line.Step t)) (afterStep s (step-line.Step t)) l r
+  unfolding refusedIn
+  gave-no-step z r er =
+      let y : first (stepTests s t) ≡ 0 → ⊥ = λ q. z (sym is ∙ q) in
+      rw er
+      (record {
+        reply = ap (λ (k : ℕ). reply.Refused k n) (h .line) ∙ ap (refuse s) (sym is) ∙ sym (unless-some (first (stepTests s t)) (refuse s) reply.Nothing y);
+        holds = rw (unless-some (first (stepTests s t)) (λ (_ : ℕ). withoutStep s) (withStep s t) y) (hold-after h true (st .closed) true (s .closed) refl (h .closed));
+      })
 
--- a line of bad form or with a bad number
-pub gave-refusal : {st : State} {l : List ℤ} {s : Sheet} → Holds st l s → (n : ℕ) (a b c d : Bool) → a ≡ c → b ≡ d → (out out' : List ℕ) (at : ℕ) (r : Answered) → Wrote out at (refusalText (st .line) n) out' (r .at) → r .state ≡ afterIn st a b → Gave (refusalText (s .line) n) (record { line = s .line + 1; steps = s .steps; refused = c; closed = d }) out at out' l r
-gave-refusal h n a b c d e f out out' at r w er = record { wrote = rw (← h .line) w; holds = rw er (hold-after h a b c d e f) }
+module _ {st : State} {l : List ℤ} {s : Sheet} (h : Holds st l s) (a b c d : Bool) (e : a ≡ c) (f : b ≡ d) where
+  -- a line that its reader or the conversion refused
+  pub gave-refusal : (n : ℕ) (r : Decided) → r ≡ refusedIn st n a b → Gave (refuse s n) (record { line = s .line + 1; steps = s .steps; refused = c; closed = d }) l r
+  unfolding refusedIn
+  gave-refusal n r er = rw er (record { reply = ap (λ (k : ℕ). reply.Refused k n) (h .line); holds = hold-after h a b c d e f })
 
--- a converted point
-pub gave-point : {st : State} {l : List ℤ} {s : Sheet} → Holds st l s → (text : List ℕ) (a b c d : Bool) → a ≡ c → b ≡ d → (out out' : List ℕ) (at : ℕ) (r : Answered) → Wrote out at text out' (r .at) → r .state ≡ afterIn st a b → Gave text (record { line = s .line + 1; steps = s .steps; refused = c; closed = d }) out at out' l r
-gave-point h text a b c d e f out out' at r w er = record { wrote = w; holds = rw er (hold-after h a b c d e f) }
-
--- what a reader that gives a record has found: no fault
-pub step-sound : (line : List ℕ) (t : Step) → readStep line ≡ step-line.Step t → stepFault t ≡ 0
-unfolding readStep
-step-sound line t e = no-fault stepFault step-line.Step step-line.Refused (said stepForm line) t (λ x y q. cc) (λ f x q. let z : _≡_ {A = ℕ} 0 1 = cc in omega arith) e
-
-pub point-sound : (line : List ℕ) (p : Point) → readPoint line ≡ point-line.Point p → pointFault p ≡ 0
-unfolding readPoint
-point-sound line p e = no-fault pointFault point-line.Point point-line.Refused (said pointForm line) p (λ x y q. cc) (λ f x q. let z : _≡_ {A = ℕ} 0 1 = cc in omega arith) e
+  -- a converted point
+  pub gave-point : (p : Point) (r : Decided) → r .reply ≡ reply.Point p → r .state ≡ afterIn st a b → Gave (reply.Point p) (record { line = s .line + 1; steps = s .steps; refused = c; closed = d }) l r
+  gave-point p r ea er = record { reply = ea; holds = rw er (hold-after h a b c d e f) }
 
 -- ---- a point of a sheet that holds, and the sheet that nothing is read of
 converts : {st : State} {l : List ℤ} {s : Sheet} → Holds st l s → (p : Point) → pointFault p ≡ 0 → forwardReadyOf l (st .length) (st .start) (st .end) p ≡ forwardOf (chainOf (s .steps)) p
@@ -155,25 +143,16 @@ hold-fresh r l e = record {
   sound = refl;
 }
 
--- ---- the loop over the lines of an input: some sheet is held, and once what it leaves is written the whole is
-pub record Midway (input out₀ out : List ℕ) (numbers : List ℤ) (st : State) (at place : ℕ) : Type 0 where
-  pub sheet : Sheet
-  pub holds : Holds st numbers sheet
-  pub left : Left rules fresh input out₀ sheet place out at
+-- ---- each line is counted
+unless-line : (s a b : Sheet) (n : ℕ) → a .line ≡ s .line + 1 → b .line ≡ s .line + 1 → unless n (λ _. a) b .line ≡ s .line + 1
+unless-line s a b zero e f = f
+unless-line s a b (suc n) e f = e
 
 pub next-line : (s : Sheet) (line : List ℕ) → nextOf s line .line ≡ s .line + 1
 unfolding nextOf
-next-line s line = by (eqb (getD line 0 0) letterS) (eqb (getD line 0 0) letterP)
+next-line s line = by-letter (λ (x : Sheet). x .line ≡ s .line + 1) letterS letterP line _ _ _ (step (readStep line)) refl refl
   where
     step : (l : StepLine) → afterStep s l .line ≡ s .line + 1
-    step (step-line.Refused f) = refl
-    step (step-line.Step t) = either (eqb (stepRefusal s t) 0)
-      where
-        either : (b : Bool) → pick b (withStep s t) (withoutStep s) .line ≡ s .line + 1
-        either true = refl
-        either false = refl
-
-    by : (a b : Bool) → pick a (afterStep s (readStep line)) (pick b (afterPoint s (readPoint line)) (passed s)) .line ≡ s .line + 1
-    by true b = step (readStep line)
-    by false true = refl
-    by false false = refl
+    step (step-line.Malformed f) = refl
+    step (step-line.Refused n) = refl
+    step (step-line.Step t) = unless-line s (withoutStep s) (withStep s t) (first (stepTests s t)) refl refl

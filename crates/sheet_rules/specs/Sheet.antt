@@ -2,10 +2,10 @@
 use Prim.Native.Nat.{ℕ, _+_}
 use mathlib.Core.Bool.{Bool, true, false, not, _||_}
 use mathlib.Core.List.{List, [], _∷_, _++_}
-use lib.Dec.{eqb, leb}
+use lib.Dec.{leb}
 use lib.ListN.{length}
 use Rattle.refusal.specs.Numbers as refusal
-use Rattle.refusal.specs.Order.{pick, first, _gives_}
+use Rattle.refusal.specs.Order.{pick, Test, first, _gives_, unless}
 use Rattle.chain.specs.declared.Step.{Step}
 use Rattle.chain.specs.declared.Point.{Point}
 use Rattle.chain.specs.declared.Answer.{Answer}
@@ -18,9 +18,11 @@ use Rattle.line.specs.declared.PointLine.the-variants as point-line
 use Rattle.line.specs.declared.StepLine.{StepLine}
 use Rattle.line.specs.declared.StepLine.the-variants as step-line
 use Rattle.line.specs.Bytes.{letterP, letterS}
-use Rattle.line.specs.Lines.{readPoint, readStep}
+use Rattle.line.specs.Readers.{readPoint, readStep}
 use Rattle.line.specs.Text.{pointText, refusalText}
 use Rattle.listing.specs.Fold.{Rules, printed, byLetter}
+use Rattle.sheet_rules.specs.declared.Reply.{Reply}
+use Rattle.sheet_rules.specs.declared.Reply.the-variants as reply
 
 -- what has been read so far: the number of the line to come; the steps accepted; whether a line beginning with S was refused; whether a
 -- point line of good form was read, which closes the chain
@@ -41,19 +43,29 @@ joins steps t = sameRealization (endOf (t .before) steps) (t .before)
 abbrev pub passed : Sheet → Sheet
 passed s = record { line = s .line + 1; steps = s .steps; refused = s .refused; closed = s .closed }
 
+-- ---- the reply to a line, and how it prints
+abbrev pub replyText : Reply → List ℕ
+replyText reply.Nothing = []
+replyText (reply.Point p) = pointText p
+replyText (reply.Refused line number) = refusalText line number
+
+abbrev pub refuse : Sheet → ℕ → Reply
+refuse s number = reply.Refused (s .line) number
+
 -- ---- a step line: 1, 2, 3, 4 by itself, then 8, 7, 5, 6
-abbrev pub stepRefusal : Sheet → Step → ℕ
-stepRefusal s step =
-    first ((s .refused gives refusal.earlier)
-    ∷ (s .closed gives refusal.place)
+abbrev pub stepTests : Sheet → Step → List Test
+stepTests s step =
+    (s .refused gives refusal.earlier)
+    ∷ (s .closed gives refusal.misplaced)
     ∷ (not (joins (s .steps) step) gives refusal.join)
     ∷ (leb 8 (length (s .steps)) gives refusal.ninth)
-    ∷ [])
+    ∷ []
 
 -- an accepted step prints nothing
-abbrev pub stepAnswer : Sheet → StepLine → List ℕ
-stepAnswer s (step-line.Refused f) = refusalText (s .line) (f .number)
-stepAnswer s (step-line.Step step) = pick (eqb (stepRefusal s step) 0) [] (refusalText (s .line) (stepRefusal s step))
+abbrev pub stepReply : Sheet → StepLine → Reply
+stepReply s (step-line.Malformed f) = refuse s (f .number)
+stepReply s (step-line.Refused n) = refuse s n
+stepReply s (step-line.Step step) = unless (first (stepTests s step)) (refuse s) reply.Nothing
 
 abbrev pub withStep : Sheet → Step → Sheet
 withStep s step = record { line = s .line + 1; steps = s .steps ++ (step ∷ []); refused = s .refused; closed = s .closed }
@@ -62,35 +74,38 @@ abbrev pub withoutStep : Sheet → Sheet
 withoutStep s = record { line = s .line + 1; steps = s .steps; refused = true; closed = s .closed }
 
 abbrev pub afterStep : Sheet → StepLine → Sheet
-afterStep s (step-line.Refused f) = withoutStep s
-afterStep s (step-line.Step step) = pick (eqb (stepRefusal s step) 0) (withStep s step) (withoutStep s)
+afterStep s (step-line.Malformed f) = withoutStep s
+afterStep s (step-line.Refused n) = withoutStep s
+afterStep s (step-line.Step step) = unless (first (stepTests s step)) (λ _. withoutStep s) (withStep s step)
 
 -- ---- a point line: 1, 2, 3 by itself, then 8, then 9, 10, 11 of the conversion
-abbrev pub answerText : ℕ → Answer → List ℕ
-answerText line (answer.Converted p) = pointText p
-answerText line (answer.Refused n) = refusalText line n
+abbrev pub conversionReply : Sheet → Answer → Reply
+conversionReply s (answer.Converted p) = reply.Point p
+conversionReply s (answer.Refused n) = refuse s n
 
-abbrev pub pointAnswer : Sheet → PointLine → List ℕ
-pointAnswer s (point-line.Refused f) = refusalText (s .line) (f .number)
-pointAnswer s (point-line.Point p) = pick (s .refused) (refusalText (s .line) refusal.earlier) (answerText (s .line) (forwardOf (chainOf (s .steps)) p))
+abbrev pub pointReply : Sheet → PointLine → Reply
+pointReply s (point-line.Malformed f) = refuse s (f .number)
+pointReply s (point-line.Refused n) = refuse s n
+pointReply s (point-line.Point p) = pick (s .refused) (refuse s refusal.earlier) (conversionReply s (forwardOf (chainOf (s .steps)) p))
 
--- refused for anything but its form, it closes the chain too
+-- a point line of good form closes the chain, whatever it says
 abbrev pub closes : PointLine → Bool
-closes (point-line.Refused f) = not (eqb (f .number) refusal.form)
+closes (point-line.Malformed f) = false
+closes (point-line.Refused n) = true
 closes (point-line.Point p) = true
 
 abbrev pub afterPoint : Sheet → PointLine → Sheet
 afterPoint s l = record { line = s .line + 1; steps = s .steps; refused = s .refused; closed = s .closed || closes l }
 
 -- ---- one line, by its first byte
-unfoldable pub answerOf : Sheet → List ℕ → List ℕ
-answerOf s line = byLetter letterS letterP line (stepAnswer s (readStep line)) (pointAnswer s (readPoint line)) (refusalText (s .line) refusal.form)
+unfoldable pub replyOf : Sheet → List ℕ → Reply
+replyOf s line = byLetter letterS letterP line (stepReply s (readStep line)) (pointReply s (readPoint line)) (refuse s refusal.form)
 
 unfoldable pub nextOf : Sheet → List ℕ → Sheet
 nextOf s line = byLetter letterS letterP line (afterStep s (readStep line)) (afterPoint s (readPoint line)) (passed s)
 
-abbrev pub rules : Rules Sheet
-rules = record { answer = answerOf; next = nextOf }
+abbrev pub rules : Rules Sheet Reply
+rules = record { reply = replyOf; next = nextOf; text = replyText }
 
 -- the whole sheet
 unfoldable pub sheetOf : List ℕ → List ℕ

@@ -7,14 +7,15 @@ use lib.Dec.{eqb, leb}
 use lib.IntN.{ℤ}
 use lib.ListN.{length}
 use Rattle.refusal.specs.Numbers as refusal
-use Rattle.refusal.specs.Order.{pick, first, _gives_}
+use Rattle.refusal.specs.Order.{pick, Test, first, _gives_}
 use Rattle.chain.specs.declared.Realization.{Realization}
 use Rattle.chain.specs.declared.Step.{Step}
 use Rattle.chain.specs.Faults.{sameRealization, chainTests}
 use Rattle.chain.specs.Prepared.{chainOf, Held, Ends}
-use Rattle.line.specs.Text.{Wrote}
 use Rattle.sheet_rules.specs.declared.State.{State}
-use Rattle.sheet_rules.specs.declared.Answered.{Answered}
+use Rattle.sheet_rules.specs.declared.Reply.{Reply}
+use Rattle.sheet_rules.specs.declared.Reply.the-variants as reply
+use Rattle.sheet_rules.specs.declared.Decided.{Decided}
 use Rattle.sheet_rules.specs.Sheet.{Sheet}
 
 -- the state and the numbers hold the sheet
@@ -28,23 +29,29 @@ pub record Holds (st : State) (numbers : List ℤ) (s : Sheet) : Type 0 where
   pub room : length numbers ≡ 64
   pub sound : first (chainTests (chainOf (s .steps))) ≡ 0
 
--- what a line gave: its text written, and the sheet after it held
-pub record Gave (text : List ℕ) (next : Sheet) (out : List ℕ) (at : ℕ) (out' : List ℕ) (numbers : List ℤ) (r : Answered) : Type 0 where
-  pub wrote : Wrote out at text out' (r .at)
+-- what was decided on a line: the reply to it, and the sheet after it held
+pub record Gave (answer : Reply) (next : Sheet) (numbers : List ℤ) (r : Decided) : Type 0 where
+  pub reply : r .reply ≡ answer
   pub holds : Holds (r .state) numbers next
 
 -- what the state says of a step: 8, 7, 5, 6
-unfoldable pub refusalIn : State → Realization → ℕ
-refusalIn st before =
-    first ((st .refused gives refusal.earlier)
-    ∷ (st .closed gives refusal.place)
+abbrev pub testsIn : State → Realization → List Test
+testsIn st before =
+    (st .refused gives refusal.earlier)
+    ∷ (st .closed gives refusal.misplaced)
     ∷ (not (eqb (st .length) 0 || sameRealization (st .end) before) gives refusal.join)
     ∷ (leb 8 (st .length) gives refusal.ninth)
-    ∷ [])
+    ∷ []
 
--- the state after a line that adds no step, and after one that does
+unfoldable pub refusalIn : State → Realization → ℕ
+refusalIn st before = first (testsIn st before)
+
+-- the state after a line that adds no step; what is decided on a refused line; the state after a line that adds a step
 unfoldable pub afterIn : State → Bool → Bool → State
 afterIn st refused closed = record { line = st .line + 1; length = st .length; start = st .start; end = st .end; refused = refused; closed = closed }
+
+unfoldable pub refusedIn : State → ℕ → Bool → Bool → Decided
+refusedIn st number refused closed = record { reply = reply.Refused (st .line) number; state = afterIn st refused closed }
 
 unfoldable pub withIn : State → Step → State
 withIn st s = record {

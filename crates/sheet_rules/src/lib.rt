@@ -1,7 +1,18 @@
-// A sheet's rules: the answer to one line over a state, and a whole sheet from bytes to bytes.
-mod answer;
+// A sheet's rules: one line decided by value over a state, and a whole sheet from bytes to bytes.
+mod decide;
+mod joining;
 
-pub use answer::whole::sheet;
+pub use decide::whole::sheet;
+
+// The reply to a line.
+enum Reply {
+    // An accepted step prints nothing.
+    Nothing,
+    // A point's new line.
+    Point(chain::Point),
+    // The line's number, and the refusal's.
+    Refused(u64, u8),
+}
 
 // What has been read so far, but for the steps made ready, which are lent beside it so that no line copies them.
 struct State {
@@ -17,8 +28,8 @@ struct State {
     closed: bool,
 }
 
-// The state after a line, and the place past what it printed.
-struct Answered {
+// What is decided on a line: the reply to it, and the state after it.
+struct Decided {
+    reply: Reply,
     state: State,
-    at: usize,
 }

@@ -19,14 +19,14 @@ use Rattle.chain.specs.declared.Kind.the-variants.{Shift, Velocity, BursaWolf, 
 use Rattle.chain.specs.declared.Step.{Step}
 use Rattle.chain.specs.declared.Chain.{Chain}
 use Rattle.chain.specs.declared.Answer.the-variants.{Converted}
-use Rattle.chain.specs.Faults.{inArea, stepsOf}
+use Rattle.chain.specs.Faults.{KindOk, inArea, stepsOf}
 use Rattle.chain.specs.Parts.{kindParts, forwardBy, inverseBy}
 use Rattle.chain.specs.Axes.{onX, onY, onZ, Small}
 use Rattle.chain.specs.Convert.{at, walk, forwardStep, inverseStep, startOf, endOf, movedTo, forwardOf, inverseOf}
 use Rattle.theorems.specs.RoundTrip.{inexact, inexactSteps, Returned, ThereAndBack, BackAndThere, Exactly, RoundTrip}
 use Rattle.chain.proofs.Within.{area-small}
 use Rattle.chain.proofs.StepLaws.{Off, off-le, off-self, small-le, inverse-off, inverse-exact, forward-off, forward-exact}
-use Rattle.chain.proofs.Sizes.{StepOk, step-ok, kind-mild, shift-flat, velocity-flat}
+use Rattle.chain.proofs.Sizes.{kind-mild, shift-flat, velocity-flat}
 use Rattle.chain.proofs.Walk.{walk-none, walk-step, walk-last, walk-area}
 use Rattle.chain.proofs.Accepted.{Sound}
 use Rattle.chain.proofs.Ends.{start-home, end-home, forward-went, inverse-went}
@@ -34,7 +34,7 @@ use Rattle.chain.proofs.Ends.{start-home, end-home, forward-went, inverse-went}
 -- ---- one step of any kind: nothing is added by a shift or a velocity, one unit by Bursa-Wolf or a frame
 module _ (r a : Realization) where
   kind-inverse :
-      (kind : Kind) → StepOk kind r a → (q' p : Position) (m : ℕ) → Small 650000000000 p → m + inexact kind ≤ 8 →
+      (kind : Kind) → KindOk kind r a → (q' p : Position) (m : ℕ) → Small 650000000000 p → m + inexact kind ≤ 8 →
       Off m q' (forwardBy (kindParts kind r a) p) → Off (m + inexact kind) (inverseBy (kindParts kind r a) q') p
   kind-inverse (Shift t) ok q' p m s l h = off-le (omega arith) (inverse-exact (kindParts (Shift t) r a) (shift-flat t r a) q' p m h)
   kind-inverse (Velocity t) ok q' p m s l h = off-le (omega arith) (inverse-exact (kindParts (Velocity t) r a) (velocity-flat t r a) q' p m h)
@@ -42,7 +42,7 @@ module _ (r a : Realization) where
   kind-inverse Frame ok q' p m s l h = inverse-off (kindParts Frame r a) (kind-mild Frame r a ok) q' p m s (omega arith) h
 
   kind-forward :
-      (kind : Kind) → StepOk kind r a → (p' q : Position) (m : ℕ) → Small 650000000000 q → m + inexact kind ≤ 8 →
+      (kind : Kind) → KindOk kind r a → (p' q : Position) (m : ℕ) → Small 650000000000 q → m + inexact kind ≤ 8 →
       Off m p' (inverseBy (kindParts kind r a) q) → Off (m + inexact kind) (forwardBy (kindParts kind r a) p') q
   kind-forward (Shift t) ok p' q m s l h = off-le (omega arith) (forward-exact (kindParts (Shift t) r a) (shift-flat t r a) p' q m h)
   kind-forward (Velocity t) ok p' q m s l h = off-le (omega arith) (forward-exact (kindParts (Velocity t) r a) (velocity-flat t r a) p' q m h)
@@ -67,7 +67,7 @@ there-and-back (s ∷ ss) ok p q q' r m l h e o b =
     let t = walk-step forwardStep s ss p q e in
     let u = walk-last inverseStep (reverse ss) s q' r (last-first inverseStep s ss q' ∙ b) in
     let i = there-and-back ss (ok .1) (forwardStep s p) q q' (u .mid) m (omega arith) (t .0) (t .1) o (u .came) in
-    let j = kind-inverse (s .before) (s .after) (s .kind) (step-ok s (ok .0)) (u .mid) p (m + inexactSteps ss) (near p h) (omega arith) i in
+    let j = kind-inverse (s .before) (s .after) (s .kind) (ok .0) (u .mid) p (m + inexactSteps ss) (near p h) (omega arith) i in
     off-le (omega arith) (subst (λ (x : Position). Off (m + inexactSteps ss + inexact (s .kind)) x p) (u .went) j)
 
 -- inverse to p; from p', m off from p, the way forward comes to q within m and one for each inexact step
@@ -82,7 +82,7 @@ back-and-there (s ∷ ss) ok q p p' r m l h e o b =
     let u = walk-last inverseStep (reverse ss) s q p (last-first inverseStep s ss q ∙ e) in
     let n = near (u .mid) (walk-area inverseStep (reverse ss) q (u .mid) h (u .came)) in
     let i = subst (λ (x : Position). Off m p' x) (sym (u .went)) o in
-    let j = kind-forward (s .before) (s .after) (s .kind) (step-ok s (ok .0)) p' (u .mid) m n (omega arith) i in
+    let j = kind-forward (s .before) (s .after) (s .kind) (ok .0) p' (u .mid) m n (omega arith) i in
     off-le (omega arith) (back-and-there ss (ok .1) q (u .mid) (forwardStep s p') r (m + inexact (s .kind)) (omega arith) h (u .came) j (t .1))
 
 -- ---- at most eight steps, so at most eight units
@@ -104,8 +104,8 @@ returned :
     (n : ℕ) (p q r : Point) (there home : Realization) → q ≡ movedTo p there (q .position) → r ≡ movedTo q home (r .position) →
     (home .datum ≡ p .realization .datum) × (home .epoch ≡ p .realization .epoch) → Off (0 + n) (r .position) (p .position) → Returned n p r
 returned n p q r there home e f d o = record {
-  id = ap (λ (t : Point). t .id) f ∙ ap (λ (t : Point). t .id) e;
-  issue = ap (λ (t : Point). t .issue) f ∙ ap (λ (t : Point). t .issue) e;
+  id = ap (λ (t : Point). t .label .id) f ∙ ap (λ (t : Point). t .label .id) e;
+  issue = ap (λ (t : Point). t .label .issue) f ∙ ap (λ (t : Point). t .label .issue) e;
   datum = ap (λ (t : Point). t .realization .datum) f ∙ d .0;
   epoch = ap (λ (t : Point). t .realization .epoch) f ∙ d .1;
   x = NatL.le-trans (o .on onX) (omega arith);
@@ -139,7 +139,7 @@ same-number x y h = let f = unabs 0 h (v x ⊖ v y) in eq (v x) (v y) (omega ari
 
 exactly : Exactly
 exactly p r h =
-    ap₂ (λ (i : Id) (n : ℤ). record { id = i; issue = n; realization = r .realization; position = r .position }) (h .id) (h .issue)
+    ap₂ (λ (i : Id) (n : ℤ). record { label = record { id = i; issue = n }; realization = r .realization; position = r .position }) (h .id) (h .issue)
     ∙ ap₂ (movedTo p) (ap₂ (λ (d e : ℤ). record { datum = d; epoch = e }) (h .datum) (h .epoch))
     (of₃ (λ (x y z : ℤ). record { x = x; y = y; z = z }) (same-number _ _ (h .x)) (same-number _ _ (h .y)) (same-number _ _ (h .z)))
 

@@ -1,11 +1,12 @@
 -- Rounding, from the laws of its crate. Assumes nothing.
-use Rattle.rounding.proofs.Fractions.{round-near, round-neg, round-mono, round-apart}
+use Rattle.rounding.proofs.Nearest.{near-closest}
+use Rattle.rounding.proofs.Rounded.{rounded-near, rounded-opposite, rounded-mono, rounded-apart}
 use Rattle.rounding.proofs.Places as places
 use Rattle.theorems.specs.Rounding.{Rounding}
 
 pub rounding : Rounding
 rounding = record {
-  fractions = λ d h. record { near = λ z. round-near h z .near; odd = round-neg h; mono = round-mono h; apart = round-apart h };
+  fractions = λ t d h. record { near = λ z. rounded-near t h z .near; odd = rounded-opposite t h; mono = rounded-mono t h; apart = rounded-apart t h };
   decimals = λ s m e p. record { answers = places.answers s m e p; only = places.only s m e p };
-  closest = places.closest;
+  closest = λ d z r q n. near-closest n q;
 }

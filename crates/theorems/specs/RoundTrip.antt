@@ -26,8 +26,8 @@ inexactSteps (s ∷ ss) = inexact (s .kind) + inexactSteps ss
 
 -- r is p come back: id, issue, datum and epoch equal, and no coordinate more than n units off
 pub record Returned (n : ℕ) (p r : Point) : Type 0 where
-  pub id : r .id ≡ p .id
-  pub issue : r .issue ≡ p .issue
+  pub id : r .label .id ≡ p .label .id
+  pub issue : r .label .issue ≡ p .label .issue
   pub datum : r .realization .datum ≡ p .realization .datum
   pub epoch : r .realization .epoch ≡ p .realization .epoch
   pub x : natAbs (r .position .x -ℤ p .position .x) ≤ n

@@ -11,7 +11,7 @@ use Rattle.chain.specs.Faults.{pointFault}
 use Rattle.line.specs.declared.PointLine.the-variants as line
 use Rattle.line.specs.Number.{numberOf}
 use Rattle.line.specs.Name.{nameOf}
-use Rattle.line.specs.Lines.{readPoint}
+use Rattle.line.specs.Readers.{readPoint}
 use Rattle.line.specs.Text.{integer, pointText, projectedText, refusalText}
 use Rattle.listing.specs.Fold.{roomFor}
 use Rattle.sheet_rules.specs.Sheet.{sheetOf}
@@ -24,7 +24,7 @@ NumberBack = (z : ℤ) → numberOf (integer z) ≡ some z
 
 -- a point with no fault, and an id that a name spells, is read from its own line
 abbrev pub PointBack : Type 0
-PointBack = (p : Point) (name : List ℕ) → nameOf name ≡ some (p .id) → pointFault p ≡ 0 → readPoint (pointText p) ≡ line.Point p
+PointBack = (p : Point) (name : List ℕ) → nameOf name ≡ some (p .label .id) → pointFault p ≡ 0 → readPoint (pointText p) ≡ line.Point p
 
 -- ---- how long a written line is, its line feed counted
 pub record Lengths : Type 0 where

@@ -4,7 +4,7 @@ ghost use mathlib.Core.Bool.{true};
 ghost use mathlib.Core.List.{reverse};
 ghost use Prim.Native.Nat.{_≤_};
 ghost use Rattle.refusal.specs.Order.{first};
-ghost use Rattle.chain.specs.Faults.{stepFault, inArea, chainTests, stepsOf};
+ghost use Rattle.chain.specs.Faults.{StepOk, inArea, chainTests, stepsOf};
 ghost use Rattle.chain.specs.Convert.{forwardStep, inverseStep, walk, startOf, endOf, movedTo, answerOf, forwardOf, inverseOf};
 use crate::Answer;
 use crate::Chain;
@@ -17,27 +17,26 @@ use crate::points;
 use crate::steps;
 
 fn forward_step(step: Step, p: Position) -> Position
-    requires { ⌜ (stepFault step ≡ 0) × (inArea p ≡ true) ⌝ }
+    requires { ⌜ (StepOk step) × (inArea p ≡ true) ⌝ }
     ensures { λ q. ⌜ q ≡ forwardStep step p ⌝ }
 {
     steps::forward_ready(steps::prepare(step), p)
 }
 
 fn inverse_step(step: Step, q: Position) -> Position
-    requires { ⌜ (stepFault step ≡ 0) × (inArea q ≡ true) ⌝ }
+    requires { ⌜ (StepOk step) × (inArea q ≡ true) ⌝ }
     ensures { λ p. ⌜ p ≡ inverseStep step q ⌝ }
 {
     steps::inverse_ready(steps::prepare(step), q)
 }
 
-// The point at another realization and position: id and issue pass through.
+// The point at another realization and position: its label passes through.
 pub(crate) fn moved_to(point: Point, r: Realization, p: Position) -> Point
     ensures { λ q. ⌜ q ≡ movedTo point r p ⌝ }
 {
-    let id = point.id;
+    let label = point.label;
     Point {
-        id: id,
-        issue: point.issue,
+        label: label,
         realization: r,
         position: p,
     }

@@ -49,9 +49,9 @@ returns-2 c =
     let c7 = c .before .before .before .before .before .before .before in
     let c9 = c7 .before .before in
     let p = c .struct-told6 .given in
-    let r = p .1 .1 .0 .1 .1 in
-    let x = p .1 .1 .1 .0 .1 .1 in
-    numbers (ap ofAnswer (c7 .answer2 .given .1)) (p .1 .0 .1, (r .0 .1, (r .1 .0 .1, (x .0 .1, (x .1 .0 .1, (x .1 .1 .0 .1, tt)))))) (c9 .pre)
+    let r = p .1 .0 .1 .1 in
+    let x = p .1 .1 .0 .1 .1 in
+    numbers (ap ofAnswer (c7 .answer2 .given .1)) (p .0 .1 .1 .1 .0 .1, (r .0 .1, (r .1 .0 .1, (x .0 .1, (x .1 .0 .1, (x .1 .1 .0 .1, tt)))))) (c9 .pre)
 
 pub give-spec : {M : Type 1} → statement M
 give-spec =

@@ -5,9 +5,9 @@ use lib.IntN.{ℤ, natAbs}
 use Rattle.rounding.proofs.Machine.{told, rd, to₁}
 use Rattle.chain.specs.declared.steps.Turn.{Turn}
 use Rattle.chain.specs.Faults.{kindRange}
-use Rattle.chain.specs.Parts.{signed, radians}
+use Rattle.chain.specs.Parts.{byConvention, rotation11}
 use Rattle.chain.specs.Ready.{Prepares}
-use Rattle.chain.proofs.Sizes.{step-ok, bursa-wolf-ok}
+use Rattle.chain.proofs.Sizes.{bursa-wolf-ok}
 use Rattle.chain.proofs.Prepared.{turn-same, turn-prepares}
 use Rattle.chain.specs.declared.steps.Ready.the-variants.{Turned}
 use Rattle.chain.proofs.Sizes.{BursaWolfOk}
@@ -16,7 +16,7 @@ use Rattle.chain.proofs.steps.bursa_wolf_ready.Tie as tie
 
 -- the step's numbers in their ranges
 ranges : (s : tie.Start) → BursaWolfOk (s .args .t)
-ranges s = bursa-wolf-ok (s .args .t) (sym (ap kindRange (s .pre .1)) ∙ step-ok (s .args .step) (s .pre .0) .range)
+ranges s = bursa-wolf-ok (s .args .t) (sym (ap kindRange (s .pre .1)) ∙ s .pre .0 .range)
 
 turned-requires : tie.Need-turned-requires
 turned-requires c κs = let s = c .before in to₁ (λ (r : ℤ). natAbs r ≤ 1000000) (told {z = s .args .t .rx} (c .struct-told .given .1 .1 .1 .1 .0 .1)) (ranges s .rx)
@@ -33,7 +33,7 @@ returns : tie.Need-returns
 returns c =
     let s = c .before .before .before .before .before .before .before in
     let t = c .before .before .before .before .before .before .struct-told .given in
-    let by : ℤ → ℤ = λ r. radians (signed (s .args .t .convention) r) in
+    let by : ℤ → ℤ = λ r. rotation11 (byConvention (s .args .t .convention) r) in
     let dx = told (t .1 .0 .1) in
     let dy = told (t .1 .1 .0 .1) in
     let dz = told (t .1 .1 .1 .0 .1) in

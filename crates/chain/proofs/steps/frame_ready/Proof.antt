@@ -16,8 +16,9 @@ use Rattle.chain.specs.declared.Kind.{Kind}
 use Rattle.chain.specs.declared.steps.Scale.{Scale}
 use Rattle.chain.specs.Rows.{rowOf, figure}
 use Rattle.chain.specs.Parts.{atEpoch, shiftAt, scaleAt}
+use Rattle.chain.specs.Faults.{KindOk}
 use Rattle.chain.specs.Ready.{Prepares}
-use Rattle.chain.proofs.Sizes.{StepOk, step-ok, frame-years, row-ok, RowOk, scale-at-size}
+use Rattle.chain.proofs.Sizes.{frame-years, row-ok, RowOk, scale-at-size}
 use Rattle.chain.proofs.Prepared.{scale-same, overOf, frame-prepares}
 use Rattle.chain.specs.declared.steps.Ready.the-variants.{Scaled}
 use Rattle.chain.proofs.steps.frame_ready.Statement.{statement}
@@ -36,7 +37,7 @@ module _ (s : tie.Start) where
   few : natAbs years ≤ 90000
   few =
       frame-years (s .args .step .before) (s .args .step .after)
-      (subst (λ (x : Kind). StepOk x (s .args .step .before) (s .args .step .after)) (s .pre .1) (step-ok (s .args .step) (s .pre .0)))
+      (subst (λ (x : Kind). KindOk x (s .args .step .before) (s .args .step .after)) (s .pre .1) (s .pre .0))
 
   f : SFits w64 years
   f = fits 90000 few (lit< tt)

@@ -7,7 +7,7 @@ use mir.Syntax.{w64}
 use mir.Val.{toZ, ofZ}
 use Rattle.rounding.proofs.Zn.{k}
 use Rattle.rounding.proofs.Machine.{rd, fits, to₃, of₃}
-use Rattle.rounding.specs.Quotient.{roundDiv}
+use Rattle.chain.specs.Parts.{stepRound}
 use Rattle.chain.specs.Axes.{Axis, onX, onY, onZ, coordinate}
 use Rattle.chain.proofs.Prepared.{position, slope-gain}
 use Rattle.chain.proofs.steps.scale_gain.Statement.{statement}
@@ -28,7 +28,7 @@ asked : ℤ → ℤ → ℤ → Type 0
 asked k a z = (natAbs k ≤ 1971000000000000000) × (natAbs a ≤ 1202000) × (natAbs z ≤ 650000000000)
 
 given : ℤ → ℤ → ℤ → ℤ
-given k a z = roundDiv (k +ℤ a *ℤ z) 100000000000000
+given k a z = stepRound (k +ℤ a *ℤ z) 100000000000000
 
 scale-part-requires : tie.Need-scale-part-requires
 unfolding asked

@@ -6,11 +6,12 @@ use mir.Syntax.{w64}
 use mir.Val.{SFits, toZ, ofZ}
 use Rattle.rounding.proofs.Machine.{told, rd, fits, rd-, fit-, to₂, of₃}
 use lib.Dec.{lit<}
-use Rattle.rounding.specs.Quotient.{roundDiv}
 use Rattle.chain.specs.declared.Position.{Position}
 use Rattle.chain.specs.declared.Kind.{Kind}
+use Rattle.chain.specs.Faults.{KindOk}
 use Rattle.chain.specs.Ready.{Prepares}
-use Rattle.chain.proofs.Sizes.{StepOk, step-ok, velocity-ok, velocity-years}
+use Rattle.chain.specs.Parts.{stepRound}
+use Rattle.chain.proofs.Sizes.{velocity-ok, velocity-years}
 use Rattle.chain.proofs.Prepared.{position, velocity-prepares}
 use Rattle.chain.specs.declared.Kind.the-variants.{Velocity}
 use Rattle.chain.specs.declared.steps.Ready.the-variants.{Fixed}
@@ -22,8 +23,8 @@ module _ (s : tie.Start) where
   abbrev years : ℤ
   years = s .args .step .after .epoch -ℤ s .args .step .before .epoch
 
-  good : StepOk (Velocity (s .args .t)) (s .args .step .before) (s .args .step .after)
-  good = subst (λ (x : Kind). StepOk x (s .args .step .before) (s .args .step .after)) (s .pre .1) (step-ok (s .args .step) (s .pre .0))
+  good : KindOk (Velocity (s .args .t)) (s .args .step .before) (s .args .step .after)
+  good = subst (λ (x : Kind). KindOk x (s .args .step .before) (s .args .step .after)) (s .pre .1) (s .pre .0)
 
   few : natAbs years ≤ 120000
   few = velocity-years (s .args .t) (s .args .step .before) (s .args .step .after) good
@@ -80,7 +81,7 @@ returns : tie.Need-returns
 returns c =
     let s = c .before .before .before .before .before .before .before .before .before .before .before .before in
     let y = dt (c .before .before .before .before .before .before) in
-    let by : ℤ → ℤ → ℤ = λ u t. roundDiv (u *ℤ t) 1000 in
+    let by : ℤ → ℤ → ℤ = λ u t. stepRound (u *ℤ t) 1000 in
     subst⁻¹ (λ (g : Position). Prepares (s .args .step) (Fixed g))
     (of₃ position (rd (record { sfits = c .before .before .before .before .moved .ok }) ∙ c .before .before .before .before .moved .ensures ∙ ap₂ by (vx s) y)
     (rd (record { sfits = c .before .before .moved2 .ok }) ∙ c .before .before .moved2 .ensures ∙ ap₂ by (vy s) y)

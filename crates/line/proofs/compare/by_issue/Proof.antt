@@ -9,11 +9,17 @@ enum-known-a c = search needs
 enum-known-a-2 : tie.Need-enum-known-a-2
 enum-known-a-2 c = search needs
 
+enum-known-a-3 : tie.Need-enum-known-a-3
+enum-known-a-3 c = search needs
+
 enum-known-b : tie.Need-enum-known-b
 enum-known-b c = search needs
 
 enum-known-b-2 : tie.Need-enum-known-b-2
 enum-known-b-2 c = search needs
+
+enum-known-b-3 : tie.Need-enum-known-b-3
+enum-known-b-3 c = search needs
 
 weigh-requires : tie.Need-weigh-requires
 weigh-requires c κs = search needs
@@ -22,10 +28,16 @@ returns : tie.Need-returns
 returns c = rw (c .before .a .given .1)
 
 returns-2 : tie.Need-returns-2
-returns-2 c = rw (c .before .before .before .before .a2 .given .1, c .before .b .given .1)
+returns-2 c = rw (c .before .a2 .given .1)
 
 returns-3 : tie.Need-returns-3
-returns-3 c = rw (c .before .before .before .before .before .a2 .given .1, c .before .before .b2 .given .1) (c .weigh .ensures)
+returns-3 c = rw (c .before .before .before .before .a3 .given .1, c .before .b .given .1)
+
+returns-4 : tie.Need-returns-4
+returns-4 c = rw (c .before .before .before .before .a3 .given .1, c .before .b2 .given .1)
+
+returns-5 : tie.Need-returns-5
+returns-5 c = rw (c .before .before .before .before .before .a3 .given .1, c .before .before .b3 .given .1) (c .weigh .ensures)
 
 pub by-issue-spec : {M : Type 1} → statement M
 by-issue-spec =
@@ -33,9 +45,13 @@ by-issue-spec =
     (tie.spec
     enum-known-a
     enum-known-a-2
+    enum-known-a-3
     enum-known-b
     enum-known-b-2
+    enum-known-b-3
     weigh-requires
     returns
     returns-2
-    returns-3)
+    returns-3
+    returns-4
+    returns-5)

@@ -20,10 +20,10 @@ is-before-requires c κs = search needs
 
 -- the issues, as the machine reads them
 module _ (s : tie.Start) where
-  first-issue : toZ w64 (ofZ w64 (s .args .p .issue)) ≡ s .args .p .issue
+  first-issue : toZ w64 (ofZ w64 (s .args .p .label .issue)) ≡ s .args .p .label .issue
   first-issue = search needs
 
-  second-issue : toZ w64 (ofZ w64 (s .args .q .issue)) ≡ s .args .q .issue
+  second-issue : toZ w64 (ofZ w64 (s .args .q .label .issue)) ≡ s .args .q .label .issue
   second-issue = search needs
 
 -- whether the first issue is the earlier one, and whether the second is
@@ -31,14 +31,14 @@ module _ (c : tie.After-is-before) where
   abbrev start : tie.Start
   start = c .before .before .before .before .before .before .before .before .before
 
-  first-before : {b : Bool} → c .is-before .result ≡ b → ltZ (start .args .p .issue) (start .args .q .issue) ≡ b
+  first-before : {b : Bool} → c .is-before .result ≡ b → ltZ (start .args .p .label .issue) (start .args .q .label .issue) ≡ b
   first-before e = sym (rw (first-issue start, second-issue start) at (c .is-before .ensures)) ∙ e
 
 module _ (c : tie.After-is-before2) where
   abbrev one : tie.After-is-before
   one = c .before .before .before .before
 
-  second-before : {b : Bool} → c .is-before2 .result ≡ b → ltZ (start one .args .q .issue) (start one .args .p .issue) ≡ b
+  second-before : {b : Bool} → c .is-before2 .result ≡ b → ltZ (start one .args .q .label .issue) (start one .args .p .label .issue) ≡ b
   second-before e = sym (rw (second-issue (start one), first-issue (start one)) at (c .is-before2 .ensures)) ∙ e
 
 returns-3 : tie.Need-returns-3

@@ -2,7 +2,7 @@
 use mathlib.Core.Path.{_≡_}
 use mir.Syntax.{w64}
 use mir.Val.{toZ, ofZ}
-use Rattle.line.specs.Lines.{geodeticFault}
+use Rattle.line.specs.Readers.{geodeticFault}
 use Rattle.line.specs.declared.GeodeticLine.the-variants.{Geodetic, Refused}
 use Rattle.line.proofs.Answers as A
 use borrow.Author.Needs.{needs}

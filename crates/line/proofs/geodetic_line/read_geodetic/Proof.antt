@@ -2,7 +2,7 @@
 use mathlib.Core.Path.{sym}
 use native.Mathlib.Omega.{arith}
 use lib.Seq.{length-take-le}
-use Rattle.line.specs.Lines.{readGeodetic}
+use Rattle.line.specs.Readers.{readGeodetic}
 use Rattle.line.proofs.Answers as A
 use Rattle.line.proofs.Faults as F
 use borrow.Author.Needs.{needs}
@@ -30,15 +30,15 @@ returns c =
     let c2 = c .before .before in
     let c4 = c2 .before .before in
     let c7 = c4 .before .before .before in
-    A.good-form _ _ _ F.careful-geodetic _ _ _ (c7 .body-end .ensures) (omega arith) (c4 .geodetic-fields .ensures) _ (c2 .if2 .taken) (c .judge-geodetic .ensures)
+    A.good-form _ _ _ F.careful-geodetic _ _ _ _ (c7 .body-end .ensures) (omega arith) (c4 .geodetic-fields .ensures) _ (c2 .if2 .taken) (c .judge-geodetic .ensures)
 
 returns-2 : tie.Need-returns-2
 unfolding readGeodetic
-returns-2 c = A.bad-form _ _ _ F.careful-geodetic _ _ _ (c .before .before .before .before .before .body-end .ensures) (omega arith) (c .before .before .geodetic-fields .ensures) (c .if2 .left)
+returns-2 c = A.bad-form _ _ _ F.careful-geodetic _ _ _ _ (c .before .before .before .before .before .body-end .ensures) (omega arith) (c .before .before .geodetic-fields .ensures) (c .if2 .left)
 
 returns-3 : tie.Need-returns-3
 unfolding readGeodetic
-returns-3 c = A.bad-frame _ _ _ F.careful-geodetic _ _ _ (c .before .body-end .ensures) (omega arith)
+returns-3 c = A.bad-frame _ _ _ F.careful-geodetic _ _ _ _ (c .before .body-end .ensures) (omega arith)
 
 pub read-geodetic-spec : {M : Type 1} → statement M
 read-geodetic-spec =

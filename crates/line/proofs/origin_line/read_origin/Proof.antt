@@ -4,7 +4,7 @@ use native.Mathlib.Omega.{arith}
 use lib.Seq.{length-take-le}
 use Rattle.line.proofs.Answers as A
 use Rattle.line.proofs.Faults as F
-use Rattle.line.specs.Lines.{readOrigin}
+use Rattle.line.specs.Readers.{readOrigin}
 use borrow.Author.Needs.{needs}
 use Rattle.line.proofs.origin_line.read_origin.Statement.{statement}
 use Rattle.line.proofs.origin_line.read_origin.Tie as tie
@@ -30,15 +30,15 @@ returns c =
     let c2 = c .before .before in
     let c4 = c2 .before .before in
     let c7 = c4 .before .before .before in
-    A.good-form _ _ _ F.careful-origin _ _ _ (c7 .body-end .ensures) (omega arith) (c4 .origin-fields .ensures) _ (c2 .if2 .taken) (c .judge-origin .ensures)
+    A.good-form _ _ _ F.careful-origin _ _ _ _ (c7 .body-end .ensures) (omega arith) (c4 .origin-fields .ensures) _ (c2 .if2 .taken) (c .judge-origin .ensures)
 
 returns-2 : tie.Need-returns-2
 unfolding readOrigin
-returns-2 c = A.bad-form _ _ _ F.careful-origin _ _ _ (c .before .before .before .before .before .body-end .ensures) (omega arith) (c .before .before .origin-fields .ensures) (c .if2 .left)
+returns-2 c = A.bad-form _ _ _ F.careful-origin _ _ _ _ (c .before .before .before .before .before .body-end .ensures) (omega arith) (c .before .before .origin-fields .ensures) (c .if2 .left)
 
 returns-3 : tie.Need-returns-3
 unfolding readOrigin
-returns-3 c = A.bad-frame _ _ _ F.careful-origin _ _ _ (c .before .body-end .ensures) (omega arith)
+returns-3 c = A.bad-frame _ _ _ F.careful-origin _ _ _ _ (c .before .body-end .ensures) (omega arith)
 
 pub read-origin-spec : {M : Type 1} → statement M
 read-origin-spec =

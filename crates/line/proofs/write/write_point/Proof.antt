@@ -49,7 +49,7 @@ module _ (s : tie.Start) where
   abbrev p : Point
   p = s .args .p
 
-  issue : toZ w64 (ofZ w64 (p .issue)) ≡ p .issue
+  issue : toZ w64 (ofZ w64 (p .label .issue)) ≡ p .label .issue
   issue = search needs
 
   datum : toZ w64 (ofZ w64 (p .realization .datum)) ≡ p .realization .datum

@@ -16,8 +16,8 @@ byte-requires c κs = search needs
 wide-requires : tie.Need-wide-requires
 wide-requires c κs = search needs
 
-natural-requires-2 : tie.Need-natural-requires-2
-natural-requires-2 c κs = search needs
+three-requires : tie.Need-three-requires
+three-requires c κs = search needs
 
 byte-requires-2 : tie.Need-byte-requires-2
 byte-requires-2 c κs = search needs
@@ -33,7 +33,7 @@ returns c =
     let c11 = c7 .before .before .before .before in
     let c15 = c11 .before .before .before .before in
     let c19 = c15 .before .before .before .before in
-    T.says (T.«then» (c19 .letter .ensures) (T.«then» (c15 .natural .ensures) (T.«then» (c11 .byte .ensures) (T.«then» (c6 .natural2 .ensures) (c2 .byte2 .ensures))))) (rw (c7 .wide .ensures) (T.refusal-is _ _))
+    T.says (T.«then» (c19 .letter .ensures) (T.«then» (c15 .natural .ensures) (T.«then» (c11 .byte .ensures) (T.«then» (c6 .three .ensures) (c2 .byte2 .ensures))))) (rw (c7 .wide .ensures) (T.refusal-is _ _))
 
 pub write-refusal-spec : {M : Type 1} → statement M
 write-refusal-spec =
@@ -43,7 +43,7 @@ write-refusal-spec =
     natural-requires
     byte-requires
     wide-requires
-    natural-requires-2
+    three-requires
     byte-requires-2
     same-length
     returns)

@@ -14,7 +14,7 @@ use lib.ListN.{length-map}
 use Rattle.chain.specs.declared.Answer.{Answer}
 use Rattle.chain.specs.declared.Answer.the-variants.{Converted}
 use Rattle.chain.specs.Faults.{inArea, stepsOf}
-use Rattle.chain.specs.Convert.{Walk, at, onward, kept, walk, forwardStep, answerOf}
+use Rattle.chain.specs.Convert.{Walk, at, onward, arrive, walk, forwardStep, answerOf}
 use Rattle.chain.proofs.Walk.{stays, leaves}
 use Rattle.chain.proofs.Accepted.{Sound, chain-holds}
 use Rattle.chain.proofs.Places.{no-step, walk-from, none-left, sound-at}
@@ -72,7 +72,7 @@ module _ (c : tie.After-in-area Inv-loop μ-loop) where
   abbrev next : Position
   next = forwardStep (getD (steps s) i no-step) (c .before .before .before .before .loop .p)
 
-  turn : onward (kept next) (walk forwardStep (drop (i + 1) (take (count s) (steps s)))) ≡ walk forwardStep (take (count s) (steps s)) (s .args .point .position)
+  turn : onward (arrive next) (walk forwardStep (drop (i + 1) (take (count s) (steps s)))) ≡ walk forwardStep (take (count s) (steps s)) (s .args .point .position)
   turn =
       sym (walk-from (steps s) (count s) i (c .before .before .before .loop-test .taken) (omega (arith, long s, holds s .0, c .before .before .before .loop-test .taken)) forwardStep (c .before .before .before .before .loop .p))
       ∙ c .before .before .before .before .loop .inv .2

@@ -15,7 +15,7 @@ use lib.ListN.{length-map}
 use Rattle.chain.specs.declared.Answer.{Answer}
 use Rattle.chain.specs.declared.Answer.the-variants.{Converted}
 use Rattle.chain.specs.Faults.{inArea, stepsOf}
-use Rattle.chain.specs.Convert.{Walk, at, onward, kept, walk, inverseStep, answerOf}
+use Rattle.chain.specs.Convert.{Walk, at, onward, arrive, walk, inverseStep, answerOf}
 use Rattle.chain.proofs.Walk.{stays, leaves}
 use Rattle.chain.proofs.Accepted.{Sound, chain-holds}
 use Rattle.chain.proofs.Places.{no-step, walk-down, sound-at}
@@ -78,7 +78,7 @@ module _ (c : tie.After-in-area Inv-loop μ-loop) where
   abbrev next : Position
   next = inverseStep (getD (steps s) i no-step) (c .before .before .before .before .loop .p)
 
-  turn : onward (kept next) (walk inverseStep (reverse (take i (steps s)))) ≡ walk inverseStep (reverse (take (count s) (steps s))) (s .args .point .position)
+  turn : onward (arrive next) (walk inverseStep (reverse (take i (steps s)))) ≡ walk inverseStep (reverse (take (count s) (steps s))) (s .args .point .position)
   turn =
       let test = c .before .before .before .loop-test .taken in
       let at = c .before .before .before .before .loop in

@@ -2,6 +2,7 @@
 use mathlib.Core.Path.{refl, sym, _∙_}
 use borrow.Author.Tests.{lt-ltb, le-ltb, eq-eqb, ne-eqb}
 use borrow.Author.Needs.{needs}
+use Rattle.chain.proofs.Sizes.{step-ok}
 use Rattle.chain.proofs.steps.kept.make_ready.Statement.{statement}
 use Rattle.chain.proofs.steps.kept.make_ready.Tie as tie
 
@@ -15,7 +16,7 @@ returns-2 : tie.Need-returns-2
 returns-2 c = rw (lt-ltb (c .before .before .before .args .index) 8 (c .before .before .if1 .left), ne-eqb _ 0 (λ e. c .if2 .taken (c .before .step-fault .ensures ∙ e))) refl
 
 prepare-requires : tie.Need-prepare-requires
-prepare-requires c κs = search needs
+prepare-requires c κs = step-ok (c .before .before .before .args .step) (sym (c .before .step-fault .ensures) ∙ c .if2 .left)
 
 put-ready-requires : tie.Need-put-ready-requires
 put-ready-requires c κs = search needs

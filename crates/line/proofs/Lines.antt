@@ -1,0 +1,127 @@
+-- The laws of the lines of an input. Assumes nothing.
+use Prim.Native.Nat.{ℕ, suc, _+_, _-_, _≤_, _<_}
+use mathlib.Core.Path.{_≡_, refl, ap, _∙_}
+use mathlib.Core.List.{List, [], _∷_}
+use mathlib.Core.Bool.{Bool, true, false}
+use lib.Dec.{eqb}
+use lib.ListN.{length, getD, take, drop, length-drop, length-take, drop-of-length-le}
+use lib.Seq.{drop-cons, drop-drop}
+use native.Mathlib.Numerals.{add-one}
+use native.Mathlib.Omega.{arith}
+use borrow.Author.Tests.{eq-eqb, ne-eqb}
+use Rattle.refusal.specs.Order.{pick}
+use Rattle.line.specs.Bytes.{lineFeed}
+use Rattle.line.specs.Fields.{front}
+use Rattle.line.specs.Lines.{lines, firstLength, lineEnd}
+
+-- ---- the first line's length, by its first byte
+pub length-feed : (s : List ℕ) (i : ℕ) → i < length s → getD s i 0 ≡ lineFeed → firstLength (drop i s) ≡ 1
+unfolding firstLength
+length-feed s i h e = rw (drop-cons s i 0 h, eq-eqb (getD s i 0) lineFeed e)
+
+pub length-more : (s : List ℕ) (i : ℕ) → i < length s → (getD s i 0 ≡ lineFeed → ⊥) → firstLength (drop i s) ≡ suc (firstLength (drop (i + 1) s))
+unfolding firstLength
+length-more s i h e = rw (drop-cons s i 0 h, ne-eqb (getD s i 0) lineFeed e, add-one)
+
+pub length-none : (s : List ℕ) (i : ℕ) → length s ≤ i → firstLength (drop i s) ≡ 0
+unfolding firstLength
+length-none s i h = rw (drop-of-length-le s h)
+
+-- ---- the first line, and the others
+first-line : (s : List ℕ) → 0 < length s → lines s ≡ take (firstLength s) s ∷ lines (drop (firstLength s) s)
+unfolding lines firstLength
+first-line [] h = absurd (omega arith)
+first-line (b ∷ []) h = go (eqb b lineFeed)
+  where
+    go : (t : Bool) → pick t ((b ∷ []) ∷ []) ((b ∷ []) ∷ []) ≡ take (pick t 1 1) (b ∷ []) ∷ lines (drop (pick t 1 1) (b ∷ []))
+    go true = refl
+    go false = refl
+first-line (b ∷ c ∷ s) h = go (eqb b lineFeed) (first-line (c ∷ s) (omega arith))
+  where
+    go : (t : Bool) → lines (c ∷ s) ≡ take (firstLength (c ∷ s)) (c ∷ s) ∷ lines (drop (firstLength (c ∷ s)) (c ∷ s)) → pick t ((b ∷ []) ∷ lines (c ∷ s)) (front b (lines (c ∷ s))) ≡ take (pick t 1 (suc (firstLength (c ∷ s)))) (b ∷ c ∷ s) ∷ lines (drop (pick t 1 (suc (firstLength (c ∷ s)))) (b ∷ c ∷ s))
+    go true ih = refl
+    go false ih = ap (front b) ih
+
+first-some : (s : List ℕ) → 0 < length s → 0 < firstLength s
+unfolding firstLength
+first-some [] h = absurd (omega arith)
+first-some (b ∷ s) h = go (eqb b lineFeed)
+  where
+    go : (t : Bool) → 0 < pick t 1 (suc (firstLength s))
+    go true = omega arith
+    go false = omega arith
+
+first-fits : (s : List ℕ) → firstLength s ≤ length s
+unfolding firstLength
+first-fits [] = omega arith
+first-fits (b ∷ s) = go (eqb b lineFeed) (first-fits s)
+  where
+    go : (t : Bool) → firstLength s ≤ length s → pick t 1 (suc (firstLength s)) ≤ suc (length s)
+    go true h = omega arith
+    go false h = omega arith
+
+-- ---- the line that begins at p and ends before e: it is not empty, ends within the input, and the others begin at e
+pub record Piece (s : List ℕ) (p e : ℕ) : Type 0 where
+  pub some : p < e
+  pub inside : e ≤ length s
+  pub size : length (take (e - p) (drop p s)) ≡ e - p
+  pub others : lines (drop p s) ≡ take (e - p) (drop p s) ∷ lines (drop e s)
+
+pub piece : (s : List ℕ) (p e : ℕ) → e ≡ lineEnd s p → p < length s → Piece s p e
+unfolding lineEnd
+piece s p e q h = record {
+  some = omega (arith, first-some (drop p s) left);
+  inside = inside;
+  size = rw (length-take, length-drop) (omega (arith, inside));
+  others = first-line (drop p s) left ∙ rw (w, q, ← drop-drop (firstLength (drop p s)) p s);
+}
+  where
+    left : 0 < length (drop p s)
+    left = simp length-drop (omega arith)
+
+    inside : e ≤ length s
+    inside = omega (arith, first-fits (drop p s), length-drop p s)
+
+    w : e - p ≡ firstLength (drop p s)
+    w = omega arith
+
+-- how many bytes the lines have together: as many as the input
+abbrev pub total : List (List ℕ) → ℕ
+total [] = 0
+total (l ∷ ls) = length l + total ls
+
+total-front : (b : ℕ) (ls : List (List ℕ)) → total (front b ls) ≡ suc (total ls)
+total-front b [] = refl
+total-front b (l ∷ ls) = omega arith
+
+pub total-lines : (s : List ℕ) → total (lines s) ≡ length s
+unfolding lines
+total-lines [] = refl
+total-lines (b ∷ s) = go (eqb b lineFeed) (total-lines s)
+  where
+    go : (t : Bool) → total (lines s) ≡ length s → total (pick t ((b ∷ []) ∷ lines s) (front b (lines s))) ≡ suc (length s)
+    go true h = omega arith
+    go false h = omega (arith, total-front b (lines s))
+
+-- past the end there are none
+pub lines-none : (s : List ℕ) (p : ℕ) → length s ≤ p → lines (drop p s) ≡ []
+unfolding lines
+lines-none s p h = rw (drop-of-length-le s h)
+
+-- every line has a byte
+abbrev pub Some : List (List ℕ) → Type 0
+Some [] = Unit {0}
+Some (l ∷ ls) = (0 < length l) × Some ls
+
+some-front : (b : ℕ) (ls : List (List ℕ)) → Some ls → Some (front b ls)
+some-front b [] h = (omega arith, tt)
+some-front b (l ∷ ls) h = (omega arith, h .1)
+
+pub some-lines : (s : List ℕ) → Some (lines s)
+unfolding lines
+some-lines [] = tt
+some-lines (b ∷ s) = go (eqb b lineFeed) (some-lines s)
+  where
+    go : (t : Bool) → Some (lines s) → Some (pick t ((b ∷ []) ∷ lines s) (front b (lines s)))
+    go true h = (omega arith, h)
+    go false h = some-front b (lines s) h

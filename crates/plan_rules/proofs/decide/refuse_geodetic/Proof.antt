@@ -1,0 +1,28 @@
+-- `plan_rules::decide::refuse_geodetic` meets its contract. Assumes nothing.
+use mathlib.Core.Path.{refl, sym}
+use Rattle.plan_rules.proofs.Laws.{missing, accepted, gave-refusal}
+use borrow.Author.Needs.{needs}
+use Rattle.plan_rules.proofs.decide.refuse_geodetic.Statement.{statement}
+use Rattle.plan_rules.proofs.decide.refuse_geodetic.Tie as tie
+
+enum-told : tie.Need-enum-told
+enum-told c = search needs
+
+refuse-requires : tie.Need-refuse-requires
+refuse-requires c κs = search needs
+
+enum-told-2 : tie.Need-enum-told-2
+enum-told-2 c = search needs
+
+refuse-requires-2 : tie.Need-refuse-requires-2
+refuse-requires-2 c κs = search needs
+
+returns : tie.Need-returns
+returns c = λ p h. let e = missing (p .origin) (h .origin) (c .before .enum-told .given .1) in rw e (gave-refusal h _ (sym e) _ _ (c .refuse .ensures))
+
+returns-2 : tie.Need-returns-2
+returns-2 c = λ p h. let a = accepted _ (p .origin) (h .origin) (c .before .enum-told2 .given .1) in rw (a .is) (gave-refusal h _ (sym (a .is)) _ _ (c .refuse2 .ensures))
+
+pub refuse-geodetic-spec : {M : Type 1} → statement M
+refuse-geodetic-spec =
+    tie.close (tie.spec enum-told refuse-requires enum-told-2 refuse-requires-2 returns returns-2)

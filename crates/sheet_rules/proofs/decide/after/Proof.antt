@@ -1,0 +1,16 @@
+-- `sheet_rules::decide::after` meets its contract. Assumes nothing.
+use Rattle.sheet_rules.specs.State.{afterIn}
+use borrow.Author.Needs.{needs}
+use mathlib.Core.Path.{refl}
+use Rattle.sheet_rules.proofs.decide.after.Statement.{statement}
+use Rattle.sheet_rules.proofs.decide.after.Tie as tie
+
+add-t6 : tie.Need-add-t6
+add-t6 c = search needs
+
+returns : tie.Need-returns
+unfolding afterIn
+returns c = refl
+
+pub after-spec : {M : Type 1} → statement M
+after-spec = tie.close (tie.spec add-t6 returns)

@@ -3,29 +3,25 @@
 use mathlib.Core.Path.{_≡_, refl, sym, ap, _∙_, subst}
 use mathlib.Core.Bool.{true, false}
 use mathlib.Core.List.{List, [], _∷_}
-use Prim.Native.Nat.{ℕ, suc, _*_, _≤_}
-use native.Mathlib.Omega.{arith}
+use Prim.Native.Nat.{ℕ, suc, _≤_}
 use borrow.Author.Tests.{not-false}
 use lib.Dec.{T, lit≤, lit<}
-use lib.IntN.{ℤ, pos, negsuc}
-use lib.Ieee.{Float, binary64, round, neg, div, ofInt}
+use lib.IntN.{ℤ, pos, negsuc, _+ℤ_}
+use lib.Ieee.{binary64, round, neg, div, ofInt}
 use lib.Ieee.Scale.{finite}
-use lib.Ieee.Positive.{num, den}
-use Rattle.refusal.specs.Order.{unless}
+use Rattle.refusal.specs.Order.{first, unless}
+use Rattle.rounding.specs.Decimals.{wholeOf}
 use Rattle.refusal.proofs.Orders.{Passed, passed}
 use Rattle.ranges.specs.Ranges.{areaX, areaY, areaZ}
 use Rattle.ranges.proofs.Ranges.{natural, all}
-use Rattle.bounds.proofs.Size.{Under}
-use Rattle.bounds.proofs.Among.{told, Ends, Among, is-finite}
+use Rattle.bounds.proofs.Among.{told, Ends, Among}
 use Rattle.bounds.proofs.Formula.{All, none, also, tested, proved, Fine, every}
 use Rattle.bounds.proofs.Zero.{ranged, told-among}
-use Rattle.elementary.specs.Floats.{#, whole}
+use Rattle.elementary.specs.Floats.{whole}
 use Rattle.angle.specs.Units.{seconds}
 use Rattle.angle.specs.Ranges.{positionTests}
 use Rattle.angle.specs.Ellipsoids.{ellipsoidOf}
-use Rattle.angle.specs.Geodetic.{foundAt, placed, inAngles, geodeticUnitsOf}
-use Rattle.angle.specs.Bounded as statements
-use Rattle.angle.specs.Bounded.{AtMost, NoneRefused}
+use Rattle.angle.specs.Geodetic.{foundAt, inRanges, placed, inAngles, geodeticUnitsOf}
 use Rattle.angle.specs.declared.Found.{Found}
 use Rattle.angle.specs.declared.GeodeticUnits.the-variants.{Refused}
 use Rattle.angle.proofs.Answered.{Bound, whole-answer}
@@ -95,21 +91,27 @@ unfolding tested round neg div
 height-test = tt
 
 -- what is rounded
-record Placed (f : Found) : Type 0 where
-  latitude : Among (f .latitude) latitudeB
-  longitude : Among (f .longitude) longitudeB
-  height : Among (f .height) heightB
+pub record Placed (f : Found) : Type 0 where
+  pub latitude : Among (f .latitude) latitudeB
+  pub longitude : Among (f .longitude) longitudeB
+  pub height : Among (f .height) heightB
 
-module _ (code X Y Z : ℤ) (p : Passed (positionTests code X Y Z)) where
-  within-bounds : Placed (foundAt (ellipsoidOf code) X Y Z)
-  within-bounds =
-      let h = in-area code X Y Z p in
+module _ (code X Y Z : ℤ) (h : first (positionTests code X Y Z) ≡ 0) where
+  accepted : All (given (ellipsoidOf code) X Y Z) area
+  accepted = in-area code X Y Z (passed (positionTests code X Y Z) tt h)
+
+  pub found-bounded : Placed (foundAt (ellipsoidOf code) X Y Z)
+  found-bounded =
       subst Placed (sym (found-is (ellipsoidOf code) X Y Z))
-      (record { latitude = proved h latitudeF latitudeB latitude-test; longitude = proved h longitudeF longitudeB longitude-test; height = proved h heightF heightB height-test })
+      (record {
+        latitude = proved accepted latitudeF latitudeB latitude-test;
+        longitude = proved accepted longitudeF longitudeB longitude-test;
+        height = proved accepted heightF heightB height-test;
+      })
 
   -- every f64 on the way is finite
   pub all-finite : Fine (given (ellipsoidOf code) X Y Z) latitudeF × Fine (given (ellipsoidOf code) X Y Z) longitudeF × Fine (given (ellipsoidOf code) X Y Z) heightF
-  all-finite = let h = in-area code X Y Z p in (every h latitudeF latitudeB latitude-test, every h longitudeF longitudeB longitude-test, every h heightF heightB height-test)
+  all-finite = (every accepted latitudeF latitudeB latitude-test, every accepted longitudeF longitudeB longitude-test, every accepted heightF heightB height-test)
 
 -- ---- no rounding refuses
 bound-latitude : Bound 43200
@@ -124,22 +126,12 @@ bound-height : Bound 3300000
 unfolding round
 bound-height = record { is = refl; unit = refl; low = lit< tt }
 
-at-most : {b : ℕ} {I : Ends} (x : Float) → Bound b → Among x I → Under x (# b) → AtMost b x
-at-most {b} x B h u =
-    let c : num x * den (# b) ≤ num (# b) * den x = u .cross in
-    let d : num x * 1 ≤ b * den x = subst (λ (i : ℕ). num x * i ≤ b * den x) (B .unit) (subst (λ (i : ℕ). num x * den (# b) ≤ i * den x) (B .is) c) in
-    record { is-finite = is-finite h; size = omega arith }
-
-pub bounded : statements.Bounded
-bounded code X Y Z h =
-    let f = foundAt (ellipsoidOf code) X Y Z in
-    let b = within-bounds code X Y Z (passed (positionTests code X Y Z) tt h) in
-    (at-most (f .latitude) bound-latitude (b .latitude) (b .latitude .most), at-most (f .longitude) bound-longitude (b .longitude) (b .longitude .most), at-most (f .height) bound-height (b .height) (b .height .most))
-
-pub none-refused : NoneRefused
+pub none-refused : (code X Y Z : ℤ) → first (positionTests code X Y Z) ≡ 0
+    → let f = foundAt (ellipsoidOf code) X Y Z in
+    geodeticUnitsOf code X Y Z ≡ inRanges (wholeOf (f .latitude) 5) (wholeOf (f .longitude) 5 +ℤ pos 32400000000) (wholeOf (f .height) 5)
 unfolding geodeticUnitsOf inAngles placed
 none-refused code X Y Z h =
     let f = foundAt (ellipsoidOf code) X Y Z in
-    let b = within-bounds code X Y Z (passed (positionTests code X Y Z) tt h) in
+    let b = found-bounded code X Y Z h in
     ap (λ (i : ℕ). unless i Refused (inAngles f)) h
     ∙ rw (whole-answer (f .latitude) 5 bound-latitude (lit≤ tt) (b .latitude .most), whole-answer (f .longitude) 5 bound-longitude (lit≤ tt) (b .longitude .most), whole-answer (f .height) 5 bound-height (lit≤ tt) (b .height .most))

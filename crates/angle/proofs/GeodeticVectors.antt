@@ -8,7 +8,7 @@ use lib.Ieee.{Float, binary64, round, neg, sub, add, mul, div, ofInt, ofBits}
 use Rattle.elementary.specs.Floats.{_⊗_, _⊘_, _⊕_, #, whole}
 use Rattle.elementary.specs.Series.{sineOf, cosineOf, arctanSmallOf}
 use Rattle.elementary.specs.Root.{rootOf}
-use Rattle.rounding.specs.Quotient.{halfUp}
+use Rattle.rounding.specs.Nearest.{away, floor, rest, goesUp, rounded}
 use Rattle.rounding.specs.Decimals.{tooLarge, wholeOf, roundedOf}
 use Rattle.ranges.specs.Ranges.{within}
 use Rattle.refusal.specs.Numbers.{range, geodetic}
@@ -54,5 +54,5 @@ answers =
     ∷ []
 
 answered : answers ≡ (Units (pos 2322056909) (pos 36100705076) (pos 1807805) ∷ Refused range ∷ Refused numbers.area ∷ Refused geodetic ∷ [])
-unfolding answers geodeticUnitsOf within inAngles placed inRanges roundedOf tooLarge wholeOf halfUp round ofBits
+unfolding answers geodeticUnitsOf within inAngles placed inRanges roundedOf tooLarge wholeOf away floor rest goesUp rounded round ofBits
 answered = refl

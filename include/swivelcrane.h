@@ -74,6 +74,11 @@ int64_t swivelcrane_cartesian(int64_t ellipsoid, int64_t latitude, int64_t longi
 int64_t swivelcrane_cartesian_units(int64_t ellipsoid, int64_t latitude, int64_t longitude, int64_t height, int64_t *out,
                                     size_t out_length);
 
+/* Cartesian to geodetic, the way back: latitude and longitude in units of 0.00001", height in units of 0.00001 m, of X, Y, Z in
+ * units of 0.00001 m on the same ellipsoids. out has 3 elements. Refusals: 2 (ellipsoid), 10 (X, Y or Z outside the area, of
+ * any size), then 12 (latitude, longitude or height, rounded, out of its range). */
+int64_t swivelcrane_geodetic(int64_t ellipsoid, int64_t x, int64_t y, int64_t z, int64_t *out, size_t out_length);
+
 /* Cassini-Soldner: easting and northing in metres, and in whole millimetres. out has 2 elements.
  * Refusals: 2 (ellipsoid, false easting, false northing), 12 (a latitude or longitude), 13 (longitudes over 1,440,000,000
  * apart), then 14. */

@@ -156,6 +156,15 @@ static void grid(void) {
             "cassini_millimetres: length");
 }
 
+static void to_angles(void) {
+    wrote(swivelcrane_geodetic(2, -131769233712, 622894736791, 37897691636, out, 3), stored_geodetic, 3, "geodetic");
+    refused(swivelcrane_geodetic(5, -131769233712, 622894736791, 37897691636, out, 3), SWIVELCRANE_REFUSAL_RANGE, "geodetic, ellipsoid 5: 2");
+    refused(swivelcrane_geodetic(2, 622894736791, -131769233712, 37897691636, out, 3), SWIVELCRANE_REFUSAL_AREA, "X and Y changed about: 10");
+    refused(swivelcrane_geodetic(2, -131769233712, 640000000001, 37897691636, out, 3), SWIVELCRANE_REFUSAL_AREA, "a coordinate past the given range: 10");
+    refused(swivelcrane_geodetic(2, -195000000000, 600000000000, 0, out, 3), SWIVELCRANE_REFUSAL_GEODETIC, "sixty kilometres down: 12");
+    refused(swivelcrane_geodetic(2, -131769233712, 622894736791, 37897691636, out, 4), SWIVELCRANE_WRONG_LENGTH, "geodetic, room for four");
+}
+
 static void rounding(void) {
     wrote(swivelcrane_round(-1234.567895, 3, out, 1), stored_rounded, 1, "round");
     refused(swivelcrane_round(1.0, 6, out, 1), SWIVELCRANE_REFUSAL_RANGE, "six places: 2");
@@ -222,6 +231,7 @@ int main(void) {
     refused_conversions();
     leaves_the_area();
     geodetic();
+    to_angles();
     grid();
     rounding();
     later();

@@ -1,54 +1,17 @@
 //! Geodetic to Cartesian and Cassini-Soldner, with what depends on the origin alone made ready once.
 
 use crate::check::{within, ANGLE, APART, RANGE};
+use crate::elementary::{cos, sin, K};
 use crate::round::decimals;
 
-const K: f64 = 4.84813681109536e-11;
-
-const SIN: [f64; 8] = [
-    -1.0 / 1307674368000.0,
-    1.0 / 6227020800.0,
-    -1.0 / 39916800.0,
-    1.0 / 362880.0,
-    -1.0 / 5040.0,
-    1.0 / 120.0,
-    -1.0 / 6.0,
-    1.0,
-];
-
-const COS: [f64; 9] = [
-    1.0 / 20922789888000.0,
-    -1.0 / 87178291200.0,
-    1.0 / 479001600.0,
-    -1.0 / 3628800.0,
-    1.0 / 40320.0,
-    -1.0 / 720.0,
-    1.0 / 24.0,
-    -1.0 / 2.0,
-    1.0,
-];
-
-#[inline]
-fn horner(coefficients: &[f64], y: f64) -> f64 {
-    coefficients[1..].iter().fold(coefficients[0], |sum, c| sum * y + c)
-}
-
-#[inline]
-fn sin(x: f64) -> f64 {
-    horner(&SIN, x * x) * x
-}
-
-#[inline]
-fn cos(x: f64) -> f64 {
-    horner(&COS, x * x)
-}
-
 #[derive(Clone, Copy, Debug)]
-struct Ellipsoid {
-    a: f64,
-    e2: f64,
+pub(crate) struct Ellipsoid {
+    pub a: f64,
+    pub e2: f64,
+    /// The minor half-axis.
+    pub b: f64,
     /// e2/(1-e2).
-    second: f64,
+    pub second: f64,
     /// The four factors of the meridian arc.
     m: [f64; 4],
 }
@@ -64,7 +27,7 @@ const fn ellipsoid(a: f64, reciprocal: f64) -> Ellipsoid {
         15.0 * e4 / 256.0 + 45.0 * e6 / 1024.0,
         35.0 * e6 / 3072.0,
     ];
-    Ellipsoid { a, e2, second: e2 / (1.0 - e2), m }
+    Ellipsoid { a, e2, b: a * (1.0 - f), second: e2 / (1.0 - e2), m }
 }
 
 static ELLIPSOIDS: [Ellipsoid; 4] = [
@@ -74,7 +37,7 @@ static ELLIPSOIDS: [Ellipsoid; 4] = [
     ellipsoid(6377298.556, 300.8017),
 ];
 
-fn by_code(code: i64) -> Option<&'static Ellipsoid> {
+pub(crate) fn by_code(code: i64) -> Option<&'static Ellipsoid> {
     if (1..=4).contains(&code) {
         Some(&ELLIPSOIDS[(code - 1) as usize])
     } else {
@@ -84,7 +47,7 @@ fn by_code(code: i64) -> Option<&'static Ellipsoid> {
 
 impl Ellipsoid {
     #[inline]
-    fn prime_vertical(&self, sin_phi: f64) -> f64 {
+    pub fn prime_vertical(&self, sin_phi: f64) -> f64 {
         let q = self.e2 * (sin_phi * sin_phi);
         self.a * (1.0 + q * (0.5 + q * (0.375 + q * (0.3125 + q * 0.2734375))))
     }
@@ -96,13 +59,17 @@ impl Ellipsoid {
     }
 }
 
-fn angles(latitude: i64, longitude: i64) -> bool {
+pub(crate) fn angles(latitude: i64, longitude: i64) -> bool {
     (0..=2_880_000_000).contains(&latitude) && (35_640_000_000..=43_200_000_000).contains(&longitude)
+}
+
+pub(crate) fn height_in_range(height: i64) -> bool {
+    (-50_000_000..=900_000_000).contains(&height)
 }
 
 pub fn cartesian(code: i64, latitude: i64, longitude: i64, height: i64) -> Result<[f64; 3], u8> {
     let Some(e) = by_code(code) else { return Err(RANGE) };
-    if !angles(latitude, longitude) || !(-50_000_000..=900_000_000).contains(&height) {
+    if !angles(latitude, longitude) || !height_in_range(height) {
         return Err(ANGLE);
     }
     let phi = latitude as f64 * K;

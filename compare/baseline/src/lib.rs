@@ -3,6 +3,8 @@
 
 pub mod angle;
 pub mod check;
+mod elementary;
+pub mod geodetic;
 pub mod later;
 pub mod numbers;
 pub mod plan;

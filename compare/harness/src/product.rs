@@ -39,6 +39,14 @@ mod c {
             out: *mut i64,
             out_len: usize,
         ) -> i64;
+        pub fn swivelcrane_geodetic(
+            ellipsoid: i64,
+            x: i64,
+            y: i64,
+            z: i64,
+            out: *mut i64,
+            out_len: usize,
+        ) -> i64;
         pub fn swivelcrane_cassini(
             ellipsoid: i64,
             origin_latitude: i64,
@@ -108,6 +116,10 @@ pub fn cartesian(n: &[i64; 4], out: &mut [f64]) -> i64 {
 
 pub fn cartesian_units(n: &[i64; 4], out: &mut [i64]) -> i64 {
     unsafe { c::swivelcrane_cartesian_units(n[0], n[1], n[2], n[3], out.as_mut_ptr(), out.len()) }
+}
+
+pub fn geodetic(n: &[i64; 4], out: &mut [i64]) -> i64 {
+    unsafe { c::swivelcrane_geodetic(n[0], n[1], n[2], n[3], out.as_mut_ptr(), out.len()) }
 }
 
 pub fn cassini(n: &[i64; 7], out: &mut [f64]) -> i64 {
@@ -203,6 +215,9 @@ impl Subject for Product {
     }
     fn cartesian_units(&self, n: &[i64; 4]) -> Answer<[i64; 3]> {
         lend(MARK, |out| cartesian_units(n, out))
+    }
+    fn geodetic(&self, n: &[i64; 4]) -> Answer<[i64; 3]> {
+        lend(MARK, |out| geodetic(n, out))
     }
     fn cassini(&self, n: &[i64; 7]) -> Answer<[f64; 2]> {
         lend(FLOAT_MARK, |out| cassini(n, out))

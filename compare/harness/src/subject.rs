@@ -16,6 +16,8 @@ pub trait Subject {
     fn inverse(&self, chain: &[i64], point: &[i64; 6]) -> Answer<[i64; 6]>;
     fn cartesian(&self, numbers: &[i64; 4]) -> Answer<[f64; 3]>;
     fn cartesian_units(&self, numbers: &[i64; 4]) -> Answer<[i64; 3]>;
+    /// Code, X, Y, Z to latitude, longitude, height.
+    fn geodetic(&self, numbers: &[i64; 4]) -> Answer<[i64; 3]>;
     fn cassini(&self, numbers: &[i64; 7]) -> Answer<[f64; 2]>;
     fn cassini_millimetres(&self, numbers: &[i64; 7]) -> Answer<[i64; 2]>;
     fn round(&self, x: f64, places: u32) -> Answer<i64>;
@@ -46,6 +48,9 @@ impl Subject for Paper {
     }
     fn cartesian_units(&self, n: &[i64; 4]) -> Answer<[i64; 3]> {
         paper::angle::cartesian_units(n[0], n[1], n[2], n[3])
+    }
+    fn geodetic(&self, n: &[i64; 4]) -> Answer<[i64; 3]> {
+        paper::geodetic::geodetic(n[0], [n[1], n[2], n[3]])
     }
     fn cassini(&self, n: &[i64; 7]) -> Answer<[f64; 2]> {
         paper::angle::cassini(&origin(n), n[5], n[6])
@@ -89,6 +94,9 @@ impl Subject for Baseline {
     }
     fn cartesian_units(&self, n: &[i64; 4]) -> Answer<[i64; 3]> {
         baseline::angle::cartesian_units(n[0], n[1], n[2], n[3])
+    }
+    fn geodetic(&self, n: &[i64; 4]) -> Answer<[i64; 3]> {
+        baseline::geodetic::geodetic(n[0], [n[1], n[2], n[3]])
     }
     fn cassini(&self, n: &[i64; 7]) -> Answer<[f64; 2]> {
         ready(n)?.cassini(n[5], n[6])

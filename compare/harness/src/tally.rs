@@ -8,6 +8,7 @@ pub enum Function {
     Inverse,
     Cartesian,
     CartesianUnits,
+    Geodetic,
     Cassini,
     CassiniMillimetres,
     Round,
@@ -18,13 +19,16 @@ pub enum Function {
 
 use Function::*;
 
+const FUNCTIONS: usize = Plan as usize + 1;
+
 /// The numbers that each can give; 0 is an answer or, in a sheet or plan, a line printed. 14 can't come
 /// from an angle: every result lies below 10,000 km.
-const REACHABLE: [(Function, &str, &[u8]); 10] = [
+const REACHABLE: [(Function, &str, &[u8]); FUNCTIONS] = [
     (Forward, "forward", &[0, 2, 3, 4, 5, 6, 9, 10, 11]),
     (Inverse, "inverse", &[0, 2, 3, 4, 5, 6, 9, 10, 11]),
     (Cartesian, "cartesian", &[0, 2, 12]),
     (CartesianUnits, "cartesian units", &[0, 2, 12]),
+    (Geodetic, "from Cartesian", &[0, 2, 10, 12]),
     (Cassini, "cassini", &[0, 2, 12, 13]),
     (CassiniMillimetres, "cassini millimetres", &[0, 2, 12, 13]),
     (Round, "round", &[0, 2, 14]),
@@ -35,7 +39,7 @@ const REACHABLE: [(Function, &str, &[u8]); 10] = [
 
 #[derive(Clone, Default)]
 pub struct Tally {
-    counts: [[u64; 18]; 10],
+    counts: [[u64; 18]; FUNCTIONS],
 }
 
 impl Tally {

@@ -1,8 +1,10 @@
 //! The generator makes what it says it makes.
 
 use harness::gen::chains::Chains;
-use harness::gen::{full, halves, plans, points, sheets};
+use harness::gen::{full, geodetic, halves, plans, points, sheets};
 use harness::rng::Rng;
+use paper::ellipsoid::by_code;
+use paper::geodetic::{quantities, SECONDS};
 use paper::numbers::steps;
 use std::collections::BTreeSet;
 
@@ -65,4 +67,19 @@ fn a_seed_gives_the_same_texts() {
     };
     assert_eq!(texts(4), texts(4));
     assert_ne!(texts(4), texts(5));
+}
+
+/// A few millionths of a unit from a half, for most positions.
+#[test]
+fn angles_are_led_to_halves() {
+    let mut rng = Rng::new(6);
+    let mut near = 0;
+    for _ in 0..200 {
+        let (code, at) = geodetic::placed(&mut rng);
+        let from = geodetic::position(code, at);
+        let q = quantities(by_code(code).expect("a code"), geodetic::beside_a_half(&mut rng, code, from));
+        let off = |radians: f64| ((radians * SECONDS * 100000.0).fract() - 0.5).abs();
+        near += i32::from(off(q.phi) < 0.00001 || off(q.w) < 0.00001);
+    }
+    assert!(near > 120, "{near}");
 }

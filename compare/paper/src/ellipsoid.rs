@@ -5,6 +5,7 @@ use crate::series::sin;
 #[derive(Clone, Copy, Debug)]
 pub struct Ellipsoid {
     pub a: f64,
+    pub f: f64,
     pub e2: f64,
 }
 
@@ -17,7 +18,7 @@ pub fn by_code(code: i64) -> Option<Ellipsoid> {
         _ => return None,
     };
     let f = 1.0 / reciprocal_flattening;
-    Some(Ellipsoid { a, e2: f * (2.0 - f) })
+    Some(Ellipsoid { a, f, e2: f * (2.0 - f) })
 }
 
 /// ν, the radius of the prime vertical.

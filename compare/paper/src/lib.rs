@@ -1,4 +1,4 @@
-//! The rules of document 01 written once more, as plainly as they stand there.
+//! The rules of document 01 and the orders of docs/ORDERS.md written once more, as plainly as they stand there.
 //!
 //! This program shares no code, table or constant with the product. It is for reading beside the paper
 //! and for comparing: nothing in it is done for speed. Steps are worked out in exact fractions over
@@ -9,7 +9,10 @@ pub mod chain;
 pub mod decimal;
 pub mod ellipsoid;
 pub mod fraction;
+pub mod functions;
+pub mod geodetic;
 pub mod later;
+pub mod library;
 pub mod lines;
 pub mod numbers;
 pub mod plan;

@@ -67,6 +67,20 @@ macro_rules! cartesian {
 cartesian!(swivelcrane_cartesian, angle::cartesian, f64);
 cartesian!(swivelcrane_cartesian_units, angle::cartesian_units, i64);
 
+/// # Safety
+/// The pointer and length are a live slice.
+#[no_mangle]
+pub unsafe extern "C" fn swivelcrane_geodetic(
+    ellipsoid: i64,
+    x: i64,
+    y: i64,
+    z: i64,
+    out: *mut i64,
+    out_len: usize,
+) -> i64 {
+    give(baseline::geodetic::geodetic(ellipsoid, [x, y, z]), out, out_len)
+}
+
 macro_rules! cassini {
     ($name:ident, $call:path, $number:ty) => {
         /// # Safety

@@ -5,9 +5,9 @@ use Prim.Native.Nat.{ℕ}
 use lib.Dec.{T}
 use lib.Ieee.{Float}
 use Rattle.bounds.proofs.Among.{Ends, Among}
-use Rattle.bounds.proofs.Formula.{Formula, var, lit, plus, times, square, bind, none, also, value, tested, proved}
-use Rattle.elementary.specs.Floats.{#}
-use Rattle.elementary.specs.Series.{sineTable, cosineTable, sineOf, cosineOf}
+use Rattle.bounds.proofs.Formula.{Formula, var, lit, plus, times, over, square, bind, steps, none, also, value, tested, proved}
+use Rattle.elementary.specs.Floats.{near, #}
+use Rattle.elementary.specs.Series.{sineTable, cosineTable, arctanTable, sineOf, cosineOf}
 
 abbrev pub n : ℕ → Formula
 n i = lit (# i)
@@ -32,6 +32,16 @@ sineF = oddF (square (var 0)) sineTable
 
 abbrev pub cosineF : Formula
 cosineF = evenF (square (var 0)) cosineTable
+
+abbrev pub arctanSmallF : Formula
+arctanSmallF = oddF (square (var 0)) arctanTable
+
+-- Heron's step from r
+abbrev stepF : Formula → Formula
+stepF r = times (lit (near 1 2)) (plus r (over (var 0) r))
+
+abbrev pub rootF : Formula
+rootF = steps (times (lit (near 1 2)) (plus (n 1) (var 0)) ∷ stepF (var 1) ∷ stepF (var 2) ∷ []) (stepF (var 3))
 
 -- ---- bounds: `value` of each is its function
 pub sine-among : (I J : Ends) {x : Float} → T (tested (I ∷ []) sineF J) → Among x I → Among (sineOf x) J

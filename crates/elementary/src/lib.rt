@@ -1,5 +1,11 @@
-// Functions of f64, each in a written order of operations. Every call answers for every f64.
+// Functions of f64, each in a written order of operations (docs/ORDERS.md). Every call answers for every f64: outside the arguments that a function names it loses
+// accuracy, and nothing else.
+mod half;
+mod heron;
 mod series;
 
+pub use half::arctangent;
+pub use heron::root;
+pub use series::arctan_small;
 pub use series::cosine;
 pub use series::sine;

@@ -33,6 +33,12 @@ impl Report {
             self.at = name.to_string();
         }
     }
+
+    /// Beside other functions than ours: to know, not to meet.
+    fn aside(&self, name: &str, pair: &Pair) {
+        let (product, library, ratio) = (pair.product, pair.baseline, pair.ratio());
+        println!("{name:<44} product {product:>11.1}   library {library:>11.1} ns a call  ratio {ratio:.2} (no bar)");
+    }
 }
 
 fn main() -> ExitCode {
@@ -44,6 +50,7 @@ fn main() -> ExitCode {
     plans(&mut report, &mut rng);
     conversions(&mut report, &mut rng, &chains);
     angles(&mut report, &mut rng);
+    from_cartesian(&mut report, &mut rng);
     if let Some(folder) = arguments::value("--programs") {
         processes(&mut report, &mut rng, &chains, std::path::Path::new(&folder));
     }
@@ -183,6 +190,19 @@ fn angles(report: &mut Report, rng: &mut Rng) {
         |n| _ = black_box(product::cartesian(n, &mut cartesian)),
         |n| _ = black_box(baseline::angle::cartesian(n[0], n[1], n[2], n[3])),
     );
+}
+
+fn from_cartesian(report: &mut Report, rng: &mut Rng) {
+    let positions: Vec<[i64; 4]> = (0..CALLS).map(|_| full::position(rng)).collect();
+    let mut out = [0; 3];
+    let mut ours = |n: &[i64; 4]| _ = black_box(product::geodetic(n, &mut out));
+    calls(report, "Cartesian to geodetic", &positions, &mut ours, |n| {
+        _ = black_box(baseline::geodetic::geodetic(n[0], [n[1], n[2], n[3]]));
+    });
+    let theirs = |n: &[i64; 4]| _ = black_box(baseline::geodetic::over_the_library(n[0], [n[1], n[2], n[3]]));
+    let pair =
+        both(|| positions.iter().for_each(&mut ours), || positions.iter().for_each(theirs), CALLS, 401);
+    report.aside("the same formulas over the C library", &pair);
 }
 
 /// The built programs from start to end.

@@ -4,7 +4,7 @@
 //! 1 at the first difference, after printing the input.
 
 use harness::arguments;
-use harness::checks::{angles, conversions, later, roundings, texts, trips};
+use harness::checks::{angles, conversions, geodetic, later, roundings, texts, trips};
 use harness::compare::{Comparison, Outcome};
 use harness::programs::Programs;
 use harness::subject::{Baseline, Subject};
@@ -16,6 +16,7 @@ struct Sizes {
     trips: u64,
     roundings: u64,
     angles: u64,
+    geodetic: u64,
     pairs: u64,
     texts: u64,
     processes: u64,
@@ -26,6 +27,7 @@ const SHORT: Sizes = Sizes {
     trips: 200_000,
     roundings: 1_000_000,
     angles: 200_000,
+    geodetic: 200_000,
     pairs: 100_000,
     texts: 12_000,
     processes: 200,
@@ -36,6 +38,7 @@ const LONG: Sizes = Sizes {
     trips: 10_000_000,
     roundings: 20_000_000,
     angles: 2_000_000,
+    geodetic: 5_000_000,
     pairs: 2_000_000,
     texts: 300_000,
     processes: 4_000,
@@ -87,6 +90,7 @@ fn run(c: &mut Comparison, sizes: &Sizes) -> Outcome {
     timed(&format!("{} round trips that came home", sizes.trips), || round_trips(c, sizes.trips))?;
     timed(&format!("{} roundings", sizes.roundings), || roundings::run(c, sizes.roundings))?;
     timed(&format!("{} geodetic and as many Cassini points", sizes.angles), || angles::run(c, sizes.angles))?;
+    timed(&format!("{} positions to angles", sizes.geodetic), || from_cartesian(c, sizes.geodetic))?;
     timed(&format!("{} pairs for the later of two", sizes.pairs), || later::run(c, sizes.pairs))?;
     #[cfg(feature = "product")]
     timed("wrong lengths", || harness::checks::lengths::run(c, sizes.pairs / 100))?;
@@ -97,6 +101,23 @@ fn round_trips(c: &mut Comparison, count: u64) -> Outcome {
     let trips = trips::run(c, count)?;
     let largest = trips.largest;
     println!("  {} more were refused; largest difference by B and F steps: {largest:?}", trips.refused);
+    Ok(())
+}
+
+fn from_cartesian(c: &mut Comparison, count: u64) -> Outcome {
+    geodetic::causes(c)?;
+    geodetic::run(c, count)?;
+    let points = count / 10;
+    let largest = geodetic::against_iteration(c, points)?;
+    println!(
+        "  {points} points that aren't refused lie within {:.3} mm of the iteration's",
+        largest * 1000.0
+    );
+    let trips = geodetic::there_and_back(c, count)?;
+    println!(
+        "  {count} trips to X, Y, Z and back: all angles the same, {} heights a unit off, {} past their end",
+        trips.heights_a_unit_off, trips.past_the_end
+    );
     Ok(())
 }
 

@@ -57,6 +57,9 @@ fn others(c: &mut Comparison) -> Outcome {
     let number = product::cartesian_units(&angles, &mut whole);
     decide(&what("cartesian units"), number, length != 3, &whole, MARK)?;
     let mut whole = vec![MARK; length];
+    let number = product::geodetic(&[code, -113_105_165_410, 623_631_179_950, 71_174_811_140], &mut whole);
+    decide(&what("from Cartesian"), number, length != 3, &whole, MARK)?;
+    let mut whole = vec![MARK; length];
     let number = product::cassini_millimetres(&grid, &mut whole);
     decide(&what("cassini millimetres"), number, length != 2, &whole, MARK)?;
     let mut whole = vec![MARK; length];

@@ -2,6 +2,7 @@
 
 pub mod angles;
 pub mod conversions;
+pub mod geodetic;
 pub mod later;
 #[cfg(feature = "product")]
 pub mod lengths;

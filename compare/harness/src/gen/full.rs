@@ -1,7 +1,7 @@
 //! Full inputs for measuring: every line of one sort.
 
 use super::chains::{Chains, Row};
-use super::{angles, lines, numbers, points};
+use super::{angles, geodetic, lines, numbers, points};
 use crate::rng::Rng;
 
 /// A sheet of steps of those kinds and, up to the size, points that go through.
@@ -89,6 +89,17 @@ pub fn geodetic(rng: &mut Rng) -> [i64; 4] {
         let numbers = angles::geodetic(rng);
         if paper::angle::cartesian(numbers[0], numbers[1], numbers[2], numbers[3]).is_ok() {
             return numbers;
+        }
+    }
+}
+
+/// A code and the position of a geodetic point in range, which its ellipsoid takes back.
+pub fn position(rng: &mut Rng) -> [i64; 4] {
+    loop {
+        let (code, at) = geodetic::placed(rng);
+        let [x, y, z] = geodetic::position(code, at);
+        if paper::geodetic::geodetic(code, [x, y, z]).is_ok() {
+            return [code, x, y, z];
         }
     }
 }

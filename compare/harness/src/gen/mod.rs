@@ -4,6 +4,7 @@ pub mod angles;
 pub mod chains;
 pub mod floats;
 pub mod full;
+pub mod geodetic;
 pub mod halves;
 pub mod lines;
 pub mod numbers;

@@ -2,6 +2,7 @@
 //! The inputs are those of tests/c/header.c.
 
 use paper::angle::{self, Origin};
+use paper::geodetic::geodetic;
 use paper::{decimal, later, numbers};
 
 const CHAIN: [i64; 26] = [
@@ -32,6 +33,7 @@ fn main() {
     whole("arau_inverse", &numbers::inverse(&ARAU_CHAIN, &arau).unwrap_or_default());
     bits("cartesian", &angle::cartesian(2, 1234567890, 36700000123, 456789).unwrap_or_default());
     whole("cartesian_units", &angle::cartesian_units(2, 1234567890, 36700000123, 456789).unwrap_or_default());
+    whole("geodetic", &geodetic(2, [-131769233712, 622894736791, 37897691636]).unwrap_or_default());
     let origin = Origin {
         ellipsoid: 3,
         latitude: 1440000000,

@@ -1,0 +1,43 @@
+//! The stored answers of the examples in C, worked out again.
+
+use paper::geodetic::geodetic;
+
+/// The text stands among what the examples in C print.
+#[track_caller]
+fn stored(text: &str) {
+    let stored = include_str!("../../../tests/examples/run-c.out");
+    assert!(stored.contains(text), "{text}\nis not in\n{stored}");
+}
+
+/// Units of 0.00001" as degrees, minutes and seconds.
+fn angle(units: i64, side: char) -> String {
+    let (degrees, minutes, seconds) =
+        (units / 360_000_000, units % 360_000_000 / 6_000_000, units % 6_000_000);
+    format!("\t{degrees} {minutes:02} {:02}.{:05} {side}", seconds / 100_000, seconds % 100_000)
+}
+
+fn to_angles(name: &str, ellipsoid: i64, position: [i64; 3]) -> String {
+    match geodetic(ellipsoid, position) {
+        Err(number) => format!("{name}\trefused: {number}\n"),
+        Ok([latitude, longitude, height]) => {
+            let sign = if height < 0 { "-" } else { "" };
+            let size = height.abs();
+            let height = format!("\t{sign}{}.{:05} m", size / 100_000, size % 100_000);
+            format!("{name}{}{}{height}\n", angle(latitude, 'N'), angle(longitude, 'E'))
+        }
+    }
+}
+
+#[test]
+fn from_cartesian_to_angles() {
+    let arau = [-113105165410, 623631179950, 71174811140];
+    let text = [
+        to_angles("ARAU", 1, arau),
+        to_angles("ARAU, GDM2020", 1, [-113105206217, 623631172148, 71174796538]),
+        to_angles("Borneo", 4, [-276398702963, 571618000733, 59479137213]),
+        to_angles("X and Y changed about", 1, [arau[1], arau[0], arau[2]]),
+        to_angles("ellipsoid 5", 5, arau),
+        to_angles("ten kilometres up", 1, [-113282169451, 624607132201, 71286946915]),
+    ];
+    stored(&text.concat());
+}

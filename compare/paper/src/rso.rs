@@ -91,9 +91,6 @@ pub fn projection(p: &Parameters) -> Result<Projection, Refusal> {
     parameter_faults(p)?;
     let e = by_code(p.ellipsoid).ok_or(RANGE)?;
     let e2 = e.e2;
-    let e4 = e2 * e2;
-    let e6 = e4 * e2;
-    let e8 = e4 * e4;
     let phi_c = p.latitude as f64 * K;
     let (s, c) = (sin(phi_c), cos(phi_c));
     let c2 = c * c;
@@ -116,6 +113,7 @@ pub fn projection(p: &Parameters) -> Result<Projection, Refusal> {
     let cos_gamma_0 = cos_alpha * root(1.0 + i * i);
     let omega_0 = arcsine(g * (sin_gamma_0 / cos_gamma_0)) / b;
     let gamma_c = skew_radians(p.rectified);
+    let [k2, k4, k6, k8] = latitude_series(e2);
     Ok(Projection {
         centre_longitude: p.longitude,
         e2,
@@ -135,11 +133,24 @@ pub fn projection(p: &Parameters) -> Result<Projection, Refusal> {
         rho: b / a,
         false_easting: p.false_easting as f64 / 1000.0,
         false_northing: p.false_northing as f64 / 1000.0,
-        k2: ((e2 / 2.0 + (5.0 * e4) / 24.0) + e6 / 12.0) + (13.0 * e8) / 360.0,
-        k4: ((7.0 * e4) / 48.0 + (29.0 * e6) / 240.0) + (811.0 * e8) / 11520.0,
-        k6: (7.0 * e6) / 120.0 + (81.0 * e8) / 1120.0,
-        k8: (4279.0 * e8) / 161280.0,
+        k2,
+        k4,
+        k6,
+        k8,
     })
+}
+
+/// k2, k4, k6, k8.
+fn latitude_series(e2: f64) -> [f64; 4] {
+    let e4 = e2 * e2;
+    let e6 = e4 * e2;
+    let e8 = e4 * e4;
+    [
+        ((e2 / 2.0 + (5.0 * e4) / 24.0) + e6 / 12.0) + (13.0 * e8) / 360.0,
+        ((7.0 * e4) / 48.0 + (29.0 * e6) / 240.0) + (811.0 * e8) / 11520.0,
+        (7.0 * e6) / 120.0 + (81.0 * e8) / 1120.0,
+        (4279.0 * e8) / 161280.0,
+    ]
 }
 
 /// Forward's quantities that are worth looking at.
@@ -198,7 +209,7 @@ pub fn reverse(parameters: &Parameters, easting: f64, northing: f64) -> Result<[
     let small = |metres: f64| metres.is_finite() && metres.abs() < 10_000_000.0;
     unless(small(easting) && small(northing), PROJECTED)?;
     let [theta, mu] = skewed(&p, easting, northing);
-    let gate = -1.0 <= theta && theta <= 1.0 && -1.0 <= mu && mu <= 1.0;
+    let gate = (-1.0..=1.0).contains(&theta) && (-1.0..=1.0).contains(&mu);
     unless(gate, ANGLE)?;
     let r = lift(&p, theta, mu);
     let latitude = rounded(r.phi * SECONDS)?;

@@ -7,20 +7,32 @@ use crate::subject::{Answer, Subject};
 use paper::oblique::Oblique;
 use paper::rso::Parameters;
 
-/// Parameters, latitude and longitude, printed E and N, and half the last printed digit (a centimetre for document
-/// 004's). Example (vi) of documents 000 and 001 is left out: no parameters are printed that give it.
-const PRINTED: [([i64; 8], [i64; 2], [f64; 2], f64); 5] = [
-    (TIMBALAI, [1_939_411_290, 41_689_981_960], [679245.73, 596562.78], 0.01),
-    (PENINSULA, [2_210_298_682, 36_138_656_827], [266843.634, 679690.850], 0.0005),
-    (PENINSULA, [2_210_298_892, 36_138_657_684], [266843.898, 679690.914], 0.0005),
-    (BORNEO, [2_476_245_022, 42_064_758_835], [793704.631, 762081.047], 0.0005),
-    (TIMBALAI, [2_476_604_669, 42_063_760_565], [793326.383, 762132.514], 0.0005),
+/// A printed example: how near it is to be met is half its last digit, or a centimetre for document 004's.
+struct Printed {
+    parameters: [i64; 8],
+    at: [i64; 2],
+    metres: [f64; 2],
+    near: f64,
+}
+
+const fn example(parameters: [i64; 8], at: [i64; 2], metres: [f64; 2], near: f64) -> Printed {
+    Printed { parameters, at, metres, near }
+}
+
+/// Document 004's, then (iii), (iv), (v) and (viii) of documents 000 and 001. Their (vi) is left out: no parameters
+/// are printed that give it.
+const PRINTED: [Printed; 5] = [
+    example(TIMBALAI, [1_939_411_290, 41_689_981_960], [679245.73, 596562.78], 0.01),
+    example(PENINSULA, [2_210_298_682, 36_138_656_827], [266843.634, 679690.850], 0.0005),
+    example(PENINSULA, [2_210_298_892, 36_138_657_684], [266843.898, 679690.914], 0.0005),
+    example(BORNEO, [2_476_245_022, 42_064_758_835], [793704.631, 762081.047], 0.0005),
+    example(TIMBALAI, [2_476_604_669, 42_063_760_565], [793326.383, 762132.514], 0.0005),
 ];
 
 /// Forward within the printed digits, and the printed E and N back to the angles within as much: a metre is about
 /// 3,240 units.
 pub fn printed(c: &mut Comparison) -> Outcome {
-    for (parameters, [latitude, longitude], metres, near) in PRINTED {
+    for Printed { parameters, at: [latitude, longitude], metres, near } in PRINTED {
         for subject in c.all() {
             let there = subject.rso_forward(&parameters, latitude, longitude);
             let home = subject.rso_reverse(&parameters, metres[0], metres[1]);

@@ -67,5 +67,5 @@ fn onto_rso_and_back() {
         on_rso("document 004", timbalai, 1939411290, 41689981960),
         format!("too far\trefused: {}\n", too_far.expect_err("23")),
     ];
-    assert_eq!(text.concat(), include_str!("../../../examples/rso.c.out"));
+    stored(&text.concat());
 }

@@ -15,18 +15,20 @@ use lib.Ieee.Scale.{finite}
 use lib.Ieee.Positive.{num}
 use Rattle.bounds.proofs.Size.{sign, sign-round, div-sign}
 use Rattle.bounds.proofs.Among.{Ends, Among, point, is-finite, num-above, closed, within}
-use Rattle.bounds.proofs.Formula.{var, over, nil, All, none, also, value, bounds, test, proved}
-use Rattle.bounds.proofs.Zero.{wholes, whole-among, Upto, sub-self, add-zero-is}
-use Rattle.angle.specs.Floats.{near, #, k, radians, metres}
+use Rattle.bounds.proofs.Formula.{var, over, All, none, also, value, tested, proved}
+use Rattle.bounds.proofs.Zero.{wholes, whole-among, nought, Upto, sub-self, add-zero-is}
+use Rattle.elementary.specs.Floats.{near, #}
+use Rattle.angle.specs.Units.{k, radians, metres}
 use Rattle.angle.specs.Ranges.{nearby, originTests, pointTests, cassiniTests, originFault}
-use Rattle.angle.specs.Series.{sineOf, cosineOf}
+use Rattle.elementary.specs.Series.{sineOf, cosineOf}
 use Rattle.angle.specs.Ellipsoids.{ellipsoidOf, primeVertical, meridianArc}
 use Rattle.angle.specs.Cassini.{originMade, cassiniWith, cassiniAt, cassiniOf}
 use Rattle.angle.specs.declared.OriginNumbers.{OriginNumbers}
 use Rattle.angle.specs.declared.Projected.the-variants.{Metres, Refused}
 use Rattle.refusal.proofs.Orders as orders
 use Rattle.refusal.proofs.Orders.{Passed, passed, both, unless-none}
-use Rattle.angle.proofs.Formulas.{n, eastF, northF}
+use Rattle.elementary.proofs.Formulas.{n}
+use Rattle.angle.proofs.Formulas.{eastF, northF}
 use Rattle.angle.proofs.Sizes.{from, most, Shaped, shaped, sine-latitude, cosine-latitude, radius-among, arc-among, metres-among}
 use Rattle.ranges.specs.Ranges.{upTo}
 use Rattle.ranges.proofs.Ranges.{natural, up-to-holds}
@@ -34,43 +36,43 @@ use Rattle.angle.proofs.Wholes.{natural-upto, upto}
 
 -- ---- what is added is a zero
 abbrev ends : List Ends
-ends = from 1 256 1 128 ∷ most 3 20 ∷ from 98 100 102 100 ∷ most 6379000 1 ∷ point nil ∷ point nil ∷ []
+ends = from 1 256 1 128 ∷ most 3 20 ∷ from 98 100 102 100 ∷ most 6379000 1 ∷ nought ∷ nought ∷ []
 
-east-test : T (test (bounds ends eastF) (point nil))
-unfolding test bounds near
+east-test : T (tested ends eastF nought)
+unfolding tested
 east-test = tt
 
-north-test : T (test (bounds ends northF) (point nil))
-unfolding test bounds near
+north-test : T (tested ends northF nought)
+unfolding tested
 north-test = tt
 
-zero-test : T (within (point (radians (pos 0))) (point nil))
-unfolding within radians k near mul ofInt round
+zero-test : T (within (point (radians (pos 0))) nought)
+unfolding within radians k mul ofInt round
 zero-test = tt
 
 -- ---- a false easting or northing is no -0
 thousand-finite : T (finite (# 1000))
-unfolding near round
+unfolding round
 thousand-finite = tt
 
 thousand-pos : 0 < num (# 1000)
-unfolding near round
+unfolding round
 thousand-pos = lit< tt
 
 thousand-sign : sign (# 1000) ≡ false
-unfolding near round
+unfolding round
 thousand-sign = refl
 
 small-pos : 0 < num (near 1 1000)
-unfolding near round
+unfolding round
 small-pos = lit< tt
 
 billions-finite : T (finite (round binary64 false 2000000000 1))
 unfolding round
 billions-finite = tt
 
-below-test : T (test (bounds (wholes 1 2000000000 ∷ []) (over (var 0) (n 1000))) (from 1 1000 2000000 1))
-unfolding test bounds near
+below-test : T (tested (wholes 1 2000000000 ∷ []) (over (var 0) (n 1000)) (from 1 1000 2000000 1))
+unfolding tested
 below-test = tt
 
 metres-sign : (z : ℤ) → Upto 2000000000 z → (0 < num (metres z)) ⊎ (sign (metres z) ≡ false)
@@ -89,7 +91,7 @@ unfolding metres
 metres-fits z = div-fits binary64 (ofInt binary64 z) (# 1000)
 
 -- x plus a zero is x, for a false easting or northing
-kept : (z : ℤ) (x : Float) → Upto 2000000000 z → Among x (point nil) → add binary64 (metres z) x ≡ metres z
+kept : (z : ℤ) (x : Float) → Upto 2000000000 z → Among x nought → add binary64 (metres z) x ≡ metres z
 kept z x h X = add-zero-is (metres z) x (metres-fits z) (is-finite (metres-among z h)) (metres-sign z h) X
 
 -- ---- the formulas at the origin
@@ -121,14 +123,14 @@ module _ (o : OriginNumbers) (p : Passed (originTests o)) where
       (also (sine-latitude (ellipsoidOf (o .ellipsoid)) (o .latitude) E lat)
       (also (cosine-latitude (ellipsoidOf (o .ellipsoid)) (o .latitude) E lat)
       (also (radius-among (ellipsoidOf (o .ellipsoid)) (o .latitude) E lat)
-      (also (closed (radians (pos 0)) (point nil) zero-test) (also (sub-self M (is-finite (arc-among (ellipsoidOf (o .ellipsoid)) (o .latitude) E lat))) none)))))
+      (also (closed (radians (pos 0)) nought zero-test) (also (sub-self M (is-finite (arc-among (ellipsoidOf (o .ellipsoid)) (o .latitude) E lat))) none)))))
 
   laid : cassiniWith (originMade o) s c ν M (radians (pos 0)) ≡ Metres (metres (o .«false_easting»)) (metres (o .«false_northing»))
   unfolding value cassiniWith originMade
   laid =
       ap₂ Metres
-      (kept (o .«false_easting») (value (e ∷ s ∷ c ∷ ν ∷ radians (pos 0) ∷ sub binary64 M M ∷ []) eastF) (upto 2000000000 1999999999 (o .«false_easting») 2000000000 (lit≤ tt) (lit≤ tt) (not-false _ (p .1 .0))) (proved all eastF (point nil) east-test))
-      (kept (o .«false_northing») (value (e ∷ s ∷ c ∷ ν ∷ radians (pos 0) ∷ sub binary64 M M ∷ []) northF) (upto 2000000000 1999999999 (o .«false_northing») 2000000000 (lit≤ tt) (lit≤ tt) (not-false _ (p .1 .1 .0))) (proved all northF (point nil) north-test))
+      (kept (o .«false_easting») (value (e ∷ s ∷ c ∷ ν ∷ radians (pos 0) ∷ sub binary64 M M ∷ []) eastF) (upto 2000000000 1999999999 (o .«false_easting») 2000000000 (lit≤ tt) (lit≤ tt) (not-false _ (p .1 .0))) (proved all eastF nought east-test))
+      (kept (o .«false_northing») (value (e ∷ s ∷ c ∷ ν ∷ radians (pos 0) ∷ sub binary64 M M ∷ []) northF) (upto 2000000000 1999999999 (o .«false_northing») 2000000000 (lit≤ tt) (lit≤ tt) (not-false _ (p .1 .1 .0))) (proved all northF nought north-test))
 
   at : cassiniAt (originMade o) (o .latitude) (o .longitude) ≡ Metres (metres (o .«false_easting»)) (metres (o .«false_northing»))
   unfolding cassiniAt originMade

@@ -17,12 +17,13 @@ use Rattle.refusal.specs.Order.{first, unless}
 use Rattle.rounding.specs.Decimals.{tooLarge, wholeOf, roundedOf}
 use Rattle.rounding.specs.declared.decimals.Rounded.the-variants.{Whole}
 use Rattle.rounding.proofs.Places.{few}
-use Rattle.bounds.proofs.Among.{Ends, Among, is-finite, neg-among}
-use Rattle.bounds.proofs.Formula.{var, lit, plus, minus, times, over, All, none, also, value, bounds, test, proved}
+use Rattle.bounds.proofs.Among.{Ends, Among, is-finite, neg-among, untold}
+use Rattle.bounds.proofs.Formula.{var, lit, plus, minus, times, over, All, none, also, value, tested, proved}
 use Rattle.bounds.proofs.Zero.{wholes, Upto}
-use Rattle.angle.specs.Floats.{near, #, whole, k, radians, metres}
+use Rattle.elementary.specs.Floats.{near, #, whole}
+use Rattle.angle.specs.Units.{k, radians, metres}
 use Rattle.angle.specs.Ranges.{cartesianTests, originTests, pointTests, cassiniTests}
-use Rattle.angle.specs.Series.{reciprocal, sineOf, cosineOf}
+use Rattle.elementary.specs.Series.{sineOf, cosineOf}
 use Rattle.angle.specs.Ellipsoids.{ellipsoidOf, primeVertical, meridianArc}
 use Rattle.angle.specs.Cartesian.{cartesianAt, cartesianOf, inUnits, cartesianUnitsOf}
 use Rattle.angle.specs.Cassini.{originMade, cassiniWith, cassiniAt, cassiniOf, inMillimetres, cassiniMillimetresOf}
@@ -35,8 +36,9 @@ use Rattle.angle.specs.declared.Projected.{Projected}
 use Rattle.angle.specs.declared.Projected.the-variants as projected
 use Rattle.angle.specs.declared.ProjectedMillimetres.the-variants.{Millimetres}
 use Rattle.refusal.proofs.Orders.{Passed, passed}
-use Rattle.angle.proofs.Formulas.{sineF, cosineF, eastF, northF, axisF, polarF}
-use Rattle.angle.proofs.Sizes.{from, most, Shaped, shaped, radians-among, parts-among, sine-among, cosine-among, sine-latitude, cosine-latitude, radius-among, arc-among, metres-among}
+use Rattle.elementary.proofs.Formulas.{sineF, cosineF, sine-among, cosine-among}
+use Rattle.angle.proofs.Formulas.{eastF, northF, axisF, polarF}
+use Rattle.angle.proofs.Sizes.{from, most, Shaped, shaped, radians-among, parts-among, sine-latitude, cosine-latitude, radius-among, arc-among, metres-among}
 use Rattle.ranges.proofs.Ranges.{natural}
 use Rattle.angle.proofs.Wholes.{natural-upto, upto, sub-pos}
 
@@ -55,40 +57,40 @@ past-finite : T (finite (round binary64 false 10800000000 1))
 unfolding round
 past-finite = tt
 
-past-test : T (test (bounds (wholes 0 10800000000 ∷ []) (times (var 0) (lit k))) (most 53 100))
-unfolding test bounds near k
+past-test : T (tested (wholes 0 10800000000 ∷ []) (times (var 0) (lit k)) (most 53 100))
+unfolding tested k
 past-test = tt
 
-sine-test : T (test (bounds (most 53 100 ∷ []) (sineF (var 0))) (most 56 100))
-unfolding test bounds near reciprocal neg div
+sine-test : T (tested (most 53 100 ∷ []) sineF (most 56 100))
+unfolding tested neg div
 sine-test = tt
 
-cosine-test : T (test (bounds (most 53 100 ∷ []) (cosineF (var 0))) (most 115 100))
-unfolding test bounds near reciprocal neg div
+cosine-test : T (tested (most 53 100 ∷ []) cosineF (most 115 100))
+unfolding tested neg div
 cosine-test = tt
 
 height-finite : T (finite (round binary64 false 900000000 1))
 unfolding round
 height-finite = tt
 
-height-test : T (test (bounds (wholes 0 900000000 ∷ []) (over (var 0) (lit (# 100000)))) (most 9000 1))
-unfolding test bounds near
+height-test : T (tested (wholes 0 900000000 ∷ []) (over (var 0) (lit (# 100000))) (most 9000 1))
+unfolding tested
 height-test = tt
 
 -- e2, the radius, the height, the latitude's sine and cosine, the longitude's cosine and sine
 abbrev space : List Ends
 space = from 1 256 1 128 ∷ most 6379000 1 ∷ most 9000 1 ∷ most 3 20 ∷ from 98 100 102 100 ∷ most 56 100 ∷ most 115 100 ∷ []
 
-x-test : T (test (bounds space (axisF (var 5))) (most 3700000 1))
-unfolding test bounds near
+x-test : T (tested space (axisF (var 5)) (most 3700000 1))
+unfolding tested
 x-test = tt
 
-y-test : T (test (bounds space (axisF (var 6))) (most 7500000 1))
-unfolding test bounds near
+y-test : T (tested space (axisF (var 6)) (most 7500000 1))
+unfolding tested
 y-test = tt
 
-z-test : T (test (bounds space polarF) (most 1000000 1))
-unfolding test bounds near
+z-test : T (tested space polarF (most 1000000 1))
+unfolding tested
 z-test = tt
 
 module _ (code lat lon h : ℤ) (p : Passed (cartesianTests code lat lon h)) where
@@ -143,24 +145,24 @@ difference-finite : T (finite (round binary64 false 1440000000 1))
 unfolding round
 difference-finite = tt
 
-difference-test : T (test (bounds (wholes 0 1440000000 ∷ []) (times (var 0) (lit k))) (most 7 100))
-unfolding test bounds near k
+difference-test : T (tested (wholes 0 1440000000 ∷ []) (times (var 0) (lit k)) (most 7 100))
+unfolding tested k
 difference-test = tt
 
-arcs-test : T (test (bounds (most 910000 1 ∷ most 910000 1 ∷ []) (minus (var 0) (var 1))) (most 1820000 1))
-unfolding test bounds near
+arcs-test : T (tested (most 910000 1 ∷ most 910000 1 ∷ []) (minus (var 0) (var 1)) (most 1820000 1))
+unfolding tested
 arcs-test = tt
 
 -- e2, the latitude's sine and cosine, the radius, the difference of longitudes, that of the arcs, and the false easting or northing
 abbrev plane : List Ends
 plane = from 1 256 1 128 ∷ most 3 20 ∷ from 98 100 102 100 ∷ most 6379000 1 ∷ most 7 100 ∷ most 1820000 1 ∷ most 2000000 1 ∷ []
 
-east-test : T (test (bounds plane (plus (var 6) eastF)) (most 2500000 1))
-unfolding test bounds near
+east-test : T (tested plane (plus (var 6) eastF) (most 2500000 1))
+unfolding tested
 east-test = tt
 
-north-test : T (test (bounds plane (plus (var 6) northF)) (most 3900000 1))
-unfolding test bounds near
+north-test : T (tested plane (plus (var 6) northF) (most 3900000 1))
+unfolding tested
 north-test = tt
 
 module _ (o : OriginNumbers) (lat lon : ℤ) (p : Passed (originTests o)) (q : Passed (pointTests (o .longitude) lat lon)) where
@@ -213,7 +215,7 @@ projected-bounded o lat lon =
 
 -- ---- no rounding refuses: the bounds are below 10,000,000
 -- y is the whole number b, as a computed fact
-not-large : (b : ℕ) (x y : Float) → num y ≡ b → den y ≡ 1 → b < 10000000 → Among x (record { lo = near 0 1; hi = y }) → tooLarge x ≡ false
+not-large : (b : ℕ) (x y : Float) → num y ≡ b → den y ≡ 1 → b < 10000000 → Among x (record { lo = near 0 1; hi = y; side = untold }) → tooLarge x ≡ false
 unfolding tooLarge
 not-large b nan y N D l h = absurd (is-finite h)
 not-large b (inf s) y N D l h = absurd (is-finite h)
@@ -234,23 +236,23 @@ whole-answer : {b : ℕ} (x : Float) (p : ℕ) → Bound b → p ≤ 5 → Among
 whole-answer {b} x p B h k = few x p h (not-large b x (# b) (B .is) (B .unit) (B .low) k)
 
 bound-x : Bound 3700000
-unfolding near round
+unfolding round
 bound-x = record { is = refl; unit = refl; low = lit< tt }
 
 bound-y : Bound 7500000
-unfolding near round
+unfolding round
 bound-y = record { is = refl; unit = refl; low = lit< tt }
 
 bound-z : Bound 1000000
-unfolding near round
+unfolding round
 bound-z = record { is = refl; unit = refl; low = lit< tt }
 
 bound-e : Bound 2500000
-unfolding near round
+unfolding round
 bound-e = record { is = refl; unit = refl; low = lit< tt }
 
 bound-n : Bound 3900000
-unfolding near round
+unfolding round
 bound-n = record { is = refl; unit = refl; low = lit< tt }
 
 pub units-answered : (code lat lon h : ℤ) (x y z : Float)

@@ -1,28 +1,7 @@
 -- The printed formulas as data (`Formula`), so that bounds of them can be computed. `value` of each is the definition itself: nothing is proved of them here.
-use mathlib.Core.List.{List, [], _∷_}
-use Prim.Native.Nat.{ℕ}
-use lib.Ieee.{Float}
-use Rattle.bounds.proofs.Formula.{Formula, var, lit, plus, minus, times, over}
-use Rattle.angle.specs.Floats.{near, #}
-use Rattle.angle.specs.Series.{sineTable, cosineTable}
-
-abbrev pub n : ℕ → Formula
-n i = lit (# i)
-
--- ---- sine and cosine
-abbrev pub hornerFromF : Formula → Formula → List Float → Formula
-hornerFromF y s [] = s
-hornerFromF y s (c ∷ cs) = hornerFromF y (plus (times s y) (lit c)) cs
-
-abbrev pub hornerF : Formula → List Float → Formula
-hornerF y [] = n 0
-hornerF y (c ∷ cs) = hornerFromF y (lit c) cs
-
-abbrev pub sineF : Formula → Formula
-sineF x = times (hornerF (times x x) sineTable) x
-
-abbrev pub cosineF : Formula → Formula
-cosineF x = hornerF (times x x) cosineTable
+use Rattle.bounds.proofs.Formula.{Formula, var, lit, plus, minus, times, over, call}
+use Rattle.elementary.specs.Floats.{near}
+use Rattle.elementary.proofs.Formulas.{n, sineF}
 
 -- ---- of a, e2 and the sine of the latitude: the prime vertical radius
 abbrev pub primeVerticalF : Formula → Formula → Formula → Formula
@@ -39,7 +18,7 @@ meridianArcF a e2 φ =
     let m2 = plus (plus (over (times (n 3) e2) (n 8)) (over (times (n 3) e4) (n 32))) (over (times (n 45) e6) (n 1024)) in
     let m4 = plus (over (times (n 15) e4) (n 256)) (over (times (n 45) e6) (n 1024)) in
     let m6 = over (times (n 35) e6) (n 3072) in
-    times a (minus (plus (minus (times m0 φ) (times m2 (sineF (times (n 2) φ)))) (times m4 (sineF (times (n 4) φ)))) (times m6 (sineF (times (n 6) φ))))
+    times a (minus (plus (minus (times m0 φ) (times m2 (call sineF (times (n 2) φ)))) (times m4 (call sineF (times (n 4) φ)))) (times m6 (call sineF (times (n 6) φ))))
 
 -- ---- of e2, the latitude's sine and cosine, the radius there, the difference of longitudes, that of the arcs, and the false easting or northing
 abbrev t′ : Formula

@@ -7,22 +7,24 @@ use Prim.Native.Nat.{ℕ, zero, suc, _≤_, _<_}
 use native.Mathlib.Omega.{arith}
 use lib.Dec.{T}
 use lib.IntN.{ℤ, pos}
-use lib.Ieee.{Float, binary64, round, neg, div, mul, sub}
+use lib.Ieee.{binary64, round, neg, div, mul, sub}
 use lib.Ieee.Scale.{finite}
-use Rattle.bounds.proofs.Among.{Ends, Among, point, closed, within}
-use Rattle.bounds.proofs.Formula.{var, lit, times, over, none, also, value, bounds, test, proved}
+use Rattle.bounds.proofs.Among.{Ends, Among, untold, point, closed, within}
+use Rattle.bounds.proofs.Formula.{var, lit, times, over, none, also, value, tested, proved}
 use Rattle.bounds.proofs.Zero.{wholes, Upto, ofInt-among}
-use Rattle.angle.specs.Floats.{near, #, whole, k, radians, metres}
-use Rattle.angle.specs.Series.{reciprocal, hornerFrom, horner, sineOf, cosineOf}
+use Rattle.elementary.specs.Floats.{near, #, whole}
+use Rattle.angle.specs.Units.{k, radians, metres}
+use Rattle.elementary.specs.Series.{sineOf, cosineOf}
 use Rattle.ranges.specs.Ranges.{ellipsoidRange}
 use Rattle.angle.specs.Ellipsoids.{table, shape, figureOf, ellipsoidOf, primeVertical, arcWith, meridianArc}
 use Rattle.angle.specs.declared.Ellipsoid.{Ellipsoid}
-use Rattle.angle.proofs.Formulas.{n, sineF, cosineF, primeVerticalF, meridianArcF}
+use Rattle.elementary.proofs.Formulas.{n, sineF, cosineF, sine-among, cosine-among}
+use Rattle.angle.proofs.Formulas.{primeVerticalF, meridianArcF}
 use Rattle.ranges.proofs.Ranges.{Natural, natural}
 
 -- from a / b to c / d in size
 abbrev pub from : ℕ → ℕ → ℕ → ℕ → Ends
-from a b c d = record { lo = near a b; hi = near c d }
+from a b c d = record { lo = near a b; hi = near c d; side = untold }
 
 -- at most c / d in size
 abbrev pub most : ℕ → ℕ → Ends
@@ -37,7 +39,7 @@ pub record Shaped (e : Ellipsoid) : Type 0 where
   pub flat : Among (e .e2) (from 1 256 1 128)
 
 axis-test : (i : ℕ) → i < 4 → T (within (point (ellipsoidOf (pos (suc i)) .a)) (most 6378137 1))
-unfolding within figureOf ellipsoidOf table shape near round
+unfolding within figureOf ellipsoidOf table shape round
 axis-test zero h = tt
 axis-test (suc zero) h = tt
 axis-test (suc (suc zero)) h = tt
@@ -45,7 +47,7 @@ axis-test (suc (suc (suc zero))) h = tt
 axis-test (suc (suc (suc (suc i)))) h = absurd (past i h)
 
 flat-test : (i : ℕ) → i < 4 → T (within (point (ellipsoidOf (pos (suc i)) .e2)) (from 1 256 1 128))
-unfolding within figureOf ellipsoidOf table shape near round mul div sub
+unfolding within figureOf ellipsoidOf table shape round mul div sub
 flat-test zero h = tt
 flat-test (suc zero) h = tt
 flat-test (suc (suc zero)) h = tt
@@ -72,48 +74,39 @@ shaped code h = go (natural 1 code 4 h)
 -- ---- whole numbers handed in
 -- units of 0.00001" in radians
 pub radians-among : (b : ℕ) (J : Ends) (z : ℤ)
-    → T (finite (round binary64 false b 1)) → T (test (bounds (wholes 0 b ∷ []) (times (var 0) (lit k))) J) → Upto b z → Among (radians z) J
+    → T (finite (round binary64 false b 1)) → T (tested (wholes 0 b ∷ []) (times (var 0) (lit k)) J) → Upto b z → Among (radians z) J
 unfolding value radians
 radians-among b J z f t h = proved (also (ofInt-among b z h f) none) (times (var 0) (lit k)) J t
 
 -- a number of parts
 pub parts-among : (b d : ℕ) (J : Ends) (z : ℤ)
-    → T (finite (round binary64 false b 1)) → T (test (bounds (wholes 0 b ∷ []) (over (var 0) (n d))) J) → Upto b z → Among (div binary64 (whole z) (# d)) J
+    → T (finite (round binary64 false b 1)) → T (tested (wholes 0 b ∷ []) (over (var 0) (n d)) J) → Upto b z → Among (div binary64 (whole z) (# d)) J
 unfolding value
 parts-among b d J z f t h = proved (also (ofInt-among b z h f) none) (over (var 0) (n d)) J t
-
--- ---- sine and cosine
-pub sine-among : (I J : Ends) {x : Float} → T (test (bounds (I ∷ []) (sineF (var 0))) J) → Among x I → Among (sineOf x) J
-unfolding value sineOf horner hornerFrom
-sine-among I J t h = proved (also h none) (sineF (var 0)) J t
-
-pub cosine-among : (I J : Ends) {x : Float} → T (test (bounds (I ∷ []) (cosineF (var 0))) J) → Among x I → Among (cosineOf x) J
-unfolding value cosineOf horner hornerFrom
-cosine-among I J t h = proved (also h none) (cosineF (var 0)) J t
 
 -- ---- a latitude of the range: up to 0.14, so its cosine is not near 0
 latitude-finite : T (finite (round binary64 false 2880000000 1))
 unfolding round
 latitude-finite = tt
 
-latitude-test : T (test (bounds (wholes 0 2880000000 ∷ []) (times (var 0) (lit k))) (most 7 50))
-unfolding test bounds near k
+latitude-test : T (tested (wholes 0 2880000000 ∷ []) (times (var 0) (lit k)) (most 7 50))
+unfolding tested k
 latitude-test = tt
 
-sine-test : T (test (bounds (most 7 50 ∷ []) (sineF (var 0))) (most 3 20))
-unfolding test bounds near reciprocal neg div
+sine-test : T (tested (most 7 50 ∷ []) sineF (most 3 20))
+unfolding tested neg div
 sine-test = tt
 
-cosine-test : T (test (bounds (most 7 50 ∷ []) (cosineF (var 0))) (from 98 100 102 100))
-unfolding test bounds near reciprocal neg div
+cosine-test : T (tested (most 7 50 ∷ []) cosineF (from 98 100 102 100))
+unfolding tested neg div
 cosine-test = tt
 
-radius-test : T (test (bounds (most 6378137 1 ∷ from 1 256 1 128 ∷ most 3 20 ∷ []) (primeVerticalF (var 0) (var 1) (var 2))) (most 6379000 1))
-unfolding test bounds near
+radius-test : T (tested (most 6378137 1 ∷ from 1 256 1 128 ∷ most 3 20 ∷ []) (primeVerticalF (var 0) (var 1) (var 2)) (most 6379000 1))
+unfolding tested
 radius-test = tt
 
-arc-test : T (test (bounds (most 6378137 1 ∷ from 1 256 1 128 ∷ most 7 50 ∷ []) (meridianArcF (var 0) (var 1) (var 2))) (most 910000 1))
-unfolding test bounds near reciprocal neg div
+arc-test : T (tested (most 6378137 1 ∷ from 1 256 1 128 ∷ most 7 50 ∷ []) (meridianArcF (var 0) (var 1) (var 2)) (most 910000 1))
+unfolding tested neg div
 arc-test = tt
 
 module _ (e : Ellipsoid) (z : ℤ) (E : Shaped e) (Z : Upto 2880000000 z) where
@@ -131,7 +124,7 @@ module _ (e : Ellipsoid) (z : ℤ) (E : Shaped e) (Z : Upto 2880000000 z) where
   radius-among = proved (also (E .axis) (also (E .flat) (also sine-latitude none))) (primeVerticalF (var 0) (var 1) (var 2)) (most 6379000 1) radius-test
 
   pub arc-among : Among (meridianArc e (radians z)) (most 910000 1)
-  unfolding value meridianArc arcWith sineOf horner hornerFrom
+  unfolding value meridianArc arcWith sineOf
   arc-among = proved (also (E .axis) (also (E .flat) (also latitude-among none))) (meridianArcF (var 0) (var 1) (var 2)) (most 910000 1) arc-test
 
 -- ---- a false easting or northing: within 2,000,000 m
@@ -139,8 +132,8 @@ offset-finite : T (finite (round binary64 false 2000000000 1))
 unfolding round
 offset-finite = tt
 
-offset-test : T (test (bounds (wholes 0 2000000000 ∷ []) (over (var 0) (n 1000))) (most 2000000 1))
-unfolding test bounds near
+offset-test : T (tested (wholes 0 2000000000 ∷ []) (over (var 0) (n 1000)) (most 2000000 1))
+unfolding tested
 offset-test = tt
 
 pub metres-among : (z : ℤ) → Upto 2000000000 z → Among (metres z) (most 2000000 1)

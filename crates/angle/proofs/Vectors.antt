@@ -6,9 +6,9 @@ use lib.IntN.{ℤ, pos, negsuc}
 use lib.Ieee.{Float, binary64, add, sub, mul, div, neg, round, ofInt, ofBits}
 use Rattle.refusal.specs.Numbers.{range, geodetic}
 use Rattle.refusal.specs.Numbers as numbers
-use Rattle.angle.specs.Floats.{near, k, radians, metres}
+use Rattle.angle.specs.Units.{k, radians, metres}
 use Rattle.ranges.specs.Ranges.{within}
-use Rattle.angle.specs.Series.{reciprocal, hornerFrom, horner, sineOf, cosineOf}
+use Rattle.elementary.specs.Series.{sineOf, cosineOf}
 use Rattle.angle.specs.Ellipsoids.{table, shape, figureOf, ellipsoidOf, primeVertical, arcWith, meridianArc}
 use Rattle.angle.specs.Cartesian.{cartesianAt, cartesianOf}
 use Rattle.angle.specs.Cassini.{originMade, cassiniWith, cassiniAt, cassiniOf}
@@ -52,7 +52,7 @@ answers [] = []
 answers (p ∷ ps) = p .answer ∷ answers ps
 
 all-positions : found positions ≡ answers positions
-unfolding cartesianOf cartesianAt within radians k near reciprocal hornerFrom horner sineOf cosineOf table shape figureOf ellipsoidOf primeVertical add sub mul div neg round ofInt ofBits
+unfolding cartesianOf cartesianAt within radians k sineOf cosineOf table shape figureOf ellipsoidOf primeVertical add sub mul div neg round ofInt ofBits
 all-positions = refl
 
 -- ---- origin, latitude, longitude, and the answer. First document 000's two examples (Kedah and Perlis), then an origin itself; at the end exactly 4 degrees and
@@ -89,5 +89,5 @@ laid-points [] = []
 laid-points (p ∷ ps) = p .laid ∷ laid-points ps
 
 all-points : found-points points ≡ laid-points points
-unfolding cassiniOf cassiniAt cassiniWith originMade within radians metres k near reciprocal hornerFrom horner sineOf cosineOf table shape figureOf ellipsoidOf primeVertical arcWith meridianArc add sub mul div neg round ofInt ofBits
+unfolding cassiniOf cassiniAt cassiniWith originMade within radians metres k sineOf cosineOf table shape figureOf ellipsoidOf primeVertical arcWith meridianArc add sub mul div neg round ofInt ofBits
 all-points = refl

@@ -6,9 +6,10 @@ use Rattle.rounding.specs.Decimals.{roundedOf}
 use Rattle.rounding.specs.declared.decimals.Rounded.{Rounded}
 use Rattle.rounding.specs.declared.decimals.Rounded.the-variants.{Whole}
 use Rattle.rounding.specs.declared.decimals.Rounded.the-variants as rounded
-use Rattle.angle.specs.Floats.{_⊗_, _⊘_, _⊕_, _⊖_, near, #, whole, radians}
+use Rattle.elementary.specs.Floats.{_⊗_, _⊘_, _⊕_, _⊖_, #, whole}
+use Rattle.angle.specs.Units.{radians}
 use Rattle.angle.specs.Ranges.{cartesianTests}
-use Rattle.angle.specs.Series.{sineOf, cosineOf}
+use Rattle.elementary.specs.Series.{sineOf, cosineOf}
 use Rattle.angle.specs.Ellipsoids.{ellipsoidOf, primeVertical}
 use Rattle.angle.specs.declared.Ellipsoid.{Ellipsoid}
 use Rattle.angle.specs.declared.Cartesian.{Cartesian}
@@ -18,7 +19,6 @@ use Rattle.angle.specs.declared.CartesianUnits.the-variants as units
 
 -- The longitude goes in as w, its part past 90 degrees, the difference in whole numbers: cos L = -sin w, sin L = cos w.
 unfoldable pub cartesianAt : Ellipsoid → ℤ → ℤ → ℤ → Cartesian
-unfolding near
 cartesianAt e latitude longitude height =
     let φ = radians latitude in
     let w = radians (longitude -ℤ pos 32400000000) in

@@ -6,9 +6,10 @@ use Rattle.rounding.specs.Decimals.{roundedOf}
 use Rattle.rounding.specs.declared.decimals.Rounded.{Rounded}
 use Rattle.rounding.specs.declared.decimals.Rounded.the-variants.{Whole}
 use Rattle.rounding.specs.declared.decimals.Rounded.the-variants as rounded
-use Rattle.angle.specs.Floats.{_⊗_, _⊘_, _⊕_, _⊖_, near, #, radians, metres}
+use Rattle.elementary.specs.Floats.{_⊗_, _⊘_, _⊕_, _⊖_, #}
+use Rattle.angle.specs.Units.{radians, metres}
 use Rattle.angle.specs.Ranges.{originFault, pointTests, cassiniTests}
-use Rattle.angle.specs.Series.{sineOf, cosineOf}
+use Rattle.elementary.specs.Series.{sineOf, cosineOf}
 use Rattle.angle.specs.Ellipsoids.{ellipsoidOf, primeVertical, meridianArc}
 use Rattle.angle.specs.declared.OriginNumbers.{OriginNumbers}
 use Rattle.angle.specs.declared.Origin.{Origin}
@@ -40,7 +41,6 @@ originOf o = unless (originFault o) made.Refused (made.Made (originMade o))
 -- of the point's latitude φ: its sine and cosine, ν and M; and the difference of the longitudes in radians.
 -- FN + ((M - M0) + ..): from the left the origin would miss FN by a rounding.
 unfoldable pub cassiniWith : Origin → Float → Float → Float → Float → Float → Projected
-unfolding near
 cassiniWith o sinφ cosφ ν M difference =
     let FE = o .«false_easting» in
     let FN = o .«false_northing» in

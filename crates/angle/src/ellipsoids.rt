@@ -3,7 +3,7 @@ ghost use mathlib.Core.Path.{_≡_};
 ghost use Rattle.angle.specs.Ellipsoids.{figureOf, ellipsoidOf, primeVertical, arcWith, meridianArc};
 use crate::Ellipsoid;
 use crate::Figure;
-use crate::series::sine;
+use elementary::sine;
 
 // Codes 1 to 4: GRS80, WGS84, Everest 1830 Modified, Everest 1967.
 const ELLIPSOIDS: [Figure; 4] = [

@@ -9,9 +9,9 @@ use crate::Ellipsoid;
 use crate::ellipsoids::ellipsoid;
 use crate::ellipsoids::prime_vertical;
 use crate::faults::angles_fault;
-use crate::series::cosine;
-use crate::series::radians;
-use crate::series::sine;
+use crate::units::radians;
+use elementary::cosine;
+use elementary::sine;
 use rounding::Rounded;
 use rounding::round_places;
 

@@ -4,7 +4,7 @@ mod ellipsoids;
 mod faults;
 mod geodetic;
 mod projection;
-mod series;
+mod units;
 
 pub use faults::angles_fault;
 pub use faults::origin_fault;

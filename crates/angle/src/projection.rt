@@ -3,7 +3,7 @@ ghost use mathlib.Core.Path.{_≡_};
 ghost use mathlib.Core.Bool.{true};
 ghost use Rattle.ranges.specs.Ranges.{latitudeRange, offsetRange};
 ghost use Rattle.angle.specs.Ranges.{nearby, originFault};
-ghost use Rattle.angle.specs.Floats.{metres as Floats·metres};
+ghost use Rattle.angle.specs.Units.{metres as Units·metres};
 ghost use Rattle.angle.specs.Cassini.{originMade, originOf, cassiniWith, cassiniAt, cassiniFromOf, cassiniOf, two, inMillimetres, cassiniMillimetresFromOf, cassiniMillimetresOf};
 use crate::Origin;
 use crate::OriginAnswer;
@@ -15,9 +15,9 @@ use crate::ellipsoids::meridian_arc;
 use crate::ellipsoids::prime_vertical;
 use crate::faults::angles_fault;
 use crate::faults::origin_fault;
-use crate::series::cosine;
-use crate::series::radians;
-use crate::series::sine;
+use crate::units::radians;
+use elementary::cosine;
+use elementary::sine;
 use rounding::Rounded;
 use rounding::round_places;
 
@@ -27,7 +27,7 @@ const APART: i64 = 1440000000;
 // Millimetres in metres, for a number in its range.
 fn metres(n: i64) -> f64
     requires { ⌜ offsetRange n ≡ true ⌝ }
-    ensures { λ r. ⌜ r ≡ Floats·metres n ⌝ }
+    ensures { λ r. ⌜ r ≡ Units·metres n ⌝ }
 {
     n as f64 / 1000.0
 }

@@ -5,7 +5,7 @@ use Prim.Native.Nat.{ℕ}
 use lib.Ieee.{Float, binary64, ofBits, round}
 use mir.Syntax.{w64}
 use mir.ValLaws.{toZ-ofZ}
-use Rattle.angle.specs.Floats.{_⊗_, _⊘_, _⊖_, near}
+use Rattle.elementary.specs.Floats.{_⊗_, _⊘_, _⊖_}
 use Rattle.angle.specs.Ellipsoids.{shape, figureOf, ellipsoidOf}
 use Rattle.angle.specs.declared.Ellipsoid.{Ellipsoid}
 use Rattle.angle.specs.declared.Figure.{Figure}
@@ -22,7 +22,7 @@ made r =
     record { a = r .a; e2 = f ⊗ (f64 0x4000_0000_0000_0000 ⊖ f) }
 
 made-is : (r : Figure) → made r ≡ shape r
-unfolding made shape near round ofBits
+unfolding made shape round ofBits
 made-is r = refl
 
 figure-requires : tie.Need-figure-requires

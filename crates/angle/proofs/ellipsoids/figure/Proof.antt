@@ -13,7 +13,7 @@ use lib.Ieee.{Float, binary64, nan, ofBits, round}
 use mir.Syntax.{w64}
 use mir.Val.{SFits, toZ, ofZ}
 use mir.ValLaws.{toZ-ofZ}
-use Rattle.angle.specs.Floats.{near, #}
+use Rattle.elementary.specs.Floats.{#}
 use Rattle.ranges.specs.Ranges.{ellipsoidRange}
 use Rattle.angle.specs.Ellipsoids.{table, row, figureOf}
 use Rattle.angle.specs.declared.Figure.{Figure}
@@ -36,7 +36,7 @@ patterns =
     ∷ []
 
 rows : patterns ≡ table
-unfolding patterns table near round ofBits
+unfolding patterns table round ofBits
 rows = refl
 
 -- inside the table, what stands past its end is not read
@@ -65,7 +65,7 @@ is-row (suc n) h k =
 
 -- ---- any other
 zeros : row (f64 0) (f64 0) ≡ row (# 0) (# 0)
-unfolding near round ofBits
+unfolding round ofBits
 zeros = refl
 
 -- a number from 1 to 4 is a code

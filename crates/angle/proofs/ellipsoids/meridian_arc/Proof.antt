@@ -1,7 +1,6 @@
 -- `angle::ellipsoids::meridian_arc` meets its contract: the three sines, and the formula over them. Assumes nothing.
 use borrow.Author.Needs.{needs}
 use lib.Ieee.{ofBits, round}
-use Rattle.angle.specs.Floats.{near}
 use Rattle.angle.specs.Ellipsoids.{meridianArc}
 use Rattle.angle.proofs.ellipsoids.meridian_arc.Statement.{statement}
 use Rattle.angle.proofs.ellipsoids.meridian_arc.Tie as tie
@@ -19,7 +18,7 @@ arc-with-requires : tie.Need-arc-with-requires
 arc-with-requires c κs = search needs
 
 returns : tie.Need-returns
-unfolding meridianArc near round ofBits
+unfolding meridianArc round ofBits
 returns c = cc
 
 pub meridian-arc-spec : {M : Type 1} → statement M

@@ -10,7 +10,7 @@ use mir.Syntax.{w64}
 use mir.Val.{SFits, toZ, ofZ}
 use mir.ValLaws.{toZ-ofZ}
 use Rattle.bounds.proofs.Zero.{Upto}
-use Rattle.angle.specs.Floats.{near, radians}
+use Rattle.angle.specs.Units.{radians}
 use Rattle.angle.specs.Cartesian.{cartesianAt}
 use Rattle.angle.proofs.Tests.{read-back}
 use Rattle.ranges.proofs.Ranges.{Natural, natural}
@@ -83,7 +83,7 @@ prime-vertical-requires : tie.Need-prime-vertical-requires
 prime-vertical-requires c κs = search needs
 
 returns : tie.Need-returns
-unfolding cartesianAt radians near round ofBits
+unfolding cartesianAt radians round ofBits
 returns c =
     let a = c .before .before .before .before .before .before .before .before .before .before .before in
     let lat : toZ w64 (ofZ w64 (a .args .latitude)) ≡ a .args .latitude = toZ-ofZ w64 (a .args .latitude) (a .fits .latitude) in

@@ -4,7 +4,7 @@ use borrow.Author.Tests.{not-false}
 use mir.Syntax.{w64}
 use mir.Val.{SFits}
 use mir.ValLaws.{toZ-ofZ}
-use Rattle.angle.specs.Floats.{radians}
+use Rattle.angle.specs.Units.{radians}
 use Rattle.angle.specs.Ranges.{originTests, originFault}
 use Rattle.angle.specs.Cassini.{originMade}
 use Rattle.refusal.proofs.Orders.{Passed, passed}

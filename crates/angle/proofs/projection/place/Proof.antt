@@ -8,7 +8,7 @@ use mir.Syntax.{w64}
 use mir.Val.{SFits, toZ, ofZ}
 use mir.ValLaws.{toZ-ofZ}
 use Rattle.bounds.proofs.Zero.{Upto}
-use Rattle.angle.specs.Floats.{radians}
+use Rattle.angle.specs.Units.{radians}
 use Rattle.angle.specs.Cassini.{cassiniAt}
 use Rattle.angle.proofs.Tests.{read-back}
 use Rattle.ranges.proofs.Ranges.{natural}

@@ -1,12 +1,12 @@
--- `angle::series::cosine` meets its contract: the table's patterns are the coefficients, which antt computes. Assumes nothing.
+-- `elementary::series::cosine` meets its contract: the table's patterns are the coefficients, which antt computes. Assumes nothing.
 use borrow.Author.Needs.{needs}
 use mathlib.Core.Path.{_≡_, refl, ap, _∙_}
 use mathlib.Core.List.{List, [], _∷_}
 use lib.Ieee.{Float, binary64, div, neg, round, ofBits}
-use Rattle.angle.specs.Floats.{_⊗_, near}
-use Rattle.angle.specs.Series.{reciprocal, cosineTable, horner, cosineOf}
-use Rattle.angle.proofs.series.cosine.Statement.{statement}
-use Rattle.angle.proofs.series.cosine.Tie as tie
+use Rattle.elementary.specs.Floats.{_⊗_}
+use Rattle.elementary.specs.Series.{cosineTable, horner, cosineOf}
+use Rattle.elementary.proofs.series.cosine.Statement.{statement}
+use Rattle.elementary.proofs.series.cosine.Tie as tie
 
 patterns : List Float
 patterns =
@@ -22,7 +22,7 @@ patterns =
     ∷ []
 
 table : patterns ≡ cosineTable
-unfolding patterns reciprocal near neg div round ofBits
+unfolding patterns neg div round ofBits
 table = refl
 
 slice-aggregate-polynomial : tie.Need-slice-aggregate-polynomial

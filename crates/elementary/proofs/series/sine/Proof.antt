@@ -1,12 +1,12 @@
--- `angle::series::sine` meets its contract: the table's patterns are the coefficients, which antt computes. Assumes nothing.
+-- `elementary::series::sine` meets its contract: the table's patterns are the coefficients, which antt computes. Assumes nothing.
 use borrow.Author.Needs.{needs}
 use mathlib.Core.Path.{_≡_, refl, ap, _∙_}
 use mathlib.Core.List.{List, [], _∷_}
 use lib.Ieee.{Float, binary64, div, neg, round, ofBits}
-use Rattle.angle.specs.Floats.{_⊗_, near}
-use Rattle.angle.specs.Series.{reciprocal, sineTable, horner, sineOf}
-use Rattle.angle.proofs.series.sine.Statement.{statement}
-use Rattle.angle.proofs.series.sine.Tie as tie
+use Rattle.elementary.specs.Floats.{_⊗_}
+use Rattle.elementary.specs.Series.{sineTable, horner, sineOf}
+use Rattle.elementary.proofs.series.sine.Statement.{statement}
+use Rattle.elementary.proofs.series.sine.Tie as tie
 
 patterns : List Float
 patterns =
@@ -21,7 +21,7 @@ patterns =
     ∷ []
 
 table : patterns ≡ sineTable
-unfolding patterns reciprocal near neg div round ofBits
+unfolding patterns neg div round ofBits
 table = refl
 
 slice-aggregate-polynomial : tie.Need-slice-aggregate-polynomial

@@ -2,15 +2,14 @@
 use Prim.Native.Nat.{ℕ, zero, suc, _*_}
 use mathlib.Core.List.{List, [], _∷_}
 use lib.Ieee.{Float, neg}
-use Rattle.angle.specs.Floats.{_⊗_, _⊘_, _⊕_, near, #}
+use Rattle.elementary.specs.Floats.{_⊗_, _⊘_, _⊕_, #}
 
 abbrev pub factorial : ℕ → ℕ
 factorial zero = 1
 factorial (suc n) = suc n * factorial n
 
 -- 1.0 divided by n!
-unfoldable pub reciprocal : ℕ → Float
-unfolding near
+abbrev pub reciprocal : ℕ → Float
 reciprocal n = # 1 ⊘ # (factorial n)
 
 -- 1/15!, 1/13!, .. 1/1!, the signs alternating so that the last is +1
@@ -41,20 +40,17 @@ cosineTable =
     ∷ []
 
 -- from the left, what is there times y, plus the next coefficient
-unfoldable pub hornerFrom : Float → Float → List Float → Float
+abbrev pub hornerFrom : Float → Float → List Float → Float
 hornerFrom y s [] = s
 hornerFrom y s (c ∷ cs) = hornerFrom y (s ⊗ y ⊕ c) cs
 
 -- a table's first coefficient starts it
-unfoldable pub horner : Float → List Float → Float
-unfolding near hornerFrom
+abbrev pub horner : Float → List Float → Float
 horner y [] = # 0
 horner y (c ∷ cs) = hornerFrom y c cs
 
 unfoldable pub sineOf : Float → Float
-unfolding reciprocal horner
 sineOf x = horner (x ⊗ x) sineTable ⊗ x
 
 unfoldable pub cosineOf : Float → Float
-unfolding reciprocal horner
 cosineOf x = horner (x ⊗ x) cosineTable

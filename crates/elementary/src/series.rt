@@ -2,8 +2,7 @@
 ghost use mathlib.Core.Path.{_≡_};
 ghost use Prim.Native.Nat.{_<_};
 ghost use lib.ListN.{length};
-ghost use Rattle.angle.specs.Floats.{_⊗_, k};
-ghost use Rattle.angle.specs.Series.{horner, sineOf, cosineOf};
+ghost use Rattle.elementary.specs.Series.{horner, sineOf, cosineOf};
 
 // 1/15!, 1/13!, .. 1/1!, the signs alternating so that the last is +1.
 const SINE: [f64; 8] = [
@@ -29,13 +28,6 @@ const COSINE: [f64; 9] = [
     -(1.0 / 2.0),
     1.0 / 1.0,
 ];
-
-// Units of 0.00001" in radians.
-pub fn radians(n: f64) -> f64
-    ensures { λ r. ⌜ r ≡ n ⊗ k ⌝ }
-{
-    n * 4.84813681109536e-11
-}
 
 // From the first coefficient on: times y, plus the next.
 fn polynomial(t: &[f64], y: f64) -> f64

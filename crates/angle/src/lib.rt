@@ -6,6 +6,7 @@ mod geodetic;
 mod projection;
 mod units;
 
+pub use ellipsoids::ellipsoid as ellipsoid_of;
 pub use faults::angles_fault;
 pub use faults::origin_fault;
 pub use geodetic::cartesian_metres;
@@ -15,6 +16,7 @@ pub use projection::cassini_from;
 pub use projection::cassini_millimetres;
 pub use projection::cassini_millimetres_from;
 pub use projection::make_origin;
+pub use units::radians;
 
 // An ellipsoid: the semi-major axis in metres, and the first eccentricity squared.
 pub struct Ellipsoid {

@@ -5,9 +5,10 @@ use Prim.Native.Nat.{ℕ}
 use lib.Dec.{T}
 use lib.Ieee.{Float}
 use Rattle.bounds.proofs.Among.{Ends, Among}
-use Rattle.bounds.proofs.Formula.{Formula, var, lit, plus, times, square, bind, none, also, value, tested, proved}
-use Rattle.elementary.specs.Floats.{#}
+use Rattle.bounds.proofs.Formula.{Formula, var, lit, opp, plus, minus, times, over, square, bind, call, none, also, value, tested, proved}
+use Rattle.elementary.specs.Floats.{near, #}
 use Rattle.elementary.specs.Series.{sineTable, cosineTable, sineOf, cosineOf}
+use Rattle.elementary.specs.Arctan.{arctanTable}
 
 abbrev pub n : ℕ → Formula
 n i = lit (# i)
@@ -32,6 +33,38 @@ sineF = oddF (square (var 0)) sineTable
 
 abbrev pub cosineF : Formula
 cosineF = evenF (square (var 0)) cosineTable
+
+abbrev pub arctanSmallF : Formula
+arctanSmallF = oddF (square (var 0)) arctanTable
+
+abbrev pub sinhF : Formula
+sinhF = oddF (opp (square (var 0))) sineTable
+
+abbrev pub coshF : Formula
+coshF = evenF (opp (square (var 0))) cosineTable
+
+abbrev pub artanhSmallF : Formula
+artanhSmallF = oddF (opp (square (var 0))) arctanTable
+
+-- a step of the root from r
+abbrev stepF : Formula → Formula
+stepF r = times (lit (near 1 2)) (plus r (over (var 0) r))
+
+abbrev pub rootF : Formula
+rootF = bind (times (lit (near 1 2)) (plus (n 1) (var 0))) (bind (stepF (var 1)) (bind (stepF (var 2)) (stepF (var 3))))
+
+-- twice a function of x / (1 + √d)
+abbrev halfF : Formula → Formula → Formula
+halfF d f = times (n 2) (call f (over (var 0) (plus (n 1) (call rootF d))))
+
+abbrev pub arctangentF : Formula
+arctangentF = halfF (plus (n 1) (square (var 0))) arctanSmallF
+
+abbrev pub artanhF : Formula
+artanhF = halfF (minus (n 1) (square (var 0))) artanhSmallF
+
+abbrev pub arcsineF : Formula
+arcsineF = halfF (minus (n 1) (square (var 0))) arctanSmallF
 
 -- ---- bounds: `value` of each is its function
 pub sine-among : (I J : Ends) {x : Float} → T (tested (I ∷ []) sineF J) → Among x I → Among (sineOf x) J

@@ -1,0 +1,19 @@
+-- `elementary::arctan::arctangent` meets its contract: the formula is the written one. Assumes nothing.
+use borrow.Author.Needs.{needs}
+use lib.Ieee.{ofBits, round}
+use Rattle.elementary.specs.Arctan.{arctangentOf}
+use Rattle.elementary.proofs.arctan.arctangent.Statement.{statement}
+use Rattle.elementary.proofs.arctan.arctangent.Tie as tie
+
+root-requires : tie.Need-root-requires
+root-requires c κs = search needs
+
+arctan-small-requires : tie.Need-arctan-small-requires
+arctan-small-requires c κs = search needs
+
+returns : tie.Need-returns
+unfolding arctangentOf round ofBits
+returns c = rw (c .arctan-small .ensures, c .before .root .ensures)
+
+pub arctangent-spec : {M : Type 1} → statement M
+arctangent-spec = tie.close (tie.spec root-requires arctan-small-requires returns)

@@ -1,0 +1,4 @@
+pub mod Parameters
+pub mod Projection
+pub mod Forward
+pub mod Reverse

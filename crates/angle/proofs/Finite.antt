@@ -3,24 +3,19 @@
 use mathlib.Core.Path.{_≡_, refl, sym, ap, _∙_, subst}
 use mathlib.Core.List.{List, [], _∷_}
 use mathlib.Core.Bool.{false}
-use Prim.Native.Nat.{ℕ, zero, suc, _+_, _-_, _*_, _≤_, _<_}
-use native.Mathlib.Nat.{mul-le-mul-right}
+use Prim.Native.Nat.{ℕ, zero, suc, _-_, _≤_, _<_}
 use native.Mathlib.Omega.{arith}
-use borrow.Author.Tests.{lt-leb, not-false}
+use borrow.Author.Tests.{not-false}
 use lib.Dec.{T, lit≤, lit<}
 use lib.IntN.{ℤ, pos, _-ℤ_}
-use lib.Ieee.{Float, nan, inf, fin, binary64, round, neg, sub, div, up, down}
-use lib.Ieee.Fits.{down-pos}
+use lib.Ieee.{Float, binary64, round, neg, sub, div}
 use lib.Ieee.Scale.{finite}
-use lib.Ieee.Positive.{num, den}
 use Rattle.refusal.specs.Order.{first, unless}
-use Rattle.rounding.specs.Decimals.{tooLarge, wholeOf, roundedOf}
-use Rattle.rounding.specs.declared.decimals.Rounded.the-variants.{Whole}
-use Rattle.rounding.proofs.Places.{few}
-use Rattle.bounds.proofs.Among.{Ends, Among, is-finite, neg-among, untold}
+use Rattle.rounding.specs.Decimals.{wholeOf}
+use Rattle.bounds.proofs.Among.{Ends, Among, neg-among}
 use Rattle.bounds.proofs.Formula.{var, lit, plus, minus, times, over, All, none, also, value, tested, proved}
 use Rattle.bounds.proofs.Zero.{wholes, Upto}
-use Rattle.elementary.specs.Floats.{near, #, whole}
+use Rattle.elementary.specs.Floats.{#, whole}
 use Rattle.angle.specs.Units.{k, radians, metres}
 use Rattle.angle.specs.Ranges.{cartesianTests, originTests, pointTests, cassiniTests}
 use Rattle.elementary.specs.Series.{sineOf, cosineOf}
@@ -38,8 +33,9 @@ use Rattle.angle.specs.declared.ProjectedMillimetres.the-variants.{Milli
 use Rattle.refusal.proofs.Orders.{Passed, passed}
 use Rattle.elementary.proofs.Formulas.{sineF, cosineF, sine-among, cosine-among}
 use Rattle.angle.proofs.Formulas.{eastF, northF, axisF, polarF}
-use Rattle.angle.proofs.Sizes.{from, most, Shaped, shaped, radians-among, parts-among, sine-latitude, cosine-latitude, radius-among, arc-among, metres-among}
+use Rattle.angle.proofs.Sizes.{from, most, eccentricity, Shaped, shaped, radians-among, parts-among, sine-latitude, cosine-latitude, radius-among, arc-among, metres-among}
 use Rattle.ranges.proofs.Ranges.{natural}
+use Rattle.angle.proofs.Answered.{Bound, whole-answer}
 use Rattle.angle.proofs.Wholes.{natural-upto, upto, sub-pos}
 
 -- what is not refused passed every test
@@ -79,7 +75,7 @@ height-test = tt
 
 -- e2, the radius, the height, the latitude's sine and cosine, the longitude's cosine and sine
 abbrev space : List Ends
-space = from 1 256 1 128 ∷ most 6379000 1 ∷ most 9000 1 ∷ most 3 20 ∷ from 98 100 102 100 ∷ most 56 100 ∷ most 115 100 ∷ []
+space = eccentricity ∷ most 6379000 1 ∷ most 9000 1 ∷ most 3 20 ∷ from 98 100 102 100 ∷ most 56 100 ∷ most 115 100 ∷ []
 
 x-test : T (tested space (axisF (var 5)) (most 3700000 1))
 unfolding tested
@@ -119,7 +115,7 @@ module _ (code lat lon h : ℤ) (p : Passed (cartesianTests code lat lon h)) whe
 
   all : All (e .e2 ∷ primeVertical e (sineOf (radians lat)) ∷ div binary64 (whole h) (# 100000) ∷ sineOf (radians lat) ∷ cosineOf (radians lat) ∷ neg (sineOf w) ∷ cosineOf w ∷ []) space
   all =
-      also (E .flat)
+      also (E .squared)
       (also (radius-among e lat E latitude)
       (also height
       (also (sine-latitude e lat E latitude)
@@ -155,7 +151,7 @@ arcs-test = tt
 
 -- e2, the latitude's sine and cosine, the radius, the difference of longitudes, that of the arcs, and the false easting or northing
 abbrev plane : List Ends
-plane = from 1 256 1 128 ∷ most 3 20 ∷ from 98 100 102 100 ∷ most 6379000 1 ∷ most 7 100 ∷ most 1820000 1 ∷ most 2000000 1 ∷ []
+plane = eccentricity ∷ most 3 20 ∷ from 98 100 102 100 ∷ most 6379000 1 ∷ most 7 100 ∷ most 1820000 1 ∷ most 2000000 1 ∷ []
 
 east-test : T (tested plane (plus (var 6) eastF) (most 2500000 1))
 unfolding tested
@@ -193,7 +189,7 @@ module _ (o : OriginNumbers) (lat lon : ℤ) (p : Passed (originTests o)) (q : P
   -- with a false easting or northing
   laid : (z : ℤ) → Upto 2000000000 z → All (g .e2 ∷ sineOf φ ∷ cosineOf φ ∷ primeVertical g (sineOf φ) ∷ radians (lon -ℤ o .longitude) ∷ arcs ∷ metres z ∷ []) plane
   laid z h =
-      also (G .flat)
+      also (G .squared)
       (also (sine-latitude g lat G latitude′)
       (also (cosine-latitude g lat G latitude′)
       (also (radius-among g lat G latitude′) (also difference (also arcs-among (also (metres-among z h) none))))))
@@ -213,28 +209,7 @@ projected-bounded o lat lon =
     let p : Passed (cassiniTests o lat lon) = passed (cassiniTests o lat lon) tt z in
     place-bounded o lat lon (p .0, (p .1 .0, (p .1 .1 .0, (p .1 .1 .1 .0, (p .1 .1 .1 .1 .0, tt))))) (p .1 .1 .1 .1 .1))
 
--- ---- no rounding refuses: the bounds are below 10,000,000
--- y is the whole number b, as a computed fact
-not-large : (b : ℕ) (x y : Float) → num y ≡ b → den y ≡ 1 → b < 10000000 → Among x (record { lo = near 0 1; hi = y; side = untold }) → tooLarge x ≡ false
-unfolding tooLarge
-not-large b nan y N D l h = absurd (is-finite h)
-not-large b (inf s) y N D l h = absurd (is-finite h)
-not-large b (fin s m e) y N D l h =
-    let c : m * up e * 1 ≤ b * down e = subst (λ (i : ℕ). m * up e * i ≤ b * down e) D (subst (λ (i : ℕ). m * up e * den y ≤ i * down e) N (h .most .cross)) in
-    lt-leb (10000000 * down e) (m * up e) (below (m * up e) b (down e) (down-pos e) l c)
-  where
-    below : (v b d : ℕ) → 0 < d → b < 10000000 → v * 1 ≤ b * d → v < 10000000 * d
-    below v b d D l c = let k : (b + 1) * d ≤ 10000000 * d = mul-le-mul-right d (omega arith) in omega arith
-
--- each bound's computed facts
-record Bound (b : ℕ) : Type 0 where
-  is : num (# b) ≡ b
-  unit : den (# b) ≡ 1
-  low : b < 10000000
-
-whole-answer : {b : ℕ} (x : Float) (p : ℕ) → Bound b → p ≤ 5 → Among x (most b 1) → roundedOf x p ≡ Whole (wholeOf x p)
-whole-answer {b} x p B h k = few x p h (not-large b x (# b) (B .is) (B .unit) (B .low) k)
-
+-- ---- no rounding refuses
 bound-x : Bound 3700000
 unfolding round
 bound-x = record { is = refl; unit = refl; low = lit< tt }
@@ -261,11 +236,11 @@ unfolding cartesianUnitsOf inUnits
 units-answered code lat lon h x y z e =
     let b : CartesianBounded (cartesian.Metres x y z) = subst CartesianBounded e (cartesian-bounded code lat lon h) in
     ap inUnits e
-    ∙ rw (whole-answer x 5 bound-x (lit≤ tt) (b .0), whole-answer y 5 bound-y (lit≤ tt) (b .1), whole-answer z 5 bound-z (lit≤ tt) (b .2))
+    ∙ rw (whole-answer x 5 bound-x (lit≤ tt) (b .0 .most), whole-answer y 5 bound-y (lit≤ tt) (b .1 .most), whole-answer z 5 bound-z (lit≤ tt) (b .2 .most))
 
 pub millimetres-answered : (o : OriginNumbers) (lat lon : ℤ) (x y : Float)
     → cassiniOf o lat lon ≡ projected.Metres x y → cassiniMillimetresOf o lat lon ≡ Millimetres (wholeOf x 3) (wholeOf y 3)
 unfolding cassiniMillimetresOf inMillimetres
 millimetres-answered o lat lon x y e =
     let b : ProjectedBounded (projected.Metres x y) = subst ProjectedBounded e (projected-bounded o lat lon) in
-    ap inMillimetres e ∙ rw (whole-answer x 3 bound-e (lit≤ tt) (b .0), whole-answer y 3 bound-n (lit≤ tt) (b .1))
+    ap inMillimetres e ∙ rw (whole-answer x 3 bound-e (lit≤ tt) (b .0 .most), whole-answer y 3 bound-n (lit≤ tt) (b .1 .most))

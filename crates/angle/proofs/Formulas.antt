@@ -3,11 +3,15 @@ use Rattle.bounds.proofs.Formula.{Formula, var, lit, plus, minus, times, over, 
 use Rattle.elementary.specs.Floats.{near}
 use Rattle.elementary.proofs.Formulas.{n, sineF}
 
+-- ---- of q: the prime vertical radius over a
+abbrev pub radiusSeries : Formula → Formula
+radiusSeries q = plus (n 1) (times q (plus (lit (near 1 2)) (times q (plus (lit (near 3 8)) (times q (plus (lit (near 5 16)) (times q (lit (near 35 128)))))))))
+
 -- ---- of a, e2 and the sine of the latitude: the prime vertical radius
 abbrev pub primeVerticalF : Formula → Formula → Formula → Formula
 primeVerticalF a e2 s =
     let q = times e2 (times s s) in
-    times a (plus (n 1) (times q (plus (lit (near 1 2)) (times q (plus (lit (near 3 8)) (times q (plus (lit (near 5 16)) (times q (lit (near 35 128))))))))))
+    times a (radiusSeries q)
 
 -- ---- of a, e2 and the latitude: the meridian's length
 abbrev pub meridianArcF : Formula → Formula → Formula → Formula

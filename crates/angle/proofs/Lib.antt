@@ -1,6 +1,10 @@
+pub mod Answered
 pub mod AtOrigin
 pub mod Finite
 pub mod Formulas
+pub mod GeodeticFinite
+pub mod GeodeticFormulas
+pub mod GeodeticVectors
 pub mod Made
 pub mod Outcomes
 pub mod Sizes

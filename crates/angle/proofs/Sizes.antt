@@ -1,4 +1,4 @@
--- How large each quantity can be, for numbers in their ranges: every bound is one computed test (`proved`, by `tt`). The intervals are of sizes, signs left aside.
+-- How large each quantity can be, for numbers in their ranges: every bound is one computed test (`proved`, by `tt`). Signs are told for the ellipsoids alone.
 -- Assumes nothing.
 use mathlib.Core.Path.{_≡_, sym, subst}
 use mathlib.Core.Bool.{true, false}
@@ -7,9 +7,9 @@ use Prim.Native.Nat.{ℕ, zero, suc, _≤_, _<_}
 use native.Mathlib.Omega.{arith}
 use lib.Dec.{T}
 use lib.IntN.{ℤ, pos}
-use lib.Ieee.{binary64, round, neg, div, mul, sub}
+use lib.Ieee.{Float, binary64, round, neg, div, mul, sub}
 use lib.Ieee.Scale.{finite}
-use Rattle.bounds.proofs.Among.{Ends, Among, untold, point, closed, within}
+use Rattle.bounds.proofs.Among.{Ends, Among, untold, told, point, closed, within}
 use Rattle.bounds.proofs.Formula.{var, lit, times, over, none, also, value, tested, proved}
 use Rattle.bounds.proofs.Zero.{wholes, Upto, ofInt-among}
 use Rattle.elementary.specs.Floats.{near, #, whole}
@@ -30,29 +30,51 @@ from a b c d = record { lo = near a b; hi = near c d; side = untold }
 abbrev pub most : ℕ → ℕ → Ends
 most c d = from 0 1 c d
 
-past : (i : ℕ) → suc (suc (suc (suc i))) < 4 → ⊥
-past i h = omega arith
+-- from a / b to c / d, not negative
+abbrev pub above : ℕ → ℕ → ℕ → ℕ → Ends
+above a b c d = record { lo = near a b; hi = near c d; side = told false }
 
--- ---- the ellipsoids: a is at most 6,378,137 m, and e2 from 1/256 to 1/128
+-- ---- the ellipsoids
+abbrev pub axis : Ends
+axis = above 6377298 1 6378137 1
+
+abbrev pub flattening : Ends
+flattening = above 1 301 1 298
+
+abbrev pub eccentricity : Ends
+eccentricity = above 1 151 1 149
+
 pub record Shaped (e : Ellipsoid) : Type 0 where
-  pub axis : Among (e .a) (most 6378137 1)
-  pub flat : Among (e .e2) (from 1 256 1 128)
+  pub long : Among (e .a) axis
+  pub flat : Among (e .f) flattening
+  pub squared : Among (e .e2) eccentricity
 
-axis-test : (i : ℕ) → i < 4 → T (within (point (ellipsoidOf (pos (suc i)) .a)) (most 6378137 1))
+-- a closed value that lies in J
+abbrev Lies : Float → Ends → Type 0
+Lies x J = T (within (point x) J)
+
+-- each of the four rows
+four : (P : ℕ → Type 0) → P 0 → P 1 → P 2 → P 3 → (i : ℕ) → i < 4 → P i
+four P a b c d zero h = a
+four P a b c d (suc zero) h = b
+four P a b c d (suc (suc zero)) h = c
+four P a b c d (suc (suc (suc zero))) h = d
+four P a b c d (suc (suc (suc (suc i)))) h = absurd (past i h)
+  where
+    past : (i : ℕ) → suc (suc (suc (suc i))) < 4 → ⊥
+    past i h = omega arith
+
+long-test : (i : ℕ) → i < 4 → Lies (ellipsoidOf (pos (suc i)) .a) axis
 unfolding within figureOf ellipsoidOf table shape round
-axis-test zero h = tt
-axis-test (suc zero) h = tt
-axis-test (suc (suc zero)) h = tt
-axis-test (suc (suc (suc zero))) h = tt
-axis-test (suc (suc (suc (suc i)))) h = absurd (past i h)
+long-test = four (λ (i : ℕ). Lies (ellipsoidOf (pos (suc i)) .a) axis) tt tt tt tt
 
-flat-test : (i : ℕ) → i < 4 → T (within (point (ellipsoidOf (pos (suc i)) .e2)) (from 1 256 1 128))
+flat-test : (i : ℕ) → i < 4 → Lies (ellipsoidOf (pos (suc i)) .f) flattening
+unfolding within figureOf ellipsoidOf table shape round div
+flat-test = four (λ (i : ℕ). Lies (ellipsoidOf (pos (suc i)) .f) flattening) tt tt tt tt
+
+squared-test : (i : ℕ) → i < 4 → Lies (ellipsoidOf (pos (suc i)) .e2) eccentricity
 unfolding within figureOf ellipsoidOf table shape round mul div sub
-flat-test zero h = tt
-flat-test (suc zero) h = tt
-flat-test (suc (suc zero)) h = tt
-flat-test (suc (suc (suc zero))) h = tt
-flat-test (suc (suc (suc (suc i)))) h = absurd (past i h)
+squared-test = four (λ (i : ℕ). Lies (ellipsoidOf (pos (suc i)) .e2) eccentricity) tt tt tt tt
 
 pub shaped : (code : ℤ) → ellipsoidRange code ≡ true → Shaped (ellipsoidOf code)
 shaped code h = go (natural 1 code 4 h)
@@ -63,10 +85,9 @@ shaped code h = go (natural 1 code 4 h)
         never : 1 ≤ 0 → ⊥
         never l = omega arith
     row (suc i) l k =
-        record {
-          axis = closed (ellipsoidOf (pos (suc i)) .a) (most 6378137 1) (axis-test i (omega arith));
-          flat = closed (ellipsoidOf (pos (suc i)) .e2) (from 1 256 1 128) (flat-test i (omega arith));
-        }
+        let e = ellipsoidOf (pos (suc i)) in
+        let m : i < 4 = omega arith in
+        record { long = closed (e .a) axis (long-test i m); flat = closed (e .f) flattening (flat-test i m); squared = closed (e .e2) eccentricity (squared-test i m) }
 
     go : Natural 1 code 4 → Shaped (ellipsoidOf code)
     go p = subst (λ (z : ℤ). Shaped (ellipsoidOf z)) (sym (p .is)) (row (p .n) (p .low) (p .high))
@@ -101,11 +122,11 @@ cosine-test : T (tested (most 7 50 ∷ []) cosineF (from 98 100 102 100))
 unfolding tested neg div
 cosine-test = tt
 
-radius-test : T (tested (most 6378137 1 ∷ from 1 256 1 128 ∷ most 3 20 ∷ []) (primeVerticalF (var 0) (var 1) (var 2)) (most 6379000 1))
+radius-test : T (tested (axis ∷ eccentricity ∷ most 3 20 ∷ []) (primeVerticalF (var 0) (var 1) (var 2)) (most 6379000 1))
 unfolding tested
 radius-test = tt
 
-arc-test : T (tested (most 6378137 1 ∷ from 1 256 1 128 ∷ most 7 50 ∷ []) (meridianArcF (var 0) (var 1) (var 2)) (most 910000 1))
+arc-test : T (tested (axis ∷ eccentricity ∷ most 7 50 ∷ []) (meridianArcF (var 0) (var 1) (var 2)) (most 910000 1))
 unfolding tested neg div
 arc-test = tt
 
@@ -121,11 +142,11 @@ module _ (e : Ellipsoid) (z : ℤ) (E : Shaped e) (Z : Upto 2880000000 z) where
 
   pub radius-among : Among (primeVertical e (sineOf (radians z))) (most 6379000 1)
   unfolding value primeVertical
-  radius-among = proved (also (E .axis) (also (E .flat) (also sine-latitude none))) (primeVerticalF (var 0) (var 1) (var 2)) (most 6379000 1) radius-test
+  radius-among = proved (also (E .long) (also (E .squared) (also sine-latitude none))) (primeVerticalF (var 0) (var 1) (var 2)) (most 6379000 1) radius-test
 
   pub arc-among : Among (meridianArc e (radians z)) (most 910000 1)
   unfolding value meridianArc arcWith sineOf
-  arc-among = proved (also (E .axis) (also (E .flat) (also latitude-among none))) (meridianArcF (var 0) (var 1) (var 2)) (most 910000 1) arc-test
+  arc-among = proved (also (E .long) (also (E .squared) (also latitude-among none))) (meridianArcF (var 0) (var 1) (var 2)) (most 910000 1) arc-test
 
 -- ---- a false easting or northing: within 2,000,000 m
 offset-finite : T (finite (round binary64 false 2000000000 1))

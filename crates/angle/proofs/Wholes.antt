@@ -6,24 +6,43 @@ use native.Mathlib.Nat.{le-trans, lt-of-le-of-lt, lt-of-lt-of-le}
 use native.Mathlib.Omega.{arith}
 use borrow.Author.Tests.{le-ltb}
 use lib.Dec.{T, leb, leb→le, le→leb, lt→ltb, lit≤, lit<}
-use lib.IntN.{ℤ, pos, negsuc, negℤ, natAbs, _-ℤ_, subℕ}
+use lib.IntN.{ℤ, pos, negsuc, natAbs, _+ℤ_, _-ℤ_, subℕ}
 use lib.Ieee.{binary64, inFloat}
 use mir.Syntax.{w64}
 use mir.Val.{SFits}
 use Rattle.ranges.specs.Ranges.{within}
 use Rattle.ranges.proofs.Ranges.{Natural, bounds, inside, sized}
 use Rattle.rounding.proofs.Zn as zn
-use Rattle.rounding.proofs.Zn.{_⊖_, le, unle}
+use Rattle.rounding.proofs.Zn.{_⊕_, _⊖_, le, unle}
 use Rattle.bounds.proofs.Zero.{Upto}
 use Rattle.angle.specs.Ranges.{nearby}
 
--- between -(lo + 1) and hi: of the size b at most
-pub upto : (b lo : ℕ) (z : ℤ) (hi : ℕ) → suc lo ≤ b → hi ≤ b → within (negsuc lo) z (pos hi) ≡ true → Upto b z
-upto b lo z hi l k e = go z (sized (negsuc lo) z (pos hi) b l k e)
+-- between two numbers of the size b at most: of the size b at most
+pub between-upto : (b : ℕ) (lo z hi : ℤ) → natAbs lo ≤ b → natAbs hi ≤ b → within lo z hi ≡ true → Upto b z
+between-upto b lo z hi l k e = go z (sized lo z hi b l k e)
   where
     go : (y : ℤ) → natAbs y ≤ b → Upto b y
     go (pos n) h = h
     go (negsuc n) h = h
+
+-- between -(lo + 1) and hi
+pub upto : (b lo : ℕ) (z : ℤ) (hi : ℕ) → suc lo ≤ b → hi ≤ b → within (negsuc lo) z (pos hi) ≡ true → Upto b z
+upto b lo z hi l k e = between-upto b (negsuc lo) z (pos hi) l k e
+
+-- a negative number of the size from lo to hi
+pub record Negative (lo : ℕ) (z : ℤ) (hi : ℕ) : Type 0 where
+  pub n : ℕ
+  pub is : z ≡ negsuc n
+  pub low : lo ≤ suc n
+  pub high : suc n ≤ hi
+
+pub negative : (lo : ℕ) (z : ℤ) (hi : ℕ) → within (negsuc hi) z (negsuc lo) ≡ true → Negative (suc lo) z (suc hi)
+negative lo (pos n) hi e = absurd (bounds (negsuc hi) (pos n) (negsuc lo) e .1 .le)
+negative lo (negsuc n) hi e =
+    let b = bounds (negsuc hi) (negsuc n) (negsuc lo) e in
+    let h : n ≤ hi = leb→le n hi (b .0 .le) in
+    let l : lo ≤ n = leb→le lo n (b .1 .le) in
+    record { n = n; is = refl; low = omega arith; high = omega arith }
 
 pub natural-upto : {lo hi : ℕ} {z : ℤ} → Natural lo z hi → Upto hi z
 natural-upto {lo} {hi} {z} p = subst (λ (y : ℤ). Upto hi y) (sym (p .is)) (p .high)
@@ -48,15 +67,16 @@ sub-is a (suc b) = refl
 pub sub-pos : (a b : ℕ) → b ≤ a → pos a -ℤ pos b ≡ pos (a - b)
 sub-pos a b h = sub-is a b ∙ ap (λ (t : Bool). cond t (negsuc (b - suc a)) (pos (a - b))) (le-ltb a b h)
 
+-- ---- tests that say the same
+same : (a b : Bool) → (a ≡ true → b ≡ true) → (b ≡ true → a ≡ true) → a ≡ b
+same true b f g = sym (f refl)
+same false true f g = g refl
+same false false f g = refl
+
 -- that the origin's longitude is at most 4 degrees from the point's, as the machine tests it, is that the difference is
 pub apart-is : (n : ℕ) (z : ℤ) → 1440000000 ≤ n → within (pos (n - 1440000000)) z (pos (n + 1440000000)) ≡ nearby (pos n) z
 apart-is n z h = same (within (pos (n - 1440000000)) z (pos (n + 1440000000))) (nearby (pos n) z) there back
   where
-    same : (a b : Bool) → (a ≡ true → b ≡ true) → (b ≡ true → a ≡ true) → a ≡ b
-    same true b f g = sym (f refl)
-    same false true f g = g refl
-    same false false f g = refl
-
     there : within (pos (n - 1440000000)) z (pos (n + 1440000000)) ≡ true → nearby (pos n) z ≡ true
     there e =
         let b = bounds (pos (n - 1440000000)) z (pos (n + 1440000000)) e in
@@ -70,3 +90,21 @@ apart-is n z h = same (within (pos (n - 1440000000)) z (pos (n + 1440000000))) (
         let x = unle (b .0) (zn.k- 1439999999) (zn.k n ⊖ zn.v z) in
         let y = unle (b .1) (zn.k n ⊖ zn.v z) (zn.k 1440000000) in
         inside (pos (n - 1440000000)) z (pos (n + 1440000000)) (le (zn.k (n - 1440000000)) (zn.v z) (omega arith)) (le (zn.v z) (zn.k (n + 1440000000)) (omega arith))
+
+-- z + c from lo + c to hi + c is z from lo to hi
+pub moved : (lo hi c : ℕ) (z : ℤ) → within (pos (lo + c)) (z +ℤ pos c) (pos (hi + c)) ≡ within (pos lo) z (pos hi)
+moved lo hi c z = same (within (pos (lo + c)) (z +ℤ pos c) (pos (hi + c))) (within (pos lo) z (pos hi)) there back
+  where
+    there : within (pos (lo + c)) (z +ℤ pos c) (pos (hi + c)) ≡ true → within (pos lo) z (pos hi) ≡ true
+    there e =
+        let b = bounds (pos (lo + c)) (z +ℤ pos c) (pos (hi + c)) e in
+        let x = unle (b .0) (zn.k (lo + c)) (zn.v z ⊕ zn.k c) in
+        let y = unle (b .1) (zn.v z ⊕ zn.k c) (zn.k (hi + c)) in
+        inside (pos lo) z (pos hi) (le (zn.k lo) (zn.v z) (omega arith)) (le (zn.v z) (zn.k hi) (omega arith))
+
+    back : within (pos lo) z (pos hi) ≡ true → within (pos (lo + c)) (z +ℤ pos c) (pos (hi + c)) ≡ true
+    back e =
+        let b = bounds (pos lo) z (pos hi) e in
+        let x = unle (b .0) (zn.k lo) (zn.v z) in
+        let y = unle (b .1) (zn.v z) (zn.k hi) in
+        inside (pos (lo + c)) (z +ℤ pos c) (pos (hi + c)) (le (zn.k (lo + c)) (zn.v z ⊕ zn.k c) (omega arith)) (le (zn.v z ⊕ zn.k c) (zn.k (hi + c)) (omega arith))

@@ -24,7 +24,7 @@ table =
 
 -- f = 1/(1/f); e2 = f (2 - f)
 unfoldable pub shape : Figure → Ellipsoid
-shape r = let f = # 1 ⊘ r .«inverse_flattening» in record { a = r .a; e2 = f ⊗ (# 2 ⊖ f) }
+shape r = let f = # 1 ⊘ r .«inverse_flattening» in record { a = r .a; f = f; e2 = f ⊗ (# 2 ⊖ f) }
 
 -- a code's row. A code that is not of the table is refused, so what is said of it here is used by nobody.
 unfoldable pub figureOf : ℤ → Figure

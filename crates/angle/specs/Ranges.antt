@@ -6,7 +6,7 @@ use lib.IntN.{ℤ, _-ℤ_}
 use Rattle.refusal.specs.Numbers.{range, geodetic}
 use Rattle.refusal.specs.Numbers as numbers
 use Rattle.refusal.specs.Order.{Test, _gives_, first}
-use Rattle.ranges.specs.Ranges.{upTo, ellipsoidRange, latitudeRange, longitudeRange, heightRange, offsetRange}
+use Rattle.ranges.specs.Ranges.{upTo, area, ellipsoidRange, latitudeRange, longitudeRange, heightRange, offsetRange}
 use Rattle.angle.specs.declared.OriginNumbers.{OriginNumbers}
 
 -- two longitudes at most 1,440,000,000 apart
@@ -24,9 +24,17 @@ originTests o =
     ∷ (not (offsetRange (o .«false_northing»)) gives range)
     ∷ angleTests (o .latitude) (o .longitude)
 
+-- latitude, longitude and height: 12
+abbrev pub geodeticTests : ℤ → ℤ → ℤ → List Test
+geodeticTests lat lon h = angleTests lat lon ++ ((not (heightRange h) gives geodetic) ∷ [])
+
 -- geodetic to Cartesian: 2, 12
 abbrev pub cartesianTests : ℤ → ℤ → ℤ → ℤ → List Test
-cartesianTests code lat lon h = (not (ellipsoidRange code) gives range) ∷ (angleTests lat lon ++ ((not (heightRange h) gives geodetic) ∷ []))
+cartesianTests code lat lon h = (not (ellipsoidRange code) gives range) ∷ geodeticTests lat lon h
+
+-- Cartesian to geodetic, before anything is worked out: 2, 10
+abbrev pub positionTests : ℤ → ℤ → ℤ → ℤ → List Test
+positionTests code x y z = (not (ellipsoidRange code) gives range) ∷ (not (area x y z) gives numbers.area) ∷ []
 
 -- a point on an origin of longitude lon₀: 12, 13
 abbrev pub pointTests : ℤ → ℤ → ℤ → List Test

@@ -16,3 +16,7 @@ radians n = whole n ⊗ k
 -- millimetres in metres
 unfoldable pub metres : ℤ → Float
 metres n = whole n ⊘ # 1000
+
+-- seconds in a radian: the f64 nearest to 206264.806247096355
+unfoldable pub seconds : Float
+seconds = near 206264806247096355 (10 ^ 12)

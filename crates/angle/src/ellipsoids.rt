@@ -48,6 +48,7 @@ pub fn ellipsoid(code: i64) -> Ellipsoid
     let f = 1.0 / row.inverse_flattening;
     Ellipsoid {
         a: row.a,
+        f,
         e2: f * (2.0 - f),
     }
 }

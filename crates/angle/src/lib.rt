@@ -1,7 +1,8 @@
-// Angles to metres in f64: geodetic to Cartesian, and Cassini-Soldner. Latitudes and longitudes are whole units of 0.00001",
+// Angles to metres in f64, and back: geodetic to Cartesian, Cartesian to geodetic, and Cassini-Soldner. Latitudes and longitudes are whole units of 0.00001",
 // heights whole units of 0.00001 m, false eastings and northings whole millimetres. Every call answers for every input.
 mod ellipsoids;
 mod faults;
+mod from_xyz;
 mod geodetic;
 mod projection;
 mod units;
@@ -9,6 +10,7 @@ mod units;
 pub use ellipsoids::ellipsoid as ellipsoid_of;
 pub use faults::angles_fault;
 pub use faults::origin_fault;
+pub use from_xyz::geodetic_units;
 pub use geodetic::cartesian_metres;
 pub use geodetic::cartesian_units;
 pub use projection::cassini;
@@ -18,9 +20,10 @@ pub use projection::cassini_millimetres_from;
 pub use projection::make_origin;
 pub use units::radians;
 
-// An ellipsoid: the semi-major axis in metres, and the first eccentricity squared.
+// An ellipsoid: the semi-major axis in metres, the flattening, and the first eccentricity squared.
 pub struct Ellipsoid {
     pub a: f64,
+    pub f: f64,
     pub e2: f64,
 }
 
@@ -63,6 +66,19 @@ pub enum Cartesian {
 
 // X, Y and Z in whole units of 0.00001 m, or the refusal number.
 pub enum CartesianUnits {
+    Units(i64, i64, i64),
+    Refused(u8),
+}
+
+// What the formulas from X, Y and Z give: latitude in seconds, longitude in seconds past 90 degrees, height in metres.
+struct Found {
+    latitude: f64,
+    longitude: f64,
+    height: f64,
+}
+
+// Latitude and longitude in whole units of 0.00001" and height in whole units of 0.00001 m, or the refusal number.
+pub enum GeodeticUnits {
     Units(i64, i64, i64),
     Refused(u8),
 }

@@ -5,10 +5,9 @@ use Prim.Native.Nat.{ℕ}
 use lib.Dec.{T}
 use lib.Ieee.{Float}
 use Rattle.bounds.proofs.Among.{Ends, Among}
-use Rattle.bounds.proofs.Formula.{Formula, var, lit, opp, plus, minus, times, over, square, bind, call, none, also, value, tested, proved}
+use Rattle.bounds.proofs.Formula.{Formula, var, lit, opp, plus, minus, times, over, square, bind, call, steps, none, also, value, tested, proved}
 use Rattle.elementary.specs.Floats.{near, #}
-use Rattle.elementary.specs.Series.{sineTable, cosineTable, sineOf, cosineOf}
-use Rattle.elementary.specs.Arctan.{arctanTable}
+use Rattle.elementary.specs.Series.{sineTable, cosineTable, arctanTable, sineOf, cosineOf}
 
 abbrev pub n : ℕ → Formula
 n i = lit (# i)
@@ -37,6 +36,13 @@ cosineF = evenF (square (var 0)) cosineTable
 abbrev pub arctanSmallF : Formula
 arctanSmallF = oddF (square (var 0)) arctanTable
 
+-- Heron's step from r
+abbrev stepF : Formula → Formula
+stepF r = times (lit (near 1 2)) (plus r (over (var 0) r))
+
+abbrev pub rootF : Formula
+rootF = steps (times (lit (near 1 2)) (plus (n 1) (var 0)) ∷ stepF (var 1) ∷ stepF (var 2) ∷ []) (stepF (var 3))
+
 abbrev pub sinhF : Formula
 sinhF = oddF (opp (square (var 0))) sineTable
 
@@ -45,13 +51,6 @@ coshF = evenF (opp (square (var 0))) cosineTable
 
 abbrev pub artanhSmallF : Formula
 artanhSmallF = oddF (opp (square (var 0))) arctanTable
-
--- a step of the root from r
-abbrev stepF : Formula → Formula
-stepF r = times (lit (near 1 2)) (plus r (over (var 0) r))
-
-abbrev pub rootF : Formula
-rootF = bind (times (lit (near 1 2)) (plus (n 1) (var 0))) (bind (stepF (var 1)) (bind (stepF (var 2)) (stepF (var 3))))
 
 -- twice a function of x / (1 + √d)
 abbrev halfF : Formula → Formula → Formula

@@ -1,4 +1,4 @@
--- Sine and cosine: Horner in x·x over tables of reciprocal factorials.
+-- Sine, cosine and the arctangent of a small argument: Horner in x·x over a table of coefficients (docs/ORDERS.md, section 3).
 use Prim.Native.Nat.{ℕ, zero, suc, _*_}
 use mathlib.Core.List.{List, [], _∷_}
 use lib.Ieee.{Float, neg}
@@ -39,6 +39,28 @@ cosineTable =
     ∷ reciprocal 0
     ∷ []
 
+-- 1.0 divided by n
+abbrev pub part : ℕ → Float
+part n = # 1 ⊘ # n
+
+-- 1/25, 1/23, .. 1/1, likewise
+abbrev pub arctanTable : List Float
+arctanTable =
+    part 25
+    ∷ neg (part 23)
+    ∷ part 21
+    ∷ neg (part 19)
+    ∷ part 17
+    ∷ neg (part 15)
+    ∷ part 13
+    ∷ neg (part 11)
+    ∷ part 9
+    ∷ neg (part 7)
+    ∷ part 5
+    ∷ neg (part 3)
+    ∷ part 1
+    ∷ []
+
 -- from the left, what is there times y, plus the next coefficient
 abbrev pub hornerFrom : Float → Float → List Float → Float
 hornerFrom y s [] = s
@@ -54,3 +76,6 @@ sineOf x = horner (x ⊗ x) sineTable ⊗ x
 
 unfoldable pub cosineOf : Float → Float
 cosineOf x = horner (x ⊗ x) cosineTable
+
+unfoldable pub arctanSmallOf : Float → Float
+arctanSmallOf x = horner (x ⊗ x) arctanTable ⊗ x

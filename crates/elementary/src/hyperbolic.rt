@@ -1,9 +1,9 @@
 // Hyperbolic functions in f64: the series of sine, cosine and arctangent at -(x * x). They stand for the exponential and the logarithm: sinh and cosh are the halves of
 // Q - 1/Q and Q + 1/Q for Q = e^x, artanh is half the logarithm of (1 + x) / (1 - x).
 ghost use mathlib.Core.Path.{_≡_};
-ghost use Rattle.elementary.specs.Hyperbolic.{sinhOf, coshOf, artanhSmallOf, artanhOf};
-use crate::arctan::arctan_series;
+ghost use Rattle.elementary.specs.Hyperbolic.{arctanSeriesOf, sinhOf, coshOf, artanhSmallOf, artanhOf};
 use crate::heron::root;
+use crate::series::arctan_table;
 use crate::series::cosine_table;
 use crate::series::polynomial;
 use crate::series::sine_table;
@@ -22,6 +22,14 @@ pub fn cosh(x: f64) -> f64
 {
     let t = cosine_table();
     polynomial(&t, -(x * x))
+}
+
+// The arctangent's series at y: of x * x it is the arctangent of x over x, of -(x * x) the artanh of x over x.
+pub fn arctan_series(y: f64) -> f64
+    ensures { λ r. ⌜ r ≡ arctanSeriesOf y ⌝ }
+{
+    let t = arctan_table();
+    polynomial(&t, y)
 }
 
 // The artanh of x, for a small x: to 3.0e-17 where |x| is at most 0.141.

@@ -1,8 +1,8 @@
-// Sine and cosine in f64: Horner in x * x over the reciprocals of the factorials, which are worked out and not stored.
+// Sine, cosine and arctangent in f64: Horner in x * x. The reciprocals of the factorials are worked out and not stored.
 ghost use mathlib.Core.Path.{_≡_};
 ghost use Prim.Native.Nat.{_<_};
 ghost use lib.ListN.{length};
-ghost use Rattle.elementary.specs.Series.{horner, sineTable, cosineTable, sineOf, cosineOf};
+ghost use Rattle.elementary.specs.Series.{horner, sineTable, cosineTable, arctanTable, sineOf, cosineOf, arctanSmallOf};
 
 // 1/15!, 1/13!, .. 1/1!, the signs alternating so that the last is +1. Each factorial is a whole product, exact in f64, and each reciprocal one division.
 pub(crate) fn sine_table() -> [f64; 8]
@@ -51,6 +51,27 @@ pub(crate) fn cosine_table() -> [f64; 9]
     ]
 }
 
+// 1/25, 1/23, .. 1/1, likewise.
+pub(crate) fn arctan_table() -> [f64; 13]
+    ensures { λ r. ⌜ r ≡ arctanTable ⌝ }
+{
+    [
+        1.0 / 25.0,
+        -(1.0 / 23.0),
+        1.0 / 21.0,
+        -(1.0 / 19.0),
+        1.0 / 17.0,
+        -(1.0 / 15.0),
+        1.0 / 13.0,
+        -(1.0 / 11.0),
+        1.0 / 9.0,
+        -(1.0 / 7.0),
+        1.0 / 5.0,
+        -(1.0 / 3.0),
+        1.0 / 1.0,
+    ]
+}
+
 // From the first coefficient on: times y, plus the next.
 pub(crate) fn polynomial(t: &[f64], y: f64) -> f64
     requires { ⌜ 0 < length (now t) ⌝ }
@@ -79,4 +100,12 @@ pub fn cosine(x: f64) -> f64
 {
     let t = cosine_table();
     polynomial(&t, x * x)
+}
+
+// The arctangent of x in radians, for a small x: to 1.4e-16 where |x| is at most 0.29.
+pub fn arctan_small(x: f64) -> f64
+    ensures { λ r. ⌜ r ≡ arctanSmallOf x ⌝ }
+{
+    let t = arctan_table();
+    polynomial(&t, x * x) * x
 }

@@ -8,7 +8,7 @@ use Rattle.refusal.specs.Order.{Test, _gives_, first, unless}
 use Rattle.ranges.specs.Ranges.{latitudeRange, longitudeRange}
 use Rattle.elementary.specs.Floats.{_⊗_, _⊘_, _⊕_, _⊖_}
 use Rattle.elementary.specs.Series.{sineOf, cosineOf}
-use Rattle.elementary.specs.Arctan.{arctangentOf}
+use Rattle.elementary.specs.Half.{arctangentOf}
 use Rattle.elementary.specs.Hyperbolic.{sinhOf, coshOf, artanhOf}
 use Rattle.angle.specs.Units.{radians}
 use Rattle.angle.specs.declared.Projected.{Projected}

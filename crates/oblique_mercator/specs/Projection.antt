@@ -8,8 +8,8 @@ use Rattle.refusal.specs.Order.{_gives_, first, unless}
 use Rattle.elementary.specs.Floats.{_⊗_, _⊘_, _⊕_, _⊖_, #, whole}
 use Rattle.elementary.specs.Series.{sineOf, cosineOf}
 use Rattle.elementary.specs.Root.{rootOf}
-use Rattle.elementary.specs.Arctan.{arctanSeriesOf, arcsineOf}
-use Rattle.elementary.specs.Hyperbolic.{artanhSmallOf}
+use Rattle.elementary.specs.Half.{arcsineOf}
+use Rattle.elementary.specs.Hyperbolic.{arctanSeriesOf, artanhSmallOf}
 use Rattle.angle.specs.Units.{radians, metres}
 use Rattle.angle.specs.Ellipsoids.{ellipsoidOf}
 use Rattle.angle.specs.declared.Ellipsoid.{Ellipsoid}

@@ -1,5 +1,4 @@
 -- Easting and northing to latitude and longitude, in document 004's order and names, with γ₀, the angle at the natural origin, in U' and in the longitude.
-use Prim.Native.Nat.{_^_}
 use mathlib.Core.Bool.{Bool, not, _&&_}
 use mathlib.Core.List.{List, [], _∷_}
 use lib.IntN.{ℤ, _+ℤ_}
@@ -13,9 +12,10 @@ use Rattle.rounding.specs.declared.decimals.Rounded.{Rounded}
 use Rattle.rounding.specs.declared.decimals.Rounded.the-variants.{Whole}
 use Rattle.rounding.specs.declared.decimals.Rounded.the-variants as rounded
 use Rattle.elementary.specs.Floats.{_⊗_, _⊘_, _⊕_, _⊖_, near, #}
-use Rattle.elementary.specs.Series.{sineOf, cosineOf}
-use Rattle.elementary.specs.Arctan.{arctanSmallOf, arctangentOf}
+use Rattle.elementary.specs.Series.{sineOf, cosineOf, arctanSmallOf}
+use Rattle.elementary.specs.Half.{arctangentOf}
 use Rattle.elementary.specs.Hyperbolic.{sinhOf, coshOf, artanhSmallOf}
+use Rattle.angle.specs.Units.{seconds}
 use Rattle.oblique_mercator.specs.Projection.{projectionOf}
 use Rattle.oblique_mercator.specs.declared.Parameters.{Parameters}
 use Rattle.oblique_mercator.specs.declared.Projection.{Projection}
@@ -25,10 +25,6 @@ use Rattle.oblique_mercator.specs.declared.Angles.{Angles}
 use Rattle.oblique_mercator.specs.declared.Angles.the-variants.{Units, Refused}
 use Rattle.oblique_mercator.specs.declared.«from_plane».Turned.{Turned}
 use Rattle.oblique_mercator.specs.declared.«from_plane».Found.{Found}
-
--- seconds in a radian: the f64 nearest to 206264.806247096355
-unfoldable pub seconds : Float
-seconds = near 206264806247096355 (10 ^ 12)
 
 -- below 10,000,000 m in size; a NaN is not
 unfoldable pub inPlane : Float → Bool

@@ -19,7 +19,7 @@ f64 b = ofBits binary64 b
 made : Figure → Ellipsoid
 made r =
     let f = f64 0x3ff0_0000_0000_0000 ⊘ r .«inverse_flattening» in
-    record { a = r .a; e2 = f ⊗ (f64 0x4000_0000_0000_0000 ⊖ f) }
+    record { a = r .a; f = f; e2 = f ⊗ (f64 0x4000_0000_0000_0000 ⊖ f) }
 
 made-is : (r : Figure) → made r ≡ shape r
 unfolding made shape round ofBits

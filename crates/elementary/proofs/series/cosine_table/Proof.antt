@@ -1,6 +1,6 @@
 -- `elementary::series::cosine_table` meets its contract: the products and quotients are the coefficients, which antt computes. Assumes nothing.
 use lib.Ieee.{mul, div, neg, round, ofBits}
-use Rattle.elementary.proofs.series.Tables.{sames-are}
+use Rattle.elementary.proofs.Same.{sames-are}
 use Rattle.elementary.proofs.series.cosine_table.Statement.{statement}
 use Rattle.elementary.proofs.series.cosine_table.Tie as tie
 

@@ -1,7 +1,8 @@
 -- `oblique_mercator::from_plane::find` meets its contract: the formulas are the written ones, and each literal is the f64 of its number, which antt computes. Assumes nothing.
 use borrow.Author.Needs.{needs}
 use lib.Ieee.{ofBits, round}
-use Rattle.oblique_mercator.specs.Reverse.{foundOf, seconds}
+use Rattle.oblique_mercator.specs.Reverse.{foundOf}
+use Rattle.angle.specs.Units.{seconds}
 use Rattle.oblique_mercator.proofs.from_plane.find.Statement.{statement}
 use Rattle.oblique_mercator.proofs.from_plane.find.Tie as tie
 

@@ -1,9 +1,9 @@
--- `elementary::arctan::arcsine` meets its contract: the formula is the written one. Assumes nothing.
+-- `elementary::half::arcsine` meets its contract: the formula is the written one. Assumes nothing.
 use borrow.Author.Needs.{needs}
 use lib.Ieee.{ofBits, round}
-use Rattle.elementary.specs.Arctan.{arcsineOf}
-use Rattle.elementary.proofs.arctan.arcsine.Statement.{statement}
-use Rattle.elementary.proofs.arctan.arcsine.Tie as tie
+use Rattle.elementary.specs.Half.{arcsineOf}
+use Rattle.elementary.proofs.half.arcsine.Statement.{statement}
+use Rattle.elementary.proofs.half.arcsine.Tie as tie
 
 root-requires : tie.Need-root-requires
 root-requires c κs = search needs

@@ -1,9 +1,9 @@
--- `elementary::arctan::arctangent` meets its contract: the formula is the written one. Assumes nothing.
+-- `elementary::half::arctangent` meets its contract: the formula is the written one. Assumes nothing.
 use borrow.Author.Needs.{needs}
 use lib.Ieee.{ofBits, round}
-use Rattle.elementary.specs.Arctan.{arctangentOf}
-use Rattle.elementary.proofs.arctan.arctangent.Statement.{statement}
-use Rattle.elementary.proofs.arctan.arctangent.Tie as tie
+use Rattle.elementary.specs.Half.{arctangentOf}
+use Rattle.elementary.proofs.half.arctangent.Statement.{statement}
+use Rattle.elementary.proofs.half.arctangent.Tie as tie
 
 root-requires : tie.Need-root-requires
 root-requires c κs = search needs

@@ -1,6 +1,6 @@
 -- Lists of closed f64 values are equal where a computed test says so. A table that is worked out is held to its coefficients this way: a wrong one is told from the right
 -- one by their numbers, where a comparison of the terms would go on and on. Assumes nothing.
-use mathlib.Core.Path.{_≡_, refl, ap, ap₂, _∙_}
+use mathlib.Core.Path.{_≡_, refl, ap, ap₂}
 use mathlib.Core.Bool.{Bool, true, false, _&&_}
 use mathlib.Core.List.{List, [], _∷_}
 use lib.Dec.{T, eqb, eqb→eq}

@@ -1,0 +1,69 @@
+-- `angle::from_xyz::placed` meets its contract: each arm is given its constructors. Assumes nothing.
+use borrow.Author.Needs.{needs}
+use mathlib.Core.Path.{_∙_}
+use mir.Syntax.{w64}
+use mir.Val.{SFits}
+use mir.ValLaws.{toZ-ofZ}
+use Rattle.angle.specs.Geodetic.{placed}
+use Rattle.angle.proofs.from_xyz.placed.Statement.{statement}
+use Rattle.angle.proofs.from_xyz.placed.Tie as tie
+
+enum-told : tie.Need-enum-told
+enum-told c = search needs
+
+enum-known-latitude : tie.Need-enum-known-latitude
+enum-known-latitude c = search needs
+
+enum-told-2 : tie.Need-enum-told-2
+enum-told-2 c = search needs
+
+enum-known-past : tie.Need-enum-known-past
+enum-known-past c = search needs
+
+enum-told-3 : tie.Need-enum-told-3
+enum-told-3 c = search needs
+
+enum-known-height : tie.Need-enum-known-height
+enum-known-height c = search needs
+
+in-ranges-requires : tie.Need-in-ranges-requires
+in-ranges-requires c κs = search needs
+
+returns : tie.Need-returns
+unfolding placed
+returns c = rw (c .enum-told .given .1)
+
+returns-2 : tie.Need-returns-2
+unfolding placed
+returns-2 c = rw (c .before .before .before .latitude .given .1, c .enum-told2 .given .1)
+
+returns-3 : tie.Need-returns-3
+unfolding placed
+returns-3 c = rw (c .before .before .before .before .before .before .latitude .given .1, c .before .before .before .past .given .1, c .enum-told3 .given .1)
+
+returns-4 : tie.Need-returns-4
+unfolding placed
+returns-4 c =
+    let x = c .before .before .before .before .before .before .before .before .latitude .given in
+    let y = c .before .before .before .before .before .past .given in
+    let z = c .before .before .height .given in
+    let p : SFits w64 (x .0 .0) = search needs in
+    let q : SFits w64 (y .0 .0) = search needs in
+    let r : SFits w64 (z .0 .0) = search needs in
+    rw (x .1, y .1, z .1) (c .in-ranges .ensures ∙ rw (toZ-ofZ w64 (x .0 .0) p, toZ-ofZ w64 (y .0 .0) q, toZ-ofZ w64 (z .0 .0) r))
+
+pub placed-spec : {M : Type 1} → statement M
+placed-spec =
+    tie.close
+    (tie.spec
+    enum-told
+    enum-known-latitude
+    enum-told-2
+    enum-known-past
+    enum-told-3
+    enum-known-height
+    in-ranges-requires
+    returns
+    returns-2
+    returns-3
+    returns-4)

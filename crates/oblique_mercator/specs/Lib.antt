@@ -2,3 +2,4 @@ pub mod Parameters
 pub mod Projection
 pub mod Forward
 pub mod Reverse
+pub mod Bounded

@@ -4,7 +4,7 @@
  * Units. Cartesian coordinates and heights: whole units of 0.00001 m. Latitudes and longitudes: whole units of 0.00001".
  * Epochs: thousandths of a year, 0 for none. Rotations: 0.00001". Scale: 10^-11. False eastings and northings: mm.
  *
- * Answers. A call answers 0 and writes its results, or answers a refusal number (1 to 17, the table in README.md) or
+ * Answers. A call answers 0 and writes its results, or answers a refusal number (enum swivelcrane_refusal) or
  * SWIVELCRANE_WRONG_LENGTH, and then writes nothing. swivelcrane_sheet and swivelcrane_plan answer the length of what
  * they wrote, or minus SWIVELCRANE_WRONG_LENGTH. Every input has its answer: nothing has to be checked beforehand.
  *
@@ -20,6 +20,31 @@
 #ifdef __cplusplus
 extern "C" {
 #endif
+
+/* The version of this interface: a function or a number that is added raises the minor, any other change the major. */
+#define SWIVELCRANE_VERSION_MAJOR 1
+#define SWIVELCRANE_VERSION_MINOR 0
+
+/* The refusal numbers by name; README.md says of each what to do. */
+enum swivelcrane_refusal {
+    SWIVELCRANE_REFUSAL_FORM = 1,      /* a line that is not of a form which its program or call reads */
+    SWIVELCRANE_REFUSAL_RANGE = 2,     /* a number, an ellipsoid code or a count of places out of its range */
+    SWIVELCRANE_REFUSAL_EPOCH = 3,     /* a datum and an epoch that don't agree */
+    SWIVELCRANE_REFUSAL_KIND = 4,      /* a velocity or a frame step that breaks the rule of its kind */
+    SWIVELCRANE_REFUSAL_JOIN = 5,      /* a step that doesn't begin where the step before it ended */
+    SWIVELCRANE_REFUSAL_NINTH = 6,     /* a ninth step */
+    SWIVELCRANE_REFUSAL_PLACE = 7,     /* a step after a point line; an origin line that is not the first line */
+    SWIVELCRANE_REFUSAL_EARLIER = 8,   /* an earlier step line was refused; no accepted origin */
+    SWIVELCRANE_REFUSAL_START = 9,     /* a point that is not at the chain's start (its end, for the inverse) */
+    SWIVELCRANE_REFUSAL_AREA = 10,     /* a point outside the area */
+    SWIVELCRANE_REFUSAL_LEFT = 11,     /* a position outside the area after some step */
+    SWIVELCRANE_REFUSAL_GEODETIC = 12, /* a latitude, longitude or height out of its range */
+    SWIVELCRANE_REFUSAL_APART = 13,    /* longitudes too far apart */
+    SWIVELCRANE_REFUSAL_SIZE = 14,     /* an f64 that is not finite, or is 10,000,000 or more in size */
+    SWIVELCRANE_REFUSAL_LONG = 15,     /* input that is too long: only in the text of a sheet or a plan */
+    SWIVELCRANE_REFUSAL_IDS = 16,      /* two point lines with different ids */
+    SWIVELCRANE_REFUSAL_SAME = 17      /* two point lines with one issue and different bytes */
+};
 
 /* An array has not the number of elements that its call asks for. It comes before every refusal. */
 #define SWIVELCRANE_WRONG_LENGTH 255
@@ -48,6 +73,11 @@ int64_t swivelcrane_cartesian(int64_t ellipsoid, int64_t latitude, int64_t longi
                               size_t out_length);
 int64_t swivelcrane_cartesian_units(int64_t ellipsoid, int64_t latitude, int64_t longitude, int64_t height, int64_t *out,
                                     size_t out_length);
+
+/* Cartesian to geodetic, the way back: latitude and longitude in units of 0.00001", height in units of 0.00001 m, of X, Y, Z in
+ * units of 0.00001 m on the same ellipsoids. out has 3 elements. Refusals: 2 (ellipsoid), 10 (X, Y or Z outside the area, of
+ * any size), then 12 (latitude, longitude or height, rounded, out of its range). */
+int64_t swivelcrane_geodetic(int64_t ellipsoid, int64_t x, int64_t y, int64_t z, int64_t *out, size_t out_length);
 
 /* Cassini-Soldner: easting and northing in metres, and in whole millimetres. out has 2 elements.
  * Refusals: 2 (ellipsoid, false easting, false northing), 12 (a latitude or longitude), 13 (longitudes over 1,440,000,000

@@ -19,11 +19,14 @@ use Rattle.angle.specs.declared.Cartesian.{Cartesian}
 use Rattle.angle.specs.declared.Cartesian.the-variants as cartesian
 use Rattle.angle.specs.declared.CartesianUnits.{CartesianUnits}
 use Rattle.angle.specs.declared.CartesianUnits.the-variants as units
+use Rattle.angle.specs.declared.GeodeticUnits.{GeodeticUnits}
+use Rattle.angle.specs.declared.GeodeticUnits.the-variants as geodetic
 use Rattle.angle.specs.declared.Projected.{Projected}
 use Rattle.angle.specs.declared.Projected.the-variants as projected
 use Rattle.angle.specs.declared.ProjectedMillimetres.{ProjectedMillimetres}
 use Rattle.angle.specs.declared.ProjectedMillimetres.the-variants as millimetres
 use Rattle.angle.specs.Cartesian.{cartesianOf, cartesianUnitsOf}
+use Rattle.angle.specs.Geodetic.{geodeticUnitsOf}
 use Rattle.angle.specs.Cassini.{cassiniOf, cassiniMillimetresOf}
 use Rattle.line.specs.declared.Verdict.{Verdict}
 use Rattle.line.specs.declared.Verdict.the-variants as verdict
@@ -60,6 +63,14 @@ cartesianCall code latitude longitude height out = ifSized (eqb (length out) 3) 
 
 unfoldable pub unitsCall : ℤ → ℤ → ℤ → ℤ → List ℤ → Outcome ℤ
 unitsCall code latitude longitude height out = ifSized (eqb (length out) 3) (ofUnits (cartesianUnitsOf code latitude longitude height))
+
+-- ---- Cartesian to geodetic: latitude, longitude, height
+abbrev pub ofGeodetic : GeodeticUnits → Outcome ℤ
+ofGeodetic (geodetic.Units latitude longitude height) = gives (latitude ∷ longitude ∷ height ∷ [])
+ofGeodetic (geodetic.Refused n) = refused n
+
+unfoldable pub geodeticCall : ℤ → ℤ → ℤ → ℤ → List ℤ → Outcome ℤ
+geodeticCall code x y z out = ifSized (eqb (length out) 3) (ofGeodetic (geodeticUnitsOf code x y z))
 
 -- ---- Cassini: easting, northing
 abbrev pub ofProjected : Projected → Outcome Float

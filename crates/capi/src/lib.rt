@@ -2,6 +2,7 @@
 // Every call answers every input: 0 with its results written, or a refusal number, or WRONG_LENGTH, with nothing written.
 pub mod conversion;
 mod decode;
+pub mod from_xyz;
 pub mod geodetic;
 pub mod later;
 pub mod printing;

@@ -2,12 +2,27 @@
 use mathlib.Core.Path.{refl}
 use Rattle.rounding.specs.Quotient.{halfUp, roundDiv}
 use Rattle.ranges.specs.Ranges.{within}
-use Rattle.chain.specs.Faults.{realizationRange, agrees, sameRealization, givenPosition, inArea, pointRange, kindRange, stepRange, kindRule}
+use Rattle.chain.specs.Faults.{realizationRange, agrees, sameRealization, givenPosition, inArea, pointRange, pointFault, kindRange, stepRange, kindRule, stepFault}
 use Rattle.chain.specs.Rows.{rowIndex, rowOf}
 use Rattle.chain.specs.Parts.{linear, part, gain, shiftParts, velocityParts, radians, bursaWolfParts, atEpoch, frameParts, kindParts, plus, minus, forwardBy, again, inverseBy}
 use Rattle.chain.specs.Convert.{walk, startOf, endOf, answerOf, convert, forwardOf, inverseOf}
 use Rattle.chain.specs.Cases.{WorkedCases}
+use Rattle.chain.specs.MoreCases.{MoreCases}
+use Rattle.chain.specs.RangeCases.{RangeCases}
+use Rattle.chain.specs.OrderCases.{OrderCases}
 
 pub worked-cases : WorkedCases
 unfolding halfUp roundDiv within realizationRange agrees sameRealization givenPosition inArea pointRange kindRange stepRange kindRule rowIndex rowOf linear part gain shiftParts velocityParts radians bursaWolfParts atEpoch frameParts kindParts plus minus forwardBy again inverseBy walk startOf endOf answerOf convert forwardOf inverseOf
 worked-cases = refl
+
+pub more-cases : MoreCases
+unfolding halfUp roundDiv within realizationRange agrees sameRealization givenPosition inArea pointRange kindRange stepRange kindRule rowIndex rowOf linear part gain shiftParts velocityParts radians bursaWolfParts atEpoch frameParts kindParts plus minus forwardBy again inverseBy walk startOf endOf answerOf convert forwardOf inverseOf
+more-cases = record { conversions = refl; area = refl }
+
+pub order-cases : OrderCases
+unfolding halfUp roundDiv within realizationRange agrees sameRealization givenPosition inArea pointRange kindRange stepRange kindRule rowIndex rowOf linear part gain shiftParts velocityParts radians bursaWolfParts atEpoch frameParts kindParts plus minus forwardBy again inverseBy walk startOf endOf answerOf convert forwardOf inverseOf
+order-cases = refl
+
+pub range-cases : RangeCases
+unfolding within realizationRange agrees givenPosition pointRange pointFault kindRange stepRange kindRule stepFault
+range-cases = refl

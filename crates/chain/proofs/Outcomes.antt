@@ -77,7 +77,7 @@ module _ (c : Chain) (p : Point) where
   from-walk r outside zero n l e = let z : 11 ≡ n = cc in omega arith
   from-walk r w (suc k) n l e = let z : suc k ≡ n = cc in omega arith
 
-  refused-short : (n : ℕ) → forwardOf c p ≡ Refused n → n < 100
+  pub refused-short : (n : ℕ) → forwardOf c p ≡ Refused n → n < 100
   unfolding forwardOf convert
   refused-short n e =
       let ss = stepsOf c in

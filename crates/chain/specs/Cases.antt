@@ -18,27 +18,27 @@ use Rattle.chain.specs.Convert.{forwardOf, inverseOf}
 
 -- ---- how a case is written
 -- −n
-abbrev less : ℕ → ℤ
+abbrev pub less : ℕ → ℤ
 less n = negℤ (pos n)
 
-abbrev on : ℕ → ℕ → Realization
+abbrev pub on : ℕ → ℕ → Realization
 on datum epoch = record { datum = pos datum; epoch = pos epoch }
 
-abbrev xyz : ℤ → ℤ → ℤ → Position
+abbrev pub xyz : ℤ → ℤ → ℤ → Position
 xyz x y z = record { x = x; y = y; z = z }
 
 -- A1, issue 1
-abbrev point : Realization → Position → Point
+abbrev pub point : Realization → Position → Point
 point r p = record { id = record { high = 0x4131_0000_0000_0000; low = 0 }; issue = pos 1; realization = r; position = p }
 
 -- a chain of one step; the places past its length are not examined
-abbrev chain : Kind → Realization → Realization → Chain
+abbrev pub chain : Kind → Realization → Realization → Chain
 chain kind r a = record { steps = replicate 8 (record { kind = kind; before = r; after = a }); length = 1 }
 
-abbrev shift : ℤ → ℤ → ℤ → Kind
+abbrev pub shift : ℤ → ℤ → ℤ → Kind
 shift dx dy dz = Shift (record { dx = dx; dy = dy; dz = dz })
 
-abbrev velocity : ℤ → ℤ → ℤ → Kind
+abbrev pub velocity : ℤ → ℤ → ℤ → Kind
 velocity vx vy vz = Velocity (record { vx = vx; vy = vy; vz = vz })
 
 -- Bursa-Wolf with rz alone
@@ -72,11 +72,11 @@ expected c = over (c .way)
     over forward = Converted (point (c .after) (c .found))
     over inverse = Converted (point (c .before) (c .found))
 
-abbrev case : Way → Kind → Realization → Realization → Position → Position → Case
+abbrev pub case : Way → Kind → Realization → Realization → Position → Position → Case
 case w kind r a p q = record { way = w; kind = kind; before = r; after = a; given = p; found = q }
 
 -- ---- the cases
-abbrev a1 : Position
+abbrev pub a1 : Position
 a1 = xyz (less 113105165410) (pos 623631179950) (pos 71174811140)
 
 abbrev pub cases : List Case

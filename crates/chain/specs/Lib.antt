@@ -4,6 +4,8 @@ pub mod Parts
 pub mod Axes
 pub mod Ready
 pub mod Convert
-pub mod RoundTrip
 pub mod Cases
+pub mod MoreCases
+pub mod RangeCases
 pub mod Prepared
+pub mod OrderCases

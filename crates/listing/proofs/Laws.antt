@@ -18,7 +18,7 @@ use borrow.Author.Tests.{eq-eqb, ne-eqb, eqb-true, ltb-true, ltb-false, lt-ltb, 
 use Rattle.refusal.specs.Numbers as refusal
 use Rattle.refusal.specs.Order.{pick}
 use Rattle.listing.specs.Lines.{feed, push, lines, firstLength, lineEnd}
-use Rattle.listing.specs.Fold.{Rules, run, most, printed, roomFor, Prints, Begins}
+use Rattle.listing.specs.Fold.{Rules, run, most, printed, roomFor, Prints}
 
 -- ---- the first line's length, by its first byte
 pub length-feed : (s : List ℕ) (i : ℕ) → i < length s → getD s i 0 ≡ feed → firstLength (drop i s) ≡ 1
@@ -190,11 +190,13 @@ take-front : (a b : List ℕ) → take (length a) (a ++ b) ≡ a
 take-front [] b = refl
 take-front (x ∷ a) b = ap (λ (l : List ℕ). x ∷ l) (take-front a b)
 
-pub whole-text : {text input before after : List ℕ} {r : ℕ} → length before ≡ 720903 → Prints text input before after r → Begins text after r
+-- with the room that the longest input asks for, the text is there whole, and is the part of the array before r
+pub whole-text : {text input before after : List ℕ} {r : ℕ} → length before ≡ roomFor most → Prints text input before after r → (r ≤ length after) × (take r after ≡ text)
 unfolding roomFor
 whole-text {text} {input} {before} {after} {r} l p =
     let w = p .whole (omega arith) in
-    record { size = w .0; bytes = ap (λ (k : ℕ). take k after) (w .0) ∙ ap (take (length text)) (w .1) ∙ take-front text (drop (length text) before) }
+    let b = ap (λ (k : ℕ). take k after) (w .0) ∙ ap (take (length text)) (w .1) ∙ take-front text (drop (length text) before) in
+    (omega (arith, w .0, ap length b, length-take r after), b)
 
 -- ---- a reader that gives a record has found no fault
 pub no-fault : {A R : Type 0} (faultOf : A → ℕ) (good : A → R) (refused : Fault → R) (o : Option A) (a : A) → ((x y : A) → good x ≡ good y → x ≡ y) → ((f : Fault) (x : A) → refused f ≡ good x → ⊥) → answered faultOf good refused o ≡ good a → faultOf a ≡ 0
@@ -204,10 +206,3 @@ no-fault faultOf good refused (some b) a inj never e = go (eqb (faultOf b) 0) re
     go : (t : Bool) → t ≡ eqb (faultOf b) 0 → pick t (good b) (refused (fault (faultOf b))) ≡ good a → faultOf a ≡ 0
     go true t e = ap faultOf (sym (inj b a e)) ∙ eqb-true (faultOf b) 0 (sym t)
     go false t e = absurd (never _ a e)
-
--- ---- and that much of it is a part of the array
-pub text-fits : {text m : List ℕ} {r : ℕ} → Begins text m r → r ≤ length m
-text-fits {text} {m} {r} w = omega (arith, w .size, ap length (w .bytes), length-take r m)
-
-pub text-part : {text m : List ℕ} {r : ℕ} → Begins text m r → r ≡ length (take r m)
-text-part w = w .size ∙ ap length (sym (w .bytes))

@@ -36,11 +36,6 @@ pub record Prints (text input before after : List ℕ) (r : ℕ) : Type 0 where
   -- with any room: as much of the text as there is room for
   pub cut : Wrote before 0 text after r
 
--- the first r bytes of an array are the text, whole
-pub record Begins (text after : List ℕ) (r : ℕ) : Type 0 where
-  pub size : r ≡ length text
-  pub bytes : take r after ≡ text
-
 -- a program reads lines of two letters, told by their first byte
 abbrev pub byLetter : {A : Type 0} → ℕ → ℕ → List ℕ → A → A → A → A
 byLetter one other line a b neither = pick (eqb (getD line 0 0) one) a (pick (eqb (getD line 0 0) other) b neither)

@@ -1,30 +1,32 @@
 // Reads a plan from standard input, to its end or to one byte past the longest that is read, and writes what it prints.
 use libc::STDOUT_FILENO;
+ghost use Prim.Native.Nat.{_+_};
 ghost use mathlib.Core.Path.{_≡_};
 ghost use lib.ListN.{length};
-ghost use Rattle.listing.specs.Fold.{Begins};
+ghost use Rattle.listing.specs.Fold.{most, roomFor};
 ghost use Rattle.plan_rules.specs.Plan.{planOf};
 
 // Room for the longest input that is read and one byte more, by which a longer one shows.
 fn input_space() -> [u8; 65537]
-    ensures { λ r. ⌜ 65537 ≡ length r ⌝ }
+    ensures { λ r. ⌜ most + 1 ≡ length r ⌝ }
 {
     [0; 65537]
 }
 
 // Room for what any input prints: 11 bytes for each byte of it, and 7.
 fn output_space() -> [u8; 720903]
-    ensures { λ r. ⌜ 720903 ≡ length r ⌝ }
+    ensures { λ r. ⌜ roomFor most ≡ length r ⌝ }
 {
     [0; 720903]
 }
 
-// What the plan prints, from the start of that room: all of it, whatever the input.
-fn answer(text: &[u8], printed: &mut [u8]) -> usize
-    requires { ⌜ length (now printed) ≡ 720903 ⌝ }
-    ensures { λ r. ⌜ Begins (planOf (now (text .entry))) (now (printed .exit)) r ⌝ }
+// What the plan prints, whole, whatever the input: the very part of that room that is to be written.
+fn answer<'a>(text: &[u8], printed: &'a mut [u8]) -> &'a mut [u8]
+    requires { ⌜ length (now printed) ≡ roomFor most ⌝ }
+    ensures { λ r. ⌜ now r ≡ planOf (now (text .entry)) ⌝ }
 {
-    plan_rules::plan(text, printed)
+    let past = plan_rules::plan(text, printed);
+    &mut printed[..past]
 }
 
 fn main() {
@@ -33,6 +35,6 @@ fn main() {
         return;
     };
     let mut printed = output_space();
-    let past = answer(&text[..held], &mut printed);
-    io::write_all(STDOUT_FILENO, &printed[..past]);
+    let whole = answer(&text[..held], &mut printed);
+    io::write_all(STDOUT_FILENO, whole);
 }

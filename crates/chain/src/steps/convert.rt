@@ -105,6 +105,9 @@ fn end_of(chain: Chain, r: Realization) -> Realization
     s.after
 }
 
+// Units: coordinates 0.00001 m; epochs 0.001 year, 0 for none; rotations 0.00001"; scale 10^-11. Ranges: those of ranges.rt, all ends allowed; every
+// position, before the chain and after each step, lies in the area. Refusals, the first that applies: NINTH; of each step in turn RANGE, EPOCH, KIND, JOIN; of
+// the point RANGE, EPOCH, START, AREA; then LEFT. The empty chain refuses no point with START.
 // A point forward by a chain (document 01: along): to the chain's end, or refused.
 pub fn forward(chain: Chain, point: Point) -> Answer
     ensures { λ r. ⌜ r ≡ forwardOf chain point ⌝ }
@@ -121,7 +124,10 @@ pub fn forward(chain: Chain, point: Point) -> Answer
     forward_walk(chain, point, end_of(chain, r))
 }
 
-// A point inverse by a chain (document 01: back): to the chain's start, or refused.
+// Units: coordinates 0.00001 m; epochs 0.001 year, 0 for none; rotations 0.00001"; scale 10^-11. Ranges: those of ranges.rt, all ends allowed; every
+// position, before the chain and after each step, lies in the area. Refusals, the first that applies: NINTH; of each step in turn RANGE, EPOCH, KIND, JOIN; of
+// the point RANGE, EPOCH, START, AREA; then LEFT. The empty chain refuses no point with START.
+// A point inverse by a chain (document 01: back): to the chain's start, or refused. START is then for a point that is not at the chain's end.
 pub fn inverse(chain: Chain, point: Point) -> Answer
     ensures { λ r. ⌜ r ≡ inverseOf chain point ⌝ }
 {

@@ -1,34 +1,33 @@
 -- `input::read_all` meets its contract. Assumes nothing.
 use Prim.Native.Nat.{_≤_, _<_, _-_}
-use mathlib.Core.Path.{_≡_}
+use mathlib.Core.Path.{_≡_, refl}
 use native.Mathlib.Omega.{arith}
-use lib.ListN.{length, length-take, length-drop, take, drop}
-use Prim.Native.Nat.{ℕ}
-use Rattle.input.specs.Input.{Taken}
-use Rattle.input.specs.declared.Fragment.{Fragment}
-use Rattle.input.specs.declared.Fragment.the-variants.{Bytes}
-use mathlib.Core.List.{List}
+use lib.ListN.{length}
 use borrow.Author.Needs.{needs}
+use Rattle.input.specs.declared.Input.{Input}
+use Rattle.input.specs.declared.Next.{Next}
+use Rattle.input.specs.declared.Next.the-variants as next
+use denote.Enum.Declared.{tagOf}
+use Rattle.input.proofs.Next.{the-type}
+use Rattle.input.specs.Input.{Reads}
+use Rattle.input.proofs.Laws.{on-more, reads-on, reads-whole, reads-failed, reads-same}
 use Rattle.input.proofs.read_all.Statement.{statement}
 use Rattle.input.proofs.read_all.Tie as tie
 
+-- the third variant has the tag 2
+is-failed : (r : Next) → tagOf the-type r ≡ 2 → r ≡ next.Failed
+is-failed (next.On n) e = absurd (omega (arith, e))
+is-failed (next.Whole n) e = absurd (omega (arith, e))
+is-failed next.Failed e = refl
+
 abbrev Inv-loop : tie.InvT-loop
-Inv-loop buffer₀ held₀ buffer held = (held ≤ length buffer) × (length buffer ≡ length buffer₀)
+Inv-loop buffer₀ held₀ buffer held = (held ≤ length buffer) × (length buffer ≡ length buffer₀) × ((a : Input) → Reads (length buffer) held a → Reads (length buffer) 0 a)
 
 abbrev μ-loop : tie.MeasureT-loop
 μ-loop buffer₀ held₀ buffer held = length buffer - held
 
 loop-holds : tie.Need-loop-holds Inv-loop μ-loop
 loop-holds c = search needs
-
-sub-one-read : tie.Need-sub-one-read Inv-loop μ-loop
-sub-one-read c = search needs
-
-part-one-read-start : tie.Need-part-one-read-start Inv-loop μ-loop
-part-one-read-start c = search needs
-
-part-one-read-end : tie.Need-part-one-read-end Inv-loop μ-loop
-part-one-read-end c = search needs
 
 one-read-requires : tie.Need-one-read-requires Inv-loop μ-loop
 one-read-requires c κs = search needs
@@ -40,49 +39,39 @@ same-length : tie.Need-same-length Inv-loop μ-loop
 same-length c = search needs
 
 returns : tie.Need-returns Inv-loop μ-loop
-returns c = search needs
+returns c =
+    let c4 = c .before .before .before .before in
+    let c6 = c4 .before .before in
+    reads-same (omega (arith, c .before .before .before .buffer .given)) (c6 .loop .inv .2 _ (reads-failed (is-failed _ (c .before .match .keys1)) (c4 .one-read .ensures)))
 
-enum-told-2 : tie.Need-enum-told-2 Inv-loop μ-loop
-enum-told-2 c = search needs
+enum-known-bytes : tie.Need-enum-known-bytes Inv-loop μ-loop
+enum-known-bytes c = search needs
 
 same-length-2 : tie.Need-same-length-2 Inv-loop μ-loop
 same-length-2 c = search needs
 
 returns-2 : tie.Need-returns-2 Inv-loop μ-loop
-returns-2 c = search needs
-
-enum-known-bytes : tie.Need-enum-known-bytes Inv-loop μ-loop
-enum-known-bytes c = search needs
-
--- a fragment of n bytes fits what is left of the buffer
-fits : (f : Fragment) (n held : ℕ) (xs : List ℕ) → f ≡ Bytes n → Taken f (length (take (length xs - held) (drop held xs))) → (0 < n) × (n ≤ length xs - held)
-fits f n held xs e t = let u = rw e at t in (u .0, omega (arith, u .1, length-take (length xs - held) (drop held xs), length-drop held xs))
-
-add-held : tie.Need-add-held Inv-loop μ-loop
-add-held c =
+returns-2 c =
     let c5 = c .before .before .before .before .before in
-    let c8 = c5 .before .before .before in
-    omega (arith, fits _ _ (c8 .loop .held) (c8 .loop .buffer) (c .before .bytes .given .1) (c5 .one-read .ensures))
+    let c7 = c5 .before .before in
+    reads-same (omega (arith, c .before .before .before .before .buffer .given)) (c7 .loop .inv .2 _ (reads-whole (c .before .bytes .given .1) (c5 .one-read .ensures)))
+
+enum-known-bytes-2 : tie.Need-enum-known-bytes-2 Inv-loop μ-loop
+enum-known-bytes-2 c = search needs
 
 loop-less : tie.Need-loop-less Inv-loop μ-loop
 loop-less c =
-    let c4 = c .before .before .before .before in
-    let c5 = c4 .before in
-    let c8 = c5 .before .before .before in
-    omega (arith, fits _ _ (c8 .loop .held) (c8 .loop .buffer) (c .before .bytes .given .1) (c5 .one-read .ensures), c4 .buffer .given)
+    let c5 = c .before .before .before .before .before in
+    let c7 = c5 .before .before in
+    omega (arith, on-more (c7 .loop .inv .0) (c .before .bytes2 .given .1) (c5 .one-read .ensures), c .before .before .before .before .buffer .given)
 
 loop-again : tie.Need-loop-again Inv-loop μ-loop
 loop-again c =
-    let c4 = c .before .before .before .before in
-    let c5 = c4 .before in
-    let c8 = c5 .before .before .before in
-    omega (arith, fits _ _ (c8 .loop .held) (c8 .loop .buffer) (c .before .bytes .given .1) (c5 .one-read .ensures), c4 .buffer .given)
-
-same-length-3 : tie.Need-same-length-3 Inv-loop μ-loop
-same-length-3 c = search needs
-
-returns-3 : tie.Need-returns-3 Inv-loop μ-loop
-returns-3 c = search needs
+    let c5 = c .before .before .before .before .before in
+    let c7 = c5 .before .before in
+    let same = c .before .before .before .before .buffer .given in
+    let more = on-more (c7 .loop .inv .0) (c .before .bytes2 .given .1) (c5 .one-read .ensures) in
+    (omega (arith, more, same), omega (arith, same, c7 .loop .inv .1), λ a q. reads-same (omega (arith, same)) (c7 .loop .inv .2 a (reads-on (c .before .bytes2 .given .1) (c5 .one-read .ensures) (reads-same (omega (arith, same)) q))))
 
 pub read-all-spec : {M : Type 1} → statement M
 read-all-spec =
@@ -91,19 +80,13 @@ read-all-spec =
     Inv-loop
     μ-loop
     loop-holds
-    sub-one-read
-    part-one-read-start
-    part-one-read-end
     one-read-requires
     enum-told
     same-length
     returns
-    enum-told-2
+    enum-known-bytes
     same-length-2
     returns-2
-    enum-known-bytes
-    add-held
+    enum-known-bytes-2
     loop-less
-    loop-again
-    same-length-3
-    returns-3)
+    loop-again)

@@ -1,4 +1,6 @@
 -- `plan::answer` meets its contract: the room is enough for any input. Assumes nothing.
+use mathlib.Core.Path.{sym}
+use lib.Seq.{length-take-le}
 use borrow.Author.Needs.{needs}
 use Rattle.listing.proofs.Laws.{whole-text}
 use Rattle.plan.proofs.answer.Statement.{statement}
@@ -7,11 +9,15 @@ use Rattle.plan.proofs.answer.Tie as tie
 plan-requires : tie.Need-plan-requires
 plan-requires c κs = search needs
 
-same-length : tie.Need-same-length
-same-length c = search needs
+slice-aggregate-result : tie.Need-slice-aggregate-result
+slice-aggregate-result c =
+    let c3 = c .before .before .before in
+    sym (length-take-le _ _ ((whole-text (c3 .before .before .before .before .pre) (c3 .plan .ensures)) .0))
 
 returns : tie.Need-returns
-returns c = whole-text (c .before .before .before .before .before .before .pre) (c .before .before .plan .ensures)
+returns c =
+    let c3 = c .before .before .before in
+    (whole-text (c3 .before .before .before .before .pre) (c3 .plan .ensures)) .1
 
 pub answer-spec : {M : Type 1} → statement M
-answer-spec = tie.close (tie.spec plan-requires same-length returns)
+answer-spec = tie.close (tie.spec plan-requires slice-aggregate-result returns)

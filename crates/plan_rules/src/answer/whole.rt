@@ -18,7 +18,11 @@ fn fresh() -> State
         line: 1,
         made: false,
         origin: Origin {
-            ellipsoid: Ellipsoid { a: 0.0, e2: 0.0 },
+            ellipsoid: Ellipsoid {
+                a: 0.0,
+                f: 0.0,
+                e2: 0.0,
+            },
             longitude: 0,
             m0: 0.0,
             false_easting: 0.0,

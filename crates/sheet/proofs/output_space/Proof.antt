@@ -2,10 +2,12 @@
 use mathlib.Core.Path.{sym}
 use Prim.Native.Nat.{ℕ}
 use lib.ListN.{length-replicate}
+use Rattle.listing.specs.Fold.{roomFor}
 use Rattle.sheet.proofs.output_space.Statement.{statement}
 use Rattle.sheet.proofs.output_space.Tie as tie
 
 returns : tie.Need-returns
+unfolding roomFor
 returns c = sym (length-replicate {0} {A = ℕ} 720903 0)
 
 pub output-space-spec : {M : Type 1} → statement M

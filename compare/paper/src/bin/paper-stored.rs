@@ -1,0 +1,64 @@
+//! The stored values of the test of the C header, worked out from the paper: prints tests/c/stored.h.
+//! The inputs are those of tests/c/header.c.
+
+use paper::angle::{self, Origin};
+use paper::{decimal, later, numbers};
+
+const CHAIN: [i64; 26] = [
+    66, 67, 1, 0, 5, 2000000, -1100000, 85100000, 500000, 12500, -8300, 40250, -1350, //
+    84, 0, 5, 2000000, 6, 2006586, -15832, -4363, -9706, 1, 2, 3, 4,
+];
+const ARAU_CHAIN: [i64; 52] = [
+    84, 0, 6, 2000000, 6, 2006586, -15832, -4363, -9706, 0, 0, 0, 0, //
+    86, 0, 6, 2006586, 6, 2010000, -1876, -90, -684, 0, 0, 0, 0, //
+    70, 0, 6, 2010000, 10, 2010000, 0, 0, 0, 0, 0, 0, 0, //
+    86, 0, 10, 2010000, 10, 2020000, -1874, -169, -502, 0, 0, 0, 0,
+];
+const ARAU: [i64; 6] = [1, 6, 2000000, -113105165410, 623631179950, 71174811140];
+const POINT: [i64; 6] = [12, 1, 0, -122145678901, 622012345678, 53876543210];
+const FIRST: &[u8] = b"P\tARAU\t10\t6\t2000000\t-113105165410\t623631179950\t71174811140\n";
+const SECOND: &[u8] = b"P\tARAU\t9\t6\t2000000\t-113105165411\t623631179950\t71174811140\n";
+
+fn main() {
+    let there = numbers::forward(&CHAIN, &POINT).unwrap_or_default();
+    let home = numbers::inverse(&CHAIN, &there).unwrap_or_default();
+    println!(
+        "/* Worked out by compare/paper: cargo run --manifest-path compare/Cargo.toml --bin paper-stored */"
+    );
+    whole("forward", &there);
+    whole("inverse", &home);
+    let arau = numbers::forward(&ARAU_CHAIN, &ARAU).unwrap_or_default();
+    whole("arau_forward", &arau);
+    whole("arau_inverse", &numbers::inverse(&ARAU_CHAIN, &arau).unwrap_or_default());
+    bits("cartesian", &angle::cartesian(2, 1234567890, 36700000123, 456789).unwrap_or_default());
+    whole("cartesian_units", &angle::cartesian_units(2, 1234567890, 36700000123, 456789).unwrap_or_default());
+    let origin = Origin {
+        ellipsoid: 3,
+        latitude: 1440000000,
+        longitude: 36720000000,
+        false_easting: 50000,
+        false_northing: -25000,
+    };
+    bits("cassini", &angle::cassini(&origin, 1445000000, 36800000000).unwrap_or_default());
+    whole(
+        "cassini_millimetres",
+        &angle::cassini_millimetres(&origin, 1445000000, 36800000000).unwrap_or_default(),
+    );
+    whole("rounded", &[decimal::round(-1234.567895, 3).unwrap_or_default()]);
+    let which = |first, second| match later::later(first, second) {
+        Ok(later::Which::First) => 1,
+        Ok(later::Which::Second) => 2,
+        Err(_) => 0,
+    };
+    whole("later", &[which(FIRST, SECOND), which(SECOND, FIRST)]);
+}
+
+fn whole(name: &str, values: &[i64]) {
+    let list: Vec<String> = values.iter().map(i64::to_string).collect();
+    println!("static const int64_t stored_{name}[{}] = {{{}}};", values.len(), list.join(", "));
+}
+
+fn bits(name: &str, values: &[f64]) {
+    let list: Vec<String> = values.iter().map(|x| format!("UINT64_C(0x{:016x})", x.to_bits())).collect();
+    println!("static const uint64_t stored_{name}[{}] = {{{}}};", values.len(), list.join(", "));
+}

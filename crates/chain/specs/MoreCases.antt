@@ -1,0 +1,95 @@
+-- More worked cases beside the ten, worked out by the independent program of compare/: every figure of both ITRF rows, on every axis and at an epoch where its
+-- rate counts; Bursa-Wolf with all seven numbers by either convention; and both ends of the area.
+use mathlib.Core.Path.{_≡_}
+use mathlib.Core.List.{List, [], _∷_, map}
+use lib.IntN.{ℤ, pos}
+use Rattle.refusal.specs.Numbers as refusal
+use Rattle.chain.specs.declared.Position.{Position}
+use Rattle.chain.specs.declared.Convention.{Convention}
+use Rattle.chain.specs.declared.Convention.the-variants.{PositionVector, CoordinateFrame}
+use Rattle.chain.specs.declared.Kind.{Kind}
+use Rattle.chain.specs.declared.Kind.the-variants.{BursaWolf, Frame}
+use Rattle.chain.specs.declared.Answer.{Answer}
+use Rattle.chain.specs.declared.Answer.the-variants.{Converted, Refused}
+use Rattle.chain.specs.Cases.{less, on, xyz, point, shift, Way, forward, inverse, Case, answer, expected, case, a1}
+
+-- ---- conversions
+abbrev bursaWolf : Convention → Kind
+bursaWolf way =
+    BursaWolf
+    (record {
+      convention = way;
+      dx = less 1123456;
+      dy = pos 2234567;
+      dz = less 345678;
+      rx = pos 12345;
+      ry = less 67891;
+      rz = pos 23456;
+      s = less 198765;
+    })
+
+abbrev pub moreCases : List Case
+moreCases =
+    -- ITRF2000 ten years after its epoch, ITRF2008 ten years before it
+    case forward Frame (on 6 2020000) (on 10 2020000) a1 (xyz (less 113105165216) (pos 623631177722) (pos 71174815421))
+    ∷ case inverse Frame (on 6 2020000) (on 10 2020000) a1 (xyz (less 113105165604) (pos 623631182178) (pos 71174806859))
+    ∷ case forward Frame (on 9 2000000) (on 10 2000000) a1 (xyz (less 113105165606) (pos 623631179960) (pos 71174810823))
+    ∷ case inverse Frame (on 9 2000000) (on 10 2000000) a1 (xyz (less 113105165214) (pos 623631179940) (pos 71174811457))
+    -- all seven numbers, by either convention
+    ∷ case forward (bursaWolf PositionVector) (on 1 0) (on 2 0) a1 (xyz (less 113107007502) (pos 623632003737) (pos 71174324955))
+    ∷ case inverse (bursaWolf PositionVector) (on 1 0) (on 2 0) a1 (xyz (less 113103323314) (pos 623630356159) (pos 71175297321))
+    ∷ case forward (bursaWolf CoordinateFrame) (on 1 0) (on 2 0) a1 (xyz (less 113105120603) (pos 623632346176) (pos 71174323028))
+    ∷ case inverse (bursaWolf CoordinateFrame) (on 1 0) (on 2 0) a1 (xyz (less 113105210217) (pos 623630013722) (pos 71175299252))
+    ∷ []
+
+-- ---- the area: its ends are in it, one unit past an end is outside it, and a step of one unit from an end leaves it
+pub record Trial : Type 0 where
+  pub answered : Answer
+  pub wanted : Answer
+
+abbrev pub trial : Answer → Answer → Trial
+trial a w = record { answered = a; wanted = w }
+
+abbrev low : Position
+low = xyz (less 330000000000) (pos 540000000000) (pos 0)
+
+abbrev high : Position
+high = xyz (less 90000000000) (pos 640000000000) (pos 90000000000)
+
+-- a point moved so far on each axis, by a step of datum 8
+abbrev moved : Way → Position → ℤ → ℤ → ℤ → Answer
+moved way p dx dy dz = answer (case way (shift dx dy dz) (on 8 2010000) (on 8 2020000) p p)
+
+abbrev stays : Way → Position → Trial
+stays way p = trial (moved way p (pos 0) (pos 0) (pos 0)) (expected (case way (shift (pos 0) (pos 0) (pos 0)) (on 8 2010000) (on 8 2020000) p p))
+
+abbrev outside : Position → Trial
+outside p = trial (moved forward p (pos 0) (pos 0) (pos 0)) (Refused refusal.area)
+
+abbrev leaves : Way → Position → ℤ → ℤ → ℤ → Trial
+leaves way p dx dy dz = trial (moved way p dx dy dz) (Refused refusal.left)
+
+abbrev pub areaCases : List Trial
+areaCases =
+    stays forward low
+    ∷ stays forward high
+    ∷ stays inverse low
+    ∷ stays inverse high
+    ∷ outside (xyz (less 330000000001) (pos 540000000000) (pos 0))
+    ∷ outside (xyz (less 330000000000) (pos 539999999999) (pos 0))
+    ∷ outside (xyz (less 330000000000) (pos 540000000000) (less 1))
+    ∷ outside (xyz (less 89999999999) (pos 640000000000) (pos 90000000000))
+    ∷ outside (xyz (less 90000000000) (pos 640000000000) (pos 90000000001))
+    ∷ leaves forward low (less 1) (pos 0) (pos 0)
+    ∷ leaves forward low (pos 0) (less 1) (pos 0)
+    ∷ leaves forward low (pos 0) (pos 0) (less 1)
+    ∷ leaves forward high (pos 1) (pos 0) (pos 0)
+    ∷ leaves forward high (pos 0) (pos 1) (pos 0)
+    ∷ leaves forward high (pos 0) (pos 0) (pos 1)
+    ∷ leaves inverse low (pos 1) (pos 0) (pos 0)
+    ∷ leaves inverse high (pos 0) (less 1) (pos 0)
+    ∷ []
+
+pub record MoreCases : Type 0 where
+  pub conversions : map answer moreCases ≡ map expected moreCases
+  pub area : map (λ (t : Trial). t .answered) areaCases ≡ map (λ (t : Trial). t .wanted) areaCases

@@ -1,0 +1,101 @@
+-- The order of refusals by value: a case for each place in the order, in which that test fails and every later one that can.
+use mathlib.Core.Path.{_≡_}
+use mathlib.Core.List.{List, [], _∷_, map}
+use lib.IntN.{ℤ, pos}
+use lib.ListN.{replicate}
+use Rattle.refusal.specs.Numbers as refusal
+use Rattle.chain.specs.declared.Position.{Position}
+use Rattle.chain.specs.declared.Realization.{Realization}
+use Rattle.chain.specs.declared.Point.{Point}
+use Rattle.chain.specs.declared.Kind.{Kind}
+use Rattle.chain.specs.declared.Step.{Step}
+use Rattle.chain.specs.declared.Answer.{Answer}
+use Rattle.chain.specs.declared.Answer.the-variants.{Refused}
+use Rattle.chain.specs.Convert.{forwardOf, inverseOf}
+use Rattle.chain.specs.Prepared.{chainOf}
+use Rattle.chain.specs.Cases.{less, on, xyz, shift, velocity, a1}
+use Rattle.chain.specs.MoreCases.{Trial, trial}
+
+abbrev step : Kind → Realization → Realization → Step
+step kind r a = record { kind = kind; before = r; after = a }
+
+abbrev point : ℤ → Realization → Position → Point
+point issue r p = record { id = record { high = 0x4131_0000_0000_0000; low = 0 }; issue = issue; realization = r; position = p }
+
+-- ---- steps: one that is refused for nothing, and velocities with ever fewer faults
+abbrev good : Step
+good = step (shift (pos 0) (pos 0) (pos 0)) (on 8 2010000) (on 8 2020000)
+
+-- out of range, epoch 2010000 for datum 1, another datum after, and it joins nothing
+abbrev outOfRange : Step
+outOfRange = step (velocity (pos 10001) (pos 0) (pos 0)) (on 1 2010000) (on 2 0)
+
+abbrev wrongEpoch : Step
+wrongEpoch = step (velocity (pos 10000) (pos 0) (pos 0)) (on 1 2010000) (on 2 0)
+
+abbrev wrongKind : Step
+wrongKind = step (velocity (pos 10000) (pos 0) (pos 0)) (on 7 2020000) (on 6 2010000)
+
+abbrev joinsNothing : Step
+joinsNothing = step (velocity (pos 10000) (pos 0) (pos 0)) (on 7 2020000) (on 7 2010000)
+
+-- a hundred thousand units east: out of the area from its eastern end
+abbrev away : Step
+away = step (shift (pos 100000) (pos 0) (pos 0)) (on 8 2010000) (on 8 2020000)
+
+-- ---- points, with ever fewer faults
+abbrev outside : Position
+outside = xyz (pos 0) (pos 0) (pos 0)
+
+abbrev outOfRangeToo : Point
+outOfRangeToo = point (pos 0) (on 1 2010000) outside
+
+abbrev wrongEpochToo : Point
+wrongEpochToo = point (pos 1) (on 1 2010000) outside
+
+abbrev elsewhere : Point
+elsewhere = point (pos 1) (on 7 2010000) outside
+
+-- at datum 8 and epoch e
+abbrev far : ℤ → Point
+far e = point (pos 1) (record { datum = pos 8; epoch = e }) outside
+
+abbrev atEnd : ℤ → ℤ → Point
+atEnd e x = point (pos 1) (record { datum = pos 8; epoch = e }) (xyz x (pos 600000000000) (pos 50000000000))
+
+-- ---- the order, by either way over the chain
+abbrev over : List Step → Point → Answer
+over ss p = forwardOf (chainOf ss) p
+
+abbrev back : List Step → Point → Answer
+back ss p = inverseOf (chainOf ss) p
+
+abbrev pub orderCases : List Trial
+orderCases =
+    trial (over (replicate 9 outOfRange) outOfRangeToo) (Refused refusal.ninth)
+    ∷ trial (over (good ∷ outOfRange ∷ wrongEpoch ∷ []) outOfRangeToo) (Refused refusal.range)
+    ∷ trial (over (good ∷ wrongEpoch ∷ outOfRange ∷ []) outOfRangeToo) (Refused refusal.epoch)
+    ∷ trial (over (good ∷ wrongKind ∷ outOfRange ∷ []) outOfRangeToo) (Refused refusal.kind)
+    ∷ trial (over (good ∷ joinsNothing ∷ outOfRange ∷ []) outOfRangeToo) (Refused refusal.join)
+    ∷ trial (over (away ∷ []) outOfRangeToo) (Refused refusal.range)
+    ∷ trial (over (away ∷ []) wrongEpochToo) (Refused refusal.epoch)
+    ∷ trial (over (away ∷ []) elsewhere) (Refused refusal.start)
+    ∷ trial (over (away ∷ []) (far (pos 2010000))) (Refused refusal.area)
+    ∷ trial (over (away ∷ []) (atEnd (pos 2010000) (less 90000000000))) (Refused refusal.left)
+    ∷ trial (back (replicate 9 outOfRange) outOfRangeToo) (Refused refusal.ninth)
+    ∷ trial (back (good ∷ outOfRange ∷ wrongEpoch ∷ []) outOfRangeToo) (Refused refusal.range)
+    ∷ trial (back (good ∷ wrongEpoch ∷ outOfRange ∷ []) outOfRangeToo) (Refused refusal.epoch)
+    ∷ trial (back (good ∷ wrongKind ∷ outOfRange ∷ []) outOfRangeToo) (Refused refusal.kind)
+    ∷ trial (back (good ∷ joinsNothing ∷ outOfRange ∷ []) outOfRangeToo) (Refused refusal.join)
+    ∷ trial (back (away ∷ []) outOfRangeToo) (Refused refusal.range)
+    ∷ trial (back (away ∷ []) wrongEpochToo) (Refused refusal.epoch)
+    ∷ trial (back (away ∷ []) (far (pos 2010000))) (Refused refusal.start)
+    ∷ trial (back (away ∷ []) (far (pos 2020000))) (Refused refusal.area)
+    ∷ trial (back (away ∷ []) (atEnd (pos 2020000) (less 330000000000))) (Refused refusal.left)
+    -- the empty chain starts wherever the point is: the area decides
+    ∷ trial (over [] (far (pos 2010000))) (Refused refusal.area)
+    ∷ trial (back [] (far (pos 2010000))) (Refused refusal.area)
+    ∷ []
+
+abbrev pub OrderCases : Type 0
+OrderCases = map (λ (t : Trial). t .answered) orderCases ≡ map (λ (t : Trial). t .wanted) orderCases

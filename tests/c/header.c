@@ -1,0 +1,232 @@
+/* Every function of include/swivelcrane.h, called with arguments of which no two could change places unseen, and held to stored.h, which the
+ * independent program worked out; the texts at the end are document 01's lines, with refusals worked out by hand. A refusal and a wrong length write nothing. */
+#include <stdio.h>
+#include <string.h>
+
+#include "swivelcrane.h"
+#include "stored.h"
+
+#define STEP SWIVELCRANE_STEP_NUMBERS
+#define POINT SWIVELCRANE_POINT_NUMBERS
+#define CANARY INT64_C(-7777777777777)
+#define PLACES 8
+
+static int faults;
+
+static void hold(int good, const char *what) {
+    if (!good) {
+        printf("tests/c: %s\n", what);
+        faults++;
+    }
+}
+
+static int64_t out[PLACES];
+static double reals[PLACES];
+
+static void clear(void) {
+    for (size_t i = 0; i < PLACES; i++) {
+        out[i] = CANARY;
+        reals[i] = (double)CANARY;
+    }
+}
+
+/* The places from there on are as they were. */
+static int untouched(size_t from) {
+    for (size_t i = from; i < PLACES; i++)
+        if (out[i] != CANARY || reals[i] != (double)CANARY)
+            return 0;
+    return 1;
+}
+
+static void wrote(int64_t answer, const int64_t *stored, size_t count, const char *what) {
+    hold(answer == 0 && memcmp(out, stored, count * sizeof *stored) == 0, what);
+    for (size_t i = 0; i < count; i++)
+        out[i] = CANARY;
+    hold(untouched(0), what);
+    clear();
+}
+
+static void wrote_reals(int64_t answer, const uint64_t *stored, size_t count, const char *what) {
+    hold(answer == 0 && memcmp(reals, stored, count * sizeof *stored) == 0, what);
+    for (size_t i = 0; i < count; i++)
+        reals[i] = (double)CANARY;
+    hold(untouched(0), what);
+    clear();
+}
+
+static void refused(int64_t answer, int64_t number, const char *what) {
+    hold(answer == number && untouched(0), what);
+    clear();
+}
+
+/* kind, convention, datum and epoch before, after, and seven numbers that are all different */
+static const int64_t chain[2 * STEP] = {
+    'B', 'C', 1, 0,       5, 2000000, -1100000, 85100000, 500000, 12500, -8300, 40250, -1350,
+    'T', 0,   5, 2000000, 6, 2006586, -15832,   -4363,    -9706,  1,     2,     3,     4,
+};
+static const int64_t point[POINT] = {12, 1, 0, -122145678901, 622012345678, 53876543210};
+static const int64_t arau_chain[4 * STEP] = {
+    'T', 0, 6,  2000000, 6,  2006586, -15832, -4363, -9706, 0, 0, 0, 0,
+    'V', 0, 6,  2006586, 6,  2010000, -1876,  -90,   -684,  0, 0, 0, 0,
+    'F', 0, 6,  2010000, 10, 2010000, 0,      0,     0,     0, 0, 0, 0,
+    'V', 0, 10, 2010000, 10, 2020000, -1874,  -169,  -502,  0, 0, 0, 0,
+};
+static const int64_t arau[POINT] = {1, 6, 2000000, -113105165410, 623631179950, 71174811140};
+
+static void conversions(void) {
+    wrote(swivelcrane_forward(chain, 2 * STEP, point, POINT, out, POINT), stored_forward, POINT, "forward");
+    wrote(swivelcrane_inverse(chain, 2 * STEP, stored_forward, POINT, out, POINT), stored_inverse, POINT, "inverse");
+    wrote(swivelcrane_forward(arau_chain, 4 * STEP, arau, POINT, out, POINT), stored_arau_forward, POINT, "forward, ARAU");
+    wrote(swivelcrane_inverse(arau_chain, 4 * STEP, stored_arau_forward, POINT, out, POINT), stored_arau_inverse, POINT, "inverse, ARAU");
+    wrote(swivelcrane_forward(chain, 0, point, POINT, out, POINT), point, POINT, "forward, no step");
+    wrote(swivelcrane_inverse(chain, 0, point, POINT, out, POINT), point, POINT, "inverse, no step");
+}
+
+/* One number of the chain or of the point changed, both ways: the point of the inverse is at the chain's end. */
+static void changed(size_t step_place, int64_t step_number, size_t point_place, int64_t point_number, int64_t number, const char *what) {
+    int64_t steps[2 * STEP], there[POINT], home[POINT];
+    memcpy(steps, chain, sizeof chain);
+    memcpy(there, point, sizeof point);
+    memcpy(home, stored_forward, sizeof home);
+    steps[step_place] = step_number;
+    there[point_place] = point_number;
+    home[point_place] = point_number;
+    refused(swivelcrane_forward(steps, 2 * STEP, there, POINT, out, POINT), number, what);
+    refused(swivelcrane_inverse(steps, 2 * STEP, home, POINT, out, POINT), number, what);
+}
+
+static void refused_conversions(void) {
+    static int64_t nine[9 * STEP];
+    changed(0, 'X', 0, 12, SWIVELCRANE_REFUSAL_RANGE, "a kind that there is not: 2");
+    changed(6, 100000001, 0, 12, SWIVELCRANE_REFUSAL_RANGE, "a shift out of range: 2");
+    changed(3, 2000000, 0, 12, SWIVELCRANE_REFUSAL_EPOCH, "MRT68 with an epoch: 3");
+    changed(STEP, 'F', 0, 12, SWIVELCRANE_REFUSAL_KIND, "a frame step that is not to datum 10: 4");
+    changed(STEP + 3, 2000001, 0, 12, SWIVELCRANE_REFUSAL_JOIN, "a step that doesn't join: 5");
+    changed(0, 'B', 0, 0, SWIVELCRANE_REFUSAL_RANGE, "issue 0: 2");
+    changed(0, 'B', 2, 2100001, SWIVELCRANE_REFUSAL_RANGE, "an epoch out of range: 2");
+    refused(swivelcrane_forward(chain, 2 * STEP, stored_forward, POINT, out, POINT), SWIVELCRANE_REFUSAL_START, "a point at the chain's end: 9");
+    refused(swivelcrane_inverse(chain, 2 * STEP, point, POINT, out, POINT), SWIVELCRANE_REFUSAL_START, "a point at the chain's start: 9");
+    changed(0, 'B', 5, 90000000001, SWIVELCRANE_REFUSAL_AREA, "north of the area: 10");
+    changed(0, 'B', 5, -1, SWIVELCRANE_REFUSAL_AREA, "south of the area: 10");
+    refused(swivelcrane_forward(nine, 9 * STEP, point, POINT, out, POINT), SWIVELCRANE_REFUSAL_NINTH, "nine steps: 6");
+    refused(swivelcrane_inverse(nine, 9 * STEP, point, POINT, out, POINT), SWIVELCRANE_REFUSAL_NINTH, "nine steps back: 6");
+    refused(swivelcrane_forward(chain, 2 * STEP - 1, point, POINT, out, POINT), SWIVELCRANE_WRONG_LENGTH, "a part of a step");
+    refused(swivelcrane_inverse(chain, 2 * STEP - 1, point, POINT, out, POINT), SWIVELCRANE_WRONG_LENGTH, "a part of a step back");
+    refused(swivelcrane_forward(chain, 2 * STEP, point, POINT - 1, out, POINT), SWIVELCRANE_WRONG_LENGTH, "five numbers to a point");
+    refused(swivelcrane_inverse(chain, 2 * STEP, point, POINT - 1, out, POINT), SWIVELCRANE_WRONG_LENGTH, "five numbers back");
+    refused(swivelcrane_forward(chain, 2 * STEP, point, POINT, out, POINT + 1), SWIVELCRANE_WRONG_LENGTH, "room for seven");
+    refused(swivelcrane_inverse(chain, 2 * STEP, point, POINT, out, POINT + 1), SWIVELCRANE_WRONG_LENGTH, "room for seven back");
+}
+
+/* The shift to the north leaves the area: Z is 0 to 90,000,000,000. */
+static void leaves_the_area(void) {
+    static const int64_t shift[STEP] = {'T', 0, 5, 2000000, 6, 2006586, 0, 0, 100000000, 0, 0, 0, 0};
+    static const int64_t south[POINT] = {1, 5, 2000000, -122145678901, 622012345678, 89900000001};
+    static const int64_t north[POINT] = {1, 6, 2006586, -122145678901, 622012345678, 99999999};
+    refused(swivelcrane_forward(shift, STEP, south, POINT, out, POINT), SWIVELCRANE_REFUSAL_LEFT, "left the area: 11");
+    refused(swivelcrane_inverse(shift, STEP, north, POINT, out, POINT), SWIVELCRANE_REFUSAL_LEFT, "left the area on the way back: 11");
+}
+
+static void geodetic(void) {
+    wrote_reals(swivelcrane_cartesian(2, 1234567890, 36700000123, 456789, reals, 3), stored_cartesian, 3, "cartesian");
+    wrote(swivelcrane_cartesian_units(2, 1234567890, 36700000123, 456789, out, 3), stored_cartesian_units, 3, "cartesian_units");
+    refused(swivelcrane_cartesian(5, 1234567890, 36700000123, 456789, reals, 3), SWIVELCRANE_REFUSAL_RANGE, "ellipsoid 5: 2");
+    refused(swivelcrane_cartesian_units(0, 1234567890, 36700000123, 456789, out, 3), SWIVELCRANE_REFUSAL_RANGE, "ellipsoid 0: 2");
+    refused(swivelcrane_cartesian(2, -1, 36700000123, 456789, reals, 3), SWIVELCRANE_REFUSAL_GEODETIC, "a latitude below 0: 12");
+    refused(swivelcrane_cartesian_units(2, 1234567890, 43200000001, 456789, out, 3), SWIVELCRANE_REFUSAL_GEODETIC, "too far east: 12");
+    refused(swivelcrane_cartesian(2, 1234567890, 36700000123, 456789, reals, 2), SWIVELCRANE_WRONG_LENGTH, "cartesian, room for two");
+    refused(swivelcrane_cartesian_units(2, 1234567890, 36700000123, 456789, out, 4), SWIVELCRANE_WRONG_LENGTH, "cartesian_units, room for four");
+}
+
+static void grid(void) {
+    wrote_reals(swivelcrane_cassini(3, 1440000000, 36720000000, 50000, -25000, 1445000000, 36800000000, reals, 2), stored_cassini, 2, "cassini");
+    wrote(swivelcrane_cassini_millimetres(3, 1440000000, 36720000000, 50000, -25000, 1445000000, 36800000000, out, 2), stored_cassini_millimetres, 2,
+          "cassini_millimetres");
+    refused(swivelcrane_cassini(5, 1440000000, 36720000000, 50000, -25000, 1445000000, 36800000000, reals, 2), SWIVELCRANE_REFUSAL_RANGE, "cassini: 2");
+    refused(swivelcrane_cassini_millimetres(3, 1440000000, 36720000000, 50000, -2000000001, 1445000000, 36800000000, out, 2), SWIVELCRANE_REFUSAL_RANGE,
+            "false northing: 2");
+    refused(swivelcrane_cassini(3, 1440000000, 36720000000, 50000, -25000, 2880000001, 36800000000, reals, 2), SWIVELCRANE_REFUSAL_GEODETIC, "cassini: 12");
+    refused(swivelcrane_cassini_millimetres(3, 2880000001, 36720000000, 50000, -25000, 1445000000, 36800000000, out, 2), SWIVELCRANE_REFUSAL_GEODETIC,
+            "cassini_millimetres: 12");
+    refused(swivelcrane_cassini(3, 1440000000, 36720000000, 50000, -25000, 1445000000, 38160000001, reals, 2), SWIVELCRANE_REFUSAL_APART, "cassini: 13");
+    refused(swivelcrane_cassini_millimetres(3, 1440000000, 38160000001, 50000, -25000, 1445000000, 36720000000, out, 2), SWIVELCRANE_REFUSAL_APART,
+            "cassini_millimetres: 13");
+    refused(swivelcrane_cassini(3, 1440000000, 36720000000, 50000, -25000, 1445000000, 36800000000, reals, 3), SWIVELCRANE_WRONG_LENGTH, "cassini: length");
+    refused(swivelcrane_cassini_millimetres(3, 1440000000, 36720000000, 50000, -25000, 1445000000, 36800000000, out, 1), SWIVELCRANE_WRONG_LENGTH,
+            "cassini_millimetres: length");
+}
+
+static void rounding(void) {
+    wrote(swivelcrane_round(-1234.567895, 3, out, 1), stored_rounded, 1, "round");
+    refused(swivelcrane_round(1.0, 6, out, 1), SWIVELCRANE_REFUSAL_RANGE, "six places: 2");
+    refused(swivelcrane_round(10000000.0, 0, out, 1), SWIVELCRANE_REFUSAL_SIZE, "10,000,000: 14");
+    refused(swivelcrane_round(1.0, 5, out, 0), SWIVELCRANE_WRONG_LENGTH, "round, no room");
+}
+
+#define TEXT(s) (const uint8_t *)(s), sizeof(s) - 1
+#define FIRST "P\tARAU\t10\t6\t2000000\t-113105165410\t623631179950\t71174811140\n"
+#define SECOND "P\tARAU\t9\t6\t2000000\t-113105165411\t623631179950\t71174811140\n"
+
+static void later(void) {
+    wrote(swivelcrane_later(TEXT(FIRST), TEXT(SECOND), out, 1), stored_later, 1, "later, the first");
+    wrote(swivelcrane_later(TEXT(SECOND), TEXT(FIRST), out, 1), stored_later + 1, 1, "later, the second");
+    refused(swivelcrane_later(TEXT(FIRST), TEXT("P\tARAU\n"), out, 1), SWIVELCRANE_REFUSAL_FORM, "later: 1");
+    refused(swivelcrane_later(TEXT("P\tA\t0\t6\t2000000\t1\t2\t3\n"), TEXT("P\n"), out, 1), SWIVELCRANE_REFUSAL_RANGE, "later: 2, the first before the second");
+    refused(swivelcrane_later(TEXT("P\tA\t1\t6\t0\t1\t2\t3\n"), TEXT(SECOND), out, 1), SWIVELCRANE_REFUSAL_EPOCH, "later: 3");
+    refused(swivelcrane_later(TEXT(FIRST), TEXT("P\tA\t1\t6\t2000000\t1\t2\t3\n"), out, 1), SWIVELCRANE_REFUSAL_IDS, "later: 16");
+    refused(swivelcrane_later(TEXT(FIRST), TEXT("P\tARAU\t10\t6\t2000000\t1\t2\t3\n"), out, 1), SWIVELCRANE_REFUSAL_SAME, "later: 17");
+    refused(swivelcrane_later(TEXT(FIRST), TEXT(SECOND), out, 2), SWIVELCRANE_WRONG_LENGTH, "later, room for two");
+}
+
+typedef int64_t printer(const uint8_t *, size_t, uint8_t *, size_t);
+static uint8_t text[SWIVELCRANE_ROOM(65536) + 2];
+
+/* With the room that the macro says the text comes whole and nothing past it is touched; with one byte less, nothing is. */
+static void prints(printer *program, const uint8_t *input, size_t length, const char *stored, const char *what) {
+    const size_t room = SWIVELCRANE_ROOM(length), size = strlen(stored);
+    memset(text, 0xA5, sizeof text);
+    hold(program(input, length, text, room - 1) == -SWIVELCRANE_WRONG_LENGTH && text[0] == 0xA5 && memcmp(text, text + 1, sizeof text - 1) == 0, what);
+    hold(program(input, length, text, room) == (int64_t)size && memcmp(text, stored, size) == 0, what);
+    hold(text[size] == 0xA5 && memcmp(text + size, text + size + 1, sizeof text - size - 1) == 0, what);
+}
+
+#define SHIFT "S\tT\t6\t2000000\t6\t2006586\t-15832\t-4363\t-9706\n"
+#define A1 "P\tA1\t1\t6\t2000000\t-113105165410\t623631179950\t71174811140\n"
+#define ORIGIN "O\t1\t1440000000\t36720000000\t50000\t-25000\n"
+
+static void programs(void) {
+    static uint8_t longest[65537];
+    memset(longest, '\n', sizeof longest);
+    prints(swivelcrane_sheet, TEXT(SHIFT A1 SHIFT A1), "P\tA1\t1\t6\t2006586\t-113105181242\t623631175587\t71174801434\nR\t3\t7\nR\t4\t8\n", "sheet");
+    prints(swivelcrane_plan, TEXT(ORIGIN "G\tB1\t1440000000\t36720000000\n" ORIGIN), "C\tB1\t50000\t-25000\nR\t3\t7\n", "plan");
+    prints(swivelcrane_sheet, TEXT("G\tB1\t1440000000\t36720000000\n"), "R\t1\t1\n", "a position in a sheet");
+    prints(swivelcrane_plan, TEXT(A1), "R\t1\t1\n", "a point in a plan");
+    prints(swivelcrane_sheet, longest, sizeof longest, "R\t0\t15\n", "a sheet that is too long");
+    prints(swivelcrane_plan, longest, sizeof longest, "R\t0\t15\n", "a plan that is too long");
+    prints(swivelcrane_sheet, longest, 0, "", "an empty sheet");
+    prints(swivelcrane_plan, longest, 0, "", "an empty plan");
+}
+
+static void numbers(void) {
+    hold(SWIVELCRANE_ROOM(0) == 7 && SWIVELCRANE_ROOM(1 + 1) == 29 && SWIVELCRANE_ROOM(65535) == 720892, "the room");
+    hold(SWIVELCRANE_ROOM(65536) == 720903 && SWIVELCRANE_ROOM(65537) == 720903, "the most room");
+    hold(STEP == 13 && POINT == 6 && SWIVELCRANE_WRONG_LENGTH == 255, "numbers to a step, to a point, a wrong length");
+    hold(SWIVELCRANE_VERSION_MAJOR == 1 && SWIVELCRANE_VERSION_MINOR == 0, "the version");
+    hold(SWIVELCRANE_REFUSAL_PLACE == 7 && SWIVELCRANE_REFUSAL_EARLIER == 8 && SWIVELCRANE_REFUSAL_LONG == 15, "the numbers that only a text has");
+}
+
+int main(void) {
+    clear();
+    numbers();
+    conversions();
+    refused_conversions();
+    leaves_the_area();
+    geodetic();
+    grid();
+    rounding();
+    later();
+    programs();
+    if (faults == 0)
+        printf("tests/c: every function of the header answers as stored\n");
+    return faults != 0;
+}

@@ -211,7 +211,7 @@ static void numbers(void) {
     hold(SWIVELCRANE_ROOM(0) == 7 && SWIVELCRANE_ROOM(1 + 1) == 29 && SWIVELCRANE_ROOM(65535) == 720892, "the room");
     hold(SWIVELCRANE_ROOM(65536) == 720903 && SWIVELCRANE_ROOM(65537) == 720903, "the most room");
     hold(STEP == 13 && POINT == 6 && SWIVELCRANE_WRONG_LENGTH == 255, "numbers to a step, to a point, a wrong length");
-    hold(SWIVELCRANE_VERSION_MAJOR == 1 && SWIVELCRANE_VERSION_MINOR == 0, "the version");
+    hold(SWIVELCRANE_VERSION_MAJOR == 1 && SWIVELCRANE_VERSION_MINOR == 1, "the version");
     hold(SWIVELCRANE_REFUSAL_PLACE == 7 && SWIVELCRANE_REFUSAL_EARLIER == 8 && SWIVELCRANE_REFUSAL_LONG == 15, "the numbers that only a text has");
 }
 

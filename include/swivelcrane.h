@@ -1,4 +1,4 @@
-/* Swivelcrane for C: datum steps, geodetic to Cartesian, Cassini grids, exact rounding, the later of two point lines,
+/* Swivelcrane for C: datum steps, geodetic to Cartesian, Cassini grids, RSO, exact rounding, the later of two point lines,
  * and whole sheets and plans. Link with target/staticlib/libcapi.a, which `rt staticlib capi` proves and builds.
  *
  * Units. Cartesian coordinates and heights: whole units of 0.00001 m. Latitudes and longitudes: whole units of 0.00001".
@@ -23,7 +23,7 @@ extern "C" {
 
 /* The version of this interface: a function or a number that is added raises the minor, any other change the major. */
 #define SWIVELCRANE_VERSION_MAJOR 1
-#define SWIVELCRANE_VERSION_MINOR 0
+#define SWIVELCRANE_VERSION_MINOR 1
 
 /* The refusal numbers by name; README.md says of each what to do. */
 enum swivelcrane_refusal {
@@ -43,7 +43,8 @@ enum swivelcrane_refusal {
     SWIVELCRANE_REFUSAL_SIZE = 14,     /* an f64 that is not finite, or is 10,000,000 or more in size */
     SWIVELCRANE_REFUSAL_LONG = 15,     /* input that is too long: only in the text of a sheet or a plan */
     SWIVELCRANE_REFUSAL_IDS = 16,      /* two point lines with different ids */
-    SWIVELCRANE_REFUSAL_SAME = 17      /* two point lines with one issue and different bytes */
+    SWIVELCRANE_REFUSAL_SAME = 17,     /* two point lines with one issue and different bytes */
+    SWIVELCRANE_REFUSAL_PLANE = 23     /* an easting or northing not finite, or 10,000,000 m or more in size */
 };
 
 /* An array has not the number of elements that its call asks for. It comes before every refusal. */
@@ -87,6 +88,21 @@ int64_t swivelcrane_cassini(int64_t ellipsoid, int64_t origin_latitude, int64_t 
 int64_t swivelcrane_cassini_millimetres(int64_t ellipsoid, int64_t origin_latitude, int64_t origin_longitude,
                                         int64_t false_easting, int64_t false_northing, int64_t latitude,
                                         int64_t longitude, int64_t *out, size_t out_length);
+
+/* Numbers to an RSO projection (Hotine oblique Mercator, variant A), in this order, with what is allowed:
+ *   0  ellipsoid, 1 to 4   1  the centre's latitude, 360,000,000 to 2,880,000,000   2  the centre's longitude, 35,640,000,000 to
+ *   43,200,000,000   3  azimuth   4  rectified angle (each 10,800,000,000 to 21,600,000,000, or 108,000,000,000 to
+ *   118,800,000,000 and then used less a full turn)   5  scale in 10^-11, 99,000,000,000 to 101,000,000,000
+ *   6  false easting   7  false northing (mm, within 2,000,000,000) */
+#define SWIVELCRANE_RSO_NUMBERS 8
+
+/* RSO, forward: easting and northing in metres. out has 2 elements. Refusals: 2 (any parameter), 12 (latitude, longitude). */
+int64_t swivelcrane_rso_forward(const int64_t *parameters, size_t parameters_length, int64_t latitude, int64_t longitude,
+                                double *out, size_t out_length);
+/* RSO, reverse: latitude and longitude. out has 2 elements. Refusals: 2 (any parameter), 23 (easting or northing 10,000,000 m or
+ * more in size, or not finite), 12 (a result out of its range: the far side of the earth too). */
+int64_t swivelcrane_rso_reverse(const int64_t *parameters, size_t parameters_length, double easting, double northing,
+                                int64_t *out, size_t out_length);
 
 /* The whole number nearest to the exact value of x times ten to the places (0 to 5), a half away from zero. out has 1
  * element. Refusals: 2 (places), 14 (x not finite, or 10,000,000 or more in size). */

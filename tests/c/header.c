@@ -165,6 +165,36 @@ static void to_angles(void) {
     refused(swivelcrane_geodetic(2, -131769233712, 622894736791, 37897691636, out, 4), SWIVELCRANE_WRONG_LENGTH, "geodetic, room for four");
 }
 
+/* ellipsoid, centre's latitude and longitude, azimuth, rectified angle, scale, false easting and northing: all different */
+static const int64_t projection[8] = {3, 1234567890, 39876543210, 112345678901, 15432109876, 100123456789, -1234567890, 987654321};
+
+/* The eight numbers with one changed, both ways. */
+static void changed_projection(size_t place, int64_t number, const char *what) {
+    int64_t parameters[8];
+    memcpy(parameters, projection, sizeof projection);
+    parameters[place] = number;
+    refused(swivelcrane_rso_forward(parameters, 8, 2345678901, 38765432109, reals, 2), SWIVELCRANE_REFUSAL_RANGE, what);
+    refused(swivelcrane_rso_reverse(parameters, 8, 1e300, 0.0, out, 2), SWIVELCRANE_REFUSAL_RANGE, what);
+}
+
+static void oblique_mercator(void) {
+    double metres[2];
+    memcpy(metres, stored_rso_forward, sizeof metres);
+    wrote_reals(swivelcrane_rso_forward(projection, 8, 2345678901, 38765432109, reals, 2), stored_rso_forward, 2, "rso_forward");
+    wrote(swivelcrane_rso_reverse(projection, 8, metres[0], metres[1], out, 2), stored_rso_reverse, 2, "rso_reverse");
+    changed_projection(0, 5, "RSO, ellipsoid 5: 2");
+    changed_projection(1, 359999999, "RSO, a centre south of 1 degree: 2");
+    changed_projection(3, 112345678901 - 129600000000, "RSO, an azimuth below 0: 2");
+    changed_projection(5, 101000000001, "RSO, the scale: 2");
+    refused(swivelcrane_rso_forward(projection, 8, 2880000001, 38765432109, reals, 2), SWIVELCRANE_REFUSAL_GEODETIC, "RSO, too far north: 12");
+    refused(swivelcrane_rso_reverse(projection, 8, metres[0], 10000000.0, out, 2), 23, "RSO, 10,000,000 m: 23");
+    refused(swivelcrane_rso_reverse(projection, 8, metres[0], 9999999.0, out, 2), SWIVELCRANE_REFUSAL_GEODETIC, "RSO, a metre less: 12");
+    refused(swivelcrane_rso_forward(projection, 7, 2345678901, 38765432109, reals, 2), SWIVELCRANE_WRONG_LENGTH, "RSO, seven parameters");
+    refused(swivelcrane_rso_reverse(projection, 7, metres[0], metres[1], out, 2), SWIVELCRANE_WRONG_LENGTH, "RSO, seven parameters back");
+    refused(swivelcrane_rso_forward(projection, 8, 2345678901, 38765432109, reals, 3), SWIVELCRANE_WRONG_LENGTH, "rso_forward, room for three");
+    refused(swivelcrane_rso_reverse(projection, 8, metres[0], metres[1], out, 1), SWIVELCRANE_WRONG_LENGTH, "rso_reverse, room for one");
+}
+
 static void rounding(void) {
     wrote(swivelcrane_round(-1234.567895, 3, out, 1), stored_rounded, 1, "round");
     refused(swivelcrane_round(1.0, 6, out, 1), SWIVELCRANE_REFUSAL_RANGE, "six places: 2");
@@ -220,7 +250,7 @@ static void numbers(void) {
     hold(SWIVELCRANE_ROOM(0) == 7 && SWIVELCRANE_ROOM(1 + 1) == 29 && SWIVELCRANE_ROOM(65535) == 720892, "the room");
     hold(SWIVELCRANE_ROOM(65536) == 720903 && SWIVELCRANE_ROOM(65537) == 720903, "the most room");
     hold(STEP == 13 && POINT == 6 && SWIVELCRANE_WRONG_LENGTH == 255, "numbers to a step, to a point, a wrong length");
-    hold(SWIVELCRANE_VERSION_MAJOR == 1 && SWIVELCRANE_VERSION_MINOR == 0, "the version");
+    hold(SWIVELCRANE_VERSION_MAJOR == 1 && SWIVELCRANE_VERSION_MINOR == 1, "the version");
     hold(SWIVELCRANE_REFUSAL_PLACE == 7 && SWIVELCRANE_REFUSAL_EARLIER == 8 && SWIVELCRANE_REFUSAL_LONG == 15, "the numbers that only a text has");
 }
 
@@ -233,6 +263,7 @@ int main(void) {
     geodetic();
     to_angles();
     grid();
+    oblique_mercator();
     rounding();
     later();
     programs();

@@ -8,5 +8,7 @@ static const int64_t stored_cartesian_units[3] = {-131769233712, 622894736791, 3
 static const int64_t stored_geodetic[3] = {1234567890, 36700000123, 456789};
 static const uint64_t stored_cassini[2] = {UINT64_C(0x40d8250a826098bf), UINT64_C(0x4097a8424972f334)};
 static const int64_t stored_cassini_millimetres[2] = {24724164, 1514065};
+static const uint64_t stored_rso_forward[2] = {UINT64_C(0xc11eac6007ba0f2c), UINT64_C(0x413a8ad6f22e13fe)};
+static const int64_t stored_rso_reverse[2] = {2345678901, 38765432109};
 static const int64_t stored_rounded[1] = {-1234568};
 static const int64_t stored_later[2] = {1, 2};

@@ -15,6 +15,7 @@ pub const ANGLE: u8 = 12;
 pub const APART: u8 = 13;
 pub const IDS: u8 = 16;
 pub const SAME_ISSUE: u8 = 17;
+pub const PROJECTED: u8 = 23;
 
 #[derive(Clone, Copy, PartialEq, Eq, Debug)]
 pub struct Place {

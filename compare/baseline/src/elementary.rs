@@ -1,4 +1,4 @@
-//! The polynomials and the functions over them: sine and cosine, root and arctangent.
+//! The polynomials and the functions over them: sine, cosine, root, arctangent, and their hyperbolic kin.
 
 pub(crate) const K: f64 = 4.84813681109536e-11;
 /// Seconds in a radian, with the digits of docs/ORDERS.md.
@@ -71,4 +71,40 @@ pub(crate) fn root(x: f64) -> f64 {
 #[inline]
 pub(crate) fn arctan_small(x: f64) -> f64 {
     horner(&ATAN, x * x) * x
+}
+
+#[inline]
+pub(crate) fn arctangent(x: f64) -> f64 {
+    2.0 * arctan_small(x / (1.0 + root(1.0 + x * x)))
+}
+
+#[inline]
+pub(crate) fn arcsine(x: f64) -> f64 {
+    2.0 * arctan_small(x / (1.0 + root(1.0 - x * x)))
+}
+
+#[inline]
+pub(crate) fn sinh(x: f64) -> f64 {
+    horner(&SIN, -(x * x)) * x
+}
+
+#[inline]
+pub(crate) fn cosh(x: f64) -> f64 {
+    horner(&COS, -(x * x))
+}
+
+/// The arctangent's polynomial at -y: for y = x·x, artanh without its last factor.
+#[inline]
+pub(crate) fn artanh_series(y: f64) -> f64 {
+    horner(&ATAN, -y)
+}
+
+#[inline]
+pub(crate) fn artanh_small(x: f64) -> f64 {
+    artanh_series(x * x) * x
+}
+
+#[inline]
+pub(crate) fn artanh(x: f64) -> f64 {
+    2.0 * artanh_small(x / (1.0 + root(1.0 - x * x)))
 }

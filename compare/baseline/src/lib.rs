@@ -11,6 +11,7 @@ pub mod plan;
 pub mod program;
 pub mod read;
 pub mod round;
+pub mod rso;
 pub mod sheet;
 pub mod steps;
 pub mod write;

@@ -69,6 +69,22 @@ mod c {
             out: *mut i64,
             out_len: usize,
         ) -> i64;
+        pub fn swivelcrane_rso_forward(
+            parameters: *const i64,
+            parameters_len: usize,
+            latitude: i64,
+            longitude: i64,
+            out: *mut f64,
+            out_len: usize,
+        ) -> i64;
+        pub fn swivelcrane_rso_reverse(
+            parameters: *const i64,
+            parameters_len: usize,
+            easting: f64,
+            northing: f64,
+            out: *mut i64,
+            out_len: usize,
+        ) -> i64;
         pub fn swivelcrane_round(x: f64, places: u32, out: *mut i64, out_len: usize) -> i64;
         pub fn swivelcrane_later(
             first: *const u8,
@@ -132,6 +148,16 @@ pub fn cassini_millimetres(n: &[i64; 7], out: &mut [i64]) -> i64 {
     unsafe { c::swivelcrane_cassini_millimetres(e, oa, ob, fe, fn_, a, b, out.as_mut_ptr(), out.len()) }
 }
 
+pub fn rso_forward(parameters: &[i64], [latitude, longitude]: [i64; 2], out: &mut [f64]) -> i64 {
+    let (from, count) = (parameters.as_ptr(), parameters.len());
+    unsafe { c::swivelcrane_rso_forward(from, count, latitude, longitude, out.as_mut_ptr(), out.len()) }
+}
+
+pub fn rso_reverse(parameters: &[i64], [easting, northing]: [f64; 2], out: &mut [i64]) -> i64 {
+    let (from, count) = (parameters.as_ptr(), parameters.len());
+    unsafe { c::swivelcrane_rso_reverse(from, count, easting, northing, out.as_mut_ptr(), out.len()) }
+}
+
 pub fn round(x: f64, places: u32, out: &mut [i64]) -> i64 {
     unsafe { c::swivelcrane_round(x, places, out.as_mut_ptr(), out.len()) }
 }
@@ -176,7 +202,7 @@ fn lend<T: Copy + PartialEq, const N: usize>(mark: T, call: impl FnOnce(&mut [T]
     match number {
         0 => Ok(std::array::from_fn(|i| places[1 + i])),
         _ if touched(&places) => Err(WROTE),
-        1..=17 | 255 => Err(number as u8),
+        1..=23 | 255 => Err(number as u8),
         _ => Err(STRANGE),
     }
 }
@@ -224,6 +250,12 @@ impl Subject for Product {
     }
     fn cassini_millimetres(&self, n: &[i64; 7]) -> Answer<[i64; 2]> {
         lend(MARK, |out| cassini_millimetres(n, out))
+    }
+    fn rso_forward(&self, parameters: &[i64; 8], latitude: i64, longitude: i64) -> Answer<[f64; 2]> {
+        lend(FLOAT_MARK, |out| rso_forward(parameters, [latitude, longitude], out))
+    }
+    fn rso_reverse(&self, parameters: &[i64; 8], easting: f64, northing: f64) -> Answer<[i64; 2]> {
+        lend(MARK, |out| rso_reverse(parameters, [easting, northing], out))
     }
     fn round(&self, x: f64, places: u32) -> Answer<i64> {
         lend(MARK, |out| round(x, places, out)).map(|[whole]| whole)

@@ -2,6 +2,7 @@
 
 use paper::angle::Origin;
 use paper::later::Which;
+use paper::rso::Parameters;
 
 /// The value or the refusal number; 255 is the wrong length. Floats are compared by their bits.
 pub type Answer<T> = Result<T, u8>;
@@ -20,6 +21,9 @@ pub trait Subject {
     fn geodetic(&self, numbers: &[i64; 4]) -> Answer<[i64; 3]>;
     fn cassini(&self, numbers: &[i64; 7]) -> Answer<[f64; 2]>;
     fn cassini_millimetres(&self, numbers: &[i64; 7]) -> Answer<[i64; 2]>;
+    /// Code, centre's latitude and longitude, azimuth, rectified angle, scale, FE, FN.
+    fn rso_forward(&self, parameters: &[i64; 8], latitude: i64, longitude: i64) -> Answer<[f64; 2]>;
+    fn rso_reverse(&self, parameters: &[i64; 8], easting: f64, northing: f64) -> Answer<[i64; 2]>;
     fn round(&self, x: f64, places: u32) -> Answer<i64>;
     fn later(&self, first: &[u8], second: &[u8]) -> Answer<i64>;
     fn sheet(&self, input: &[u8]) -> Vec<u8>;
@@ -57,6 +61,12 @@ impl Subject for Paper {
     }
     fn cassini_millimetres(&self, n: &[i64; 7]) -> Answer<[i64; 2]> {
         paper::angle::cassini_millimetres(&origin(n), n[5], n[6])
+    }
+    fn rso_forward(&self, parameters: &[i64; 8], latitude: i64, longitude: i64) -> Answer<[f64; 2]> {
+        paper::rso::forward(&Parameters::new(*parameters), latitude, longitude)
+    }
+    fn rso_reverse(&self, parameters: &[i64; 8], easting: f64, northing: f64) -> Answer<[i64; 2]> {
+        paper::rso::reverse(&Parameters::new(*parameters), easting, northing)
     }
     fn round(&self, x: f64, places: u32) -> Answer<i64> {
         paper::decimal::round(x, places)
@@ -103,6 +113,12 @@ impl Subject for Baseline {
     }
     fn cassini_millimetres(&self, n: &[i64; 7]) -> Answer<[i64; 2]> {
         ready(n)?.cassini_millimetres(n[5], n[6])
+    }
+    fn rso_forward(&self, parameters: &[i64; 8], latitude: i64, longitude: i64) -> Answer<[f64; 2]> {
+        baseline::rso::forward(parameters, latitude, longitude)
+    }
+    fn rso_reverse(&self, parameters: &[i64; 8], easting: f64, northing: f64) -> Answer<[i64; 2]> {
+        baseline::rso::reverse(parameters, easting, northing)
     }
     fn round(&self, x: f64, places: u32) -> Answer<i64> {
         baseline::round::decimals(x, places)

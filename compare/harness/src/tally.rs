@@ -11,6 +11,8 @@ pub enum Function {
     Geodetic,
     Cassini,
     CassiniMillimetres,
+    RsoForward,
+    RsoReverse,
     Round,
     Later,
     Sheet,
@@ -31,6 +33,8 @@ const REACHABLE: [(Function, &str, &[u8]); FUNCTIONS] = [
     (Geodetic, "from Cartesian", &[0, 2, 10, 12]),
     (Cassini, "cassini", &[0, 2, 12, 13]),
     (CassiniMillimetres, "cassini millimetres", &[0, 2, 12, 13]),
+    (RsoForward, "RSO forward", &[0, 2, 12]),
+    (RsoReverse, "RSO reverse", &[0, 2, 12, 23]),
     (Round, "round", &[0, 2, 14]),
     (Later, "later of two", &[0, 1, 2, 3, 16, 17]),
     (Sheet, "sheet, lines", &[0, 1, 2, 3, 4, 5, 6, 7, 8, 9, 10, 11, 15]),
@@ -39,7 +43,7 @@ const REACHABLE: [(Function, &str, &[u8]); FUNCTIONS] = [
 
 #[derive(Clone, Default)]
 pub struct Tally {
-    counts: [[u64; 18]; FUNCTIONS],
+    counts: [[u64; 24]; FUNCTIONS],
 }
 
 impl Tally {

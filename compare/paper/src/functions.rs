@@ -1,5 +1,7 @@
 //! docs/ORDERS.md, section 3: the functions that the papers leave to us, each in its written order.
 
+use crate::series::{pc, ps};
+
 /// Horner's rule: the first coefficient; then what is there times y, plus the next.
 pub fn horner(coefficients: &[f64], y: f64) -> f64 {
     let mut sum = coefficients[0];
@@ -44,4 +46,27 @@ pub fn arctan_small(x: f64) -> f64 {
 
 pub fn arctangent(x: f64) -> f64 {
     2.0 * arctan_small(x / (1.0 + root(1.0 + x * x)))
+}
+
+/// (Q - 1/Q)/2 with Q = e^x: the sine's table at -(x·x).
+pub fn sinh(x: f64) -> f64 {
+    ps(-(x * x)) * x
+}
+
+/// (Q + 1/Q)/2 with Q = e^x: the cosine's table at -(x·x).
+pub fn cosh(x: f64) -> f64 {
+    pc(-(x * x))
+}
+
+/// Half the logarithm of (1 + x)/(1 - x), near 0.
+pub fn artanh_small(x: f64) -> f64 {
+    pa(-(x * x)) * x
+}
+
+pub fn artanh(x: f64) -> f64 {
+    2.0 * artanh_small(x / (1.0 + root(1.0 - x * x)))
+}
+
+pub fn arcsine(x: f64) -> f64 {
+    2.0 * arctan_small(x / (1.0 + root(1.0 - x * x)))
 }

@@ -73,3 +73,18 @@ pub fn height(value: i64) -> bool {
 pub fn false_origin(value: i64) -> bool {
     within(value, 2_000_000_000)
 }
+
+/// The centre of an oblique Mercator projection.
+pub fn centre(latitude: i64, longitude: i64) -> bool {
+    between(latitude, 360_000_000, 2_880_000_000) && between(longitude, 35_640_000_000, 43_200_000_000)
+}
+
+/// An azimuth or rectified angle: 30° to 60°, or 300° to 330°.
+pub fn skew(value: i64) -> bool {
+    between(value, 10_800_000_000, 21_600_000_000) || between(value, 108_000_000_000, 118_800_000_000)
+}
+
+/// A projection's scale in 10^-11: 0.99 to 1.01.
+pub fn projection_scale(value: i64) -> bool {
+    between(value, 99_000_000_000, 101_000_000_000)
+}

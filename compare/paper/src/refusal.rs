@@ -1,4 +1,4 @@
-//! Document 01, "Refusal numbers".
+//! Document 01, "Refusal numbers", and those that the change requests add.
 
 pub type Refusal = u8;
 
@@ -19,6 +19,8 @@ pub const FLOAT: Refusal = 14;
 pub const LONG: Refusal = 15;
 pub const IDS: Refusal = 16;
 pub const SAME_ISSUE: Refusal = 17;
+/// An easting or northing handed in that is not finite, or is 10,000,000 m or more in size.
+pub const PROJECTED: Refusal = 23;
 
 /// Refuses with the number unless the test holds. The calls stand in the order of the paper's list,
 /// so the first that fails decides.

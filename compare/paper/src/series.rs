@@ -6,8 +6,7 @@ fn reciprocal_factorial(n: u64) -> f64 {
 }
 
 /// From the coefficient of the highest order down to the last, which has the sign +.
-fn alternating(x: f64, orders: &[u64]) -> f64 {
-    let square = x * x;
+fn alternating(square: f64, orders: &[u64]) -> f64 {
     let mut sum = 0.0;
     for (place, &order) in orders.iter().enumerate() {
         let from_the_end = orders.len() - 1 - place;
@@ -18,10 +17,20 @@ fn alternating(x: f64, orders: &[u64]) -> f64 {
     sum
 }
 
+/// The sine's table at y.
+pub fn ps(y: f64) -> f64 {
+    alternating(y, &[15, 13, 11, 9, 7, 5, 3, 1])
+}
+
+/// The cosine's table at y.
+pub fn pc(y: f64) -> f64 {
+    alternating(y, &[16, 14, 12, 10, 8, 6, 4, 2, 0])
+}
+
 pub fn sin(x: f64) -> f64 {
-    alternating(x, &[15, 13, 11, 9, 7, 5, 3, 1]) * x
+    ps(x * x) * x
 }
 
 pub fn cos(x: f64) -> f64 {
-    alternating(x, &[16, 14, 12, 10, 8, 6, 4, 2, 0])
+    pc(x * x)
 }

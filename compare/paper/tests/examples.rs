@@ -1,6 +1,8 @@
 //! The stored answers of the examples in C, worked out again.
 
+use paper::decimal::round;
 use paper::geodetic::geodetic;
+use paper::rso::{self, Parameters};
 
 /// The text stands among what the examples in C print.
 #[track_caller]
@@ -38,6 +40,32 @@ fn from_cartesian_to_angles() {
         to_angles("X and Y changed about", 1, [arau[1], arau[0], arau[2]]),
         to_angles("ellipsoid 5", 5, arau),
         to_angles("ten kilometres up", 1, [-113282169451, 624607132201, 71286946915]),
+    ];
+    stored(&text.concat());
+}
+
+fn on_rso(name: &str, parameters: [i64; 8], latitude: i64, longitude: i64) -> String {
+    let parameters = Parameters::new(parameters);
+    let [easting, northing] = rso::forward(&parameters, latitude, longitude).expect("accepted");
+    let [a, b] = rso::reverse(&parameters, easting, northing).expect("accepted");
+    let metres = |value: f64| {
+        let millimetres = round(value, 3).expect("not too large");
+        format!("{}.{:03}", millimetres / 1000, millimetres % 1000)
+    };
+    format!("{name}\tE {}\tN {}\tback {a}\t{b}\n", metres(easting), metres(northing))
+}
+
+#[test]
+fn onto_rso_and_back() {
+    let peninsula = [1, 1440000000, 36810000000, 116289286728, 116326836850, 99984000000, 804671000, 0];
+    let borneo = [1, 1440000000, 41400000000, 19193691582, 19126836850, 99984000000, 0, 0];
+    let timbalai = [4, 1440000000, 41400000000, 19193695370, 19126836850, 99984000000, 0, 0];
+    let too_far = rso::reverse(&Parameters::new(peninsula), 255348.368, 71407290.30);
+    let text = [
+        on_rso("ARAU", peninsula, 2322056909, 36100705076),
+        on_rso("Sabah", borneo, 2476245022, 42064758835),
+        on_rso("document 004", timbalai, 1939411290, 41689981960),
+        format!("too far\trefused: {}\n", too_far.expect_err("23")),
     ];
     stored(&text.concat());
 }

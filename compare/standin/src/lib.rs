@@ -2,6 +2,7 @@
 //! be built and tried where the product's archive is not at hand. It is never linked beside the product.
 
 use baseline::angle::{self, Origin};
+use baseline::rso;
 use std::slice;
 
 const WRONG_LENGTH: i64 = 255;
@@ -79,6 +80,44 @@ pub unsafe extern "C" fn swivelcrane_geodetic(
     out_len: usize,
 ) -> i64 {
     give(baseline::geodetic::geodetic(ellipsoid, [x, y, z]), out, out_len)
+}
+
+/// The eight parameters of a projection, where there are as many.
+///
+/// # Safety
+/// The pointer and length are a live slice.
+unsafe fn eight<'a>(parameters: *const i64, length: usize) -> Option<&'a [i64; 8]> {
+    slice::from_raw_parts(parameters, length).try_into().ok()
+}
+
+/// # Safety
+/// Each pointer and length are a live slice.
+#[no_mangle]
+pub unsafe extern "C" fn swivelcrane_rso_forward(
+    parameters: *const i64,
+    parameters_len: usize,
+    latitude: i64,
+    longitude: i64,
+    out: *mut f64,
+    out_len: usize,
+) -> i64 {
+    let Some(parameters) = eight(parameters, parameters_len) else { return WRONG_LENGTH };
+    give(rso::forward(parameters, latitude, longitude), out, out_len)
+}
+
+/// # Safety
+/// Each pointer and length are a live slice.
+#[no_mangle]
+pub unsafe extern "C" fn swivelcrane_rso_reverse(
+    parameters: *const i64,
+    parameters_len: usize,
+    easting: f64,
+    northing: f64,
+    out: *mut i64,
+    out_len: usize,
+) -> i64 {
+    let Some(parameters) = eight(parameters, parameters_len) else { return WRONG_LENGTH };
+    give(rso::reverse(parameters, easting, northing), out, out_len)
 }
 
 macro_rules! cassini {

@@ -40,8 +40,8 @@ fn figure(code: i64) -> Figure
     table[i]
 }
 
-// The ellipsoid of a code.
-pub(crate) fn ellipsoid(code: i64) -> Ellipsoid
+// The ellipsoid of a code from 1 to 4. Any other code has an ellipsoid of no use, which its caller refuses.
+pub fn ellipsoid(code: i64) -> Ellipsoid
     ensures { λ r. ⌜ r ≡ ellipsoidOf code ⌝ }
 {
     let row = figure(code);

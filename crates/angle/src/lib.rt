@@ -7,6 +7,7 @@ mod geodetic;
 mod projection;
 mod units;
 
+pub use ellipsoids::ellipsoid as ellipsoid_of;
 pub use faults::angles_fault;
 pub use faults::origin_fault;
 pub use from_xyz::geodetic_units;
@@ -17,6 +18,7 @@ pub use projection::cassini_from;
 pub use projection::cassini_millimetres;
 pub use projection::cassini_millimetres_from;
 pub use projection::make_origin;
+pub use units::radians;
 
 // An ellipsoid: the semi-major axis in metres, the flattening, and the first eccentricity squared.
 pub struct Ellipsoid {

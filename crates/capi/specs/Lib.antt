@@ -2,3 +2,4 @@ pub mod Calls
 pub mod Chains
 pub mod Outcome
 pub mod Printing
+pub mod Rso

@@ -8,6 +8,7 @@ pub mod later;
 pub mod printing;
 pub mod projected;
 pub mod rounded;
+pub mod rso;
 mod status;
 
 // An array that has not the number of elements that its call asks for. It comes before every refusal.

@@ -10,7 +10,7 @@ use angle::Projected;
 use angle::ProjectedMillimetres;
 
 // Writes easting and northing, or answers the refusal.
-fn give_metres(answer: Projected, out: &mut [f64]) -> i64
+pub(crate) fn give_metres(answer: Projected, out: &mut [f64]) -> i64
     requires { ⌜ length (now out) ≡ 2 ⌝ }
     ensures { λ r. ⌜ Answered (ofProjected answer) (now (out .entry)) (now (out .exit)) r ⌝ }
 {

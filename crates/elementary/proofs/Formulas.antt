@@ -5,7 +5,7 @@ use Prim.Native.Nat.{ℕ}
 use lib.Dec.{T}
 use lib.Ieee.{Float}
 use Rattle.bounds.proofs.Among.{Ends, Among}
-use Rattle.bounds.proofs.Formula.{Formula, var, lit, plus, times, over, square, bind, steps, none, also, value, tested, proved}
+use Rattle.bounds.proofs.Formula.{Formula, var, lit, opp, plus, minus, times, over, square, bind, call, steps, none, also, value, tested, proved}
 use Rattle.elementary.specs.Floats.{near, #}
 use Rattle.elementary.specs.Series.{sineTable, cosineTable, arctanTable, sineOf, cosineOf}
 
@@ -42,6 +42,28 @@ stepF r = times (lit (near 1 2)) (plus r (over (var 0) r))
 
 abbrev pub rootF : Formula
 rootF = steps (times (lit (near 1 2)) (plus (n 1) (var 0)) ∷ stepF (var 1) ∷ stepF (var 2) ∷ []) (stepF (var 3))
+
+abbrev pub sinhF : Formula
+sinhF = oddF (opp (square (var 0))) sineTable
+
+abbrev pub coshF : Formula
+coshF = evenF (opp (square (var 0))) cosineTable
+
+abbrev pub artanhSmallF : Formula
+artanhSmallF = oddF (opp (square (var 0))) arctanTable
+
+-- twice a function of x / (1 + √d)
+abbrev halfF : Formula → Formula → Formula
+halfF d f = times (n 2) (call f (over (var 0) (plus (n 1) (call rootF d))))
+
+abbrev pub arctangentF : Formula
+arctangentF = halfF (plus (n 1) (square (var 0))) arctanSmallF
+
+abbrev pub artanhF : Formula
+artanhF = halfF (minus (n 1) (square (var 0))) artanhSmallF
+
+abbrev pub arcsineF : Formula
+arcsineF = halfF (minus (n 1) (square (var 0))) arctanSmallF
 
 -- ---- bounds: `value` of each is its function
 pub sine-among : (I J : Ends) {x : Float} → T (tested (I ∷ []) sineF J) → Among x I → Among (sineOf x) J

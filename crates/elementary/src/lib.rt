@@ -2,10 +2,17 @@
 // accuracy, and nothing else.
 mod half;
 mod heron;
+mod hyperbolic;
 mod series;
 
+pub use half::arcsine;
 pub use half::arctangent;
 pub use heron::root;
+pub use hyperbolic::arctan_series;
+pub use hyperbolic::artanh;
+pub use hyperbolic::artanh_small;
+pub use hyperbolic::cosh;
+pub use hyperbolic::sinh;
 pub use series::arctan_small;
 pub use series::cosine;
 pub use series::sine;

@@ -5,7 +5,7 @@ ghost use lib.ListN.{length};
 ghost use Rattle.elementary.specs.Series.{horner, sineTable, cosineTable, arctanTable, sineOf, cosineOf, arctanSmallOf};
 
 // 1/15!, 1/13!, .. 1/1!, the signs alternating so that the last is +1. Each factorial is a whole product, exact in f64, and each reciprocal one division.
-fn sine_table() -> [f64; 8]
+pub(crate) fn sine_table() -> [f64; 8]
     ensures { λ r. ⌜ r ≡ sineTable ⌝ }
 {
     let f3 = 2.0 * 3.0;
@@ -28,7 +28,7 @@ fn sine_table() -> [f64; 8]
 }
 
 // 1/16! down to 1, likewise.
-fn cosine_table() -> [f64; 9]
+pub(crate) fn cosine_table() -> [f64; 9]
     ensures { λ r. ⌜ r ≡ cosineTable ⌝ }
 {
     let f4 = 2.0 * 3.0 * 4.0;
@@ -52,7 +52,7 @@ fn cosine_table() -> [f64; 9]
 }
 
 // 1/25, 1/23, .. 1/1, likewise.
-fn arctan_table() -> [f64; 13]
+pub(crate) fn arctan_table() -> [f64; 13]
     ensures { λ r. ⌜ r ≡ arctanTable ⌝ }
 {
     [
@@ -73,7 +73,7 @@ fn arctan_table() -> [f64; 13]
 }
 
 // From the first coefficient on: times y, plus the next.
-fn polynomial(t: &[f64], y: f64) -> f64
+pub(crate) fn polynomial(t: &[f64], y: f64) -> f64
     requires { ⌜ 0 < length (now t) ⌝ }
     ensures { λ r. ⌜ r ≡ horner y (now (t .entry)) ⌝ }
 {

@@ -8,6 +8,9 @@ use harness::measure::{both, Pair};
 use harness::programs::Programs;
 use harness::rng::Rng;
 use harness::{arguments, product};
+use paper::library::radians;
+use paper::oblique::Oblique;
+use paper::rso::Parameters;
 use std::hint::black_box;
 use std::process::ExitCode;
 
@@ -51,6 +54,7 @@ fn main() -> ExitCode {
     conversions(&mut report, &mut rng, &chains);
     angles(&mut report, &mut rng);
     from_cartesian(&mut report, &mut rng);
+    oblique_mercator(&mut report, &mut rng);
     if let Some(folder) = arguments::value("--programs") {
         processes(&mut report, &mut rng, &chains, std::path::Path::new(&folder));
     }
@@ -203,6 +207,60 @@ fn from_cartesian(report: &mut Report, rng: &mut Rng) {
     let pair =
         both(|| positions.iter().for_each(&mut ours), || positions.iter().for_each(theirs), CALLS, 401);
     report.aside("the same formulas over the C library", &pair);
+}
+
+/// The C interface makes the projection at each call, and so does the baseline here; what making alone and points on a
+/// made projection cost is the baseline's.
+fn oblique_mercator(report: &mut Report, rng: &mut Rng) {
+    let points: Vec<([i64; 8], [i64; 2])> = (0..CALLS).map(|_| full::rso(rng)).collect();
+    let on_the_map = |(parameters, [latitude, longitude]): &([i64; 8], [i64; 2])| {
+        (
+            *parameters,
+            paper::rso::forward(&Parameters::new(*parameters), *latitude, *longitude).expect("in range"),
+        )
+    };
+    let metres: Vec<([i64; 8], [f64; 2])> = points.iter().map(on_the_map).collect();
+    let (mut out, mut home) = ([0.0; 2], [0; 2]);
+    let mut forward = |(parameters, at): &([i64; 8], [i64; 2])| {
+        _ = black_box(product::rso_forward(parameters, *at, &mut out));
+    };
+    calls(report, "RSO forward, projection made each time", &points, &mut forward, |(parameters, [a, b])| {
+        _ = black_box(baseline::rso::forward(parameters, *a, *b));
+    });
+    let mut reverse = |(parameters, at): &([i64; 8], [f64; 2])| {
+        _ = black_box(product::rso_reverse(parameters, *at, &mut home));
+    };
+    calls(report, "RSO reverse, projection made each time", &metres, &mut reverse, |(parameters, [a, b])| {
+        _ = black_box(baseline::rso::reverse(parameters, *a, *b));
+    });
+    let library_forward = |(parameters, [a, b]): &([i64; 8], [i64; 2])| {
+        let oblique = Oblique::new(&Parameters::new(*parameters));
+        _ = black_box(oblique.forward(radians(*a as f64), radians(*b as f64)));
+    };
+    let pair =
+        both(|| points.iter().for_each(&mut forward), || points.iter().for_each(library_forward), CALLS, 401);
+    report.aside("RSO forward beside the C library", &pair);
+    let library_reverse = |(parameters, [a, b]): &([i64; 8], [f64; 2])| {
+        _ = black_box(Oblique::new(&Parameters::new(*parameters)).reverse(*a, *b));
+    };
+    let pair =
+        both(|| metres.iter().for_each(&mut reverse), || metres.iter().for_each(library_reverse), CALLS, 401);
+    report.aside("RSO reverse beside the C library", &pair);
+    on_a_made_projection(&points, &metres);
+}
+
+fn on_a_made_projection(points: &[([i64; 8], [i64; 2])], metres: &[([i64; 8], [f64; 2])]) {
+    let made = baseline::rso::Projection::new(&points[0].0).expect("accepted");
+    let making =
+        || points.iter().for_each(|(p, _)| _ = black_box(baseline::rso::Projection::new(black_box(p))));
+    let forward = || points.iter().for_each(|(_, [a, b])| _ = black_box(made.forward(*a, *b)));
+    let reverse = || metres.iter().for_each(|(_, [a, b])| _ = black_box(made.reverse(*a, *b)));
+    let points = both(making, forward, CALLS, 401);
+    let back = both(making, reverse, CALLS, 401);
+    println!(
+        "  baseline: making a projection {:.1} ns; on a made one forward {:.1} ns, reverse {:.1} ns",
+        points.product, points.baseline, back.baseline
+    );
 }
 
 /// The built programs from start to end.

@@ -4,7 +4,7 @@
 //! 1 at the first difference, after printing the input.
 
 use harness::arguments;
-use harness::checks::{angles, conversions, geodetic, later, roundings, texts, trips};
+use harness::checks::{angles, conversions, geodetic, later, roundings, rso, rso_causes, texts, trips};
 use harness::compare::{Comparison, Outcome};
 use harness::programs::Programs;
 use harness::subject::{Baseline, Subject};
@@ -17,6 +17,7 @@ struct Sizes {
     roundings: u64,
     angles: u64,
     geodetic: u64,
+    rso: u64,
     pairs: u64,
     texts: u64,
     processes: u64,
@@ -28,6 +29,7 @@ const SHORT: Sizes = Sizes {
     roundings: 1_000_000,
     angles: 200_000,
     geodetic: 200_000,
+    rso: 200_000,
     pairs: 100_000,
     texts: 12_000,
     processes: 200,
@@ -39,6 +41,7 @@ const LONG: Sizes = Sizes {
     roundings: 20_000_000,
     angles: 2_000_000,
     geodetic: 5_000_000,
+    rso: 5_000_000,
     pairs: 2_000_000,
     texts: 300_000,
     processes: 4_000,
@@ -91,6 +94,7 @@ fn run(c: &mut Comparison, sizes: &Sizes) -> Outcome {
     timed(&format!("{} roundings", sizes.roundings), || roundings::run(c, sizes.roundings))?;
     timed(&format!("{} geodetic and as many Cassini points", sizes.angles), || angles::run(c, sizes.angles))?;
     timed(&format!("{} positions to angles", sizes.geodetic), || from_cartesian(c, sizes.geodetic))?;
+    timed(&format!("{} points onto RSO and as many back", sizes.rso), || oblique_mercator(c, sizes.rso))?;
     timed(&format!("{} pairs for the later of two", sizes.pairs), || later::run(c, sizes.pairs))?;
     #[cfg(feature = "product")]
     timed("wrong lengths", || harness::checks::lengths::run(c, sizes.pairs / 100))?;
@@ -117,6 +121,23 @@ fn from_cartesian(c: &mut Comparison, count: u64) -> Outcome {
     println!(
         "  {count} trips to X, Y, Z and back: all angles the same, {} heights a unit off, {} past their end",
         trips.heights_a_unit_off, trips.past_the_end
+    );
+    Ok(())
+}
+
+fn oblique_mercator(c: &mut Comparison, count: u64) -> Outcome {
+    rso_causes::printed(c)?;
+    rso_causes::causes(c)?;
+    rso::run(c, count)?;
+    let points = count / 2;
+    let [areas, others] = rso::forward_against_library(c, points)?;
+    println!("  {points} points forward lie within {areas:.1e} m (areas), {others:.1e} m (others) of the library's");
+    let back = rso::reverse_against_library(c, points)?;
+    println!("  {points} pairs E, N answered or refused as by the library: {back:?}");
+    let trips = rso::there_and_back(c, count)?;
+    println!(
+        "  {count} trips forward and back: largest difference {} units, {} not exact",
+        trips.largest, trips.not_exact
     );
     Ok(())
 }

@@ -5,7 +5,7 @@ use crate::gen::angles;
 use crate::subject::{Answer, Subject};
 use crate::tally::Function;
 
-fn bits<const N: usize>(answer: Answer<[f64; N]>) -> Answer<[u64; N]> {
+pub fn bits<const N: usize>(answer: Answer<[f64; N]>) -> Answer<[u64; N]> {
     answer.map(|values| values.map(f64::to_bits))
 }
 

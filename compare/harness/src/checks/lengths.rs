@@ -8,6 +8,7 @@ pub fn run(c: &mut Comparison, count: u64) -> Outcome {
     for _ in 0..count {
         conversions(c)?;
         others(c)?;
+        projections(c)?;
         texts(c)?;
     }
     Ok(())
@@ -69,6 +70,24 @@ fn others(c: &mut Comparison) -> Outcome {
     let line: &[u8] = c.rng.pick(&[b"P\tA\t1\t6\t2000000\t0\t0\t0\n", b""]);
     let number = product::later(line, line, &mut whole);
     decide(&what("later"), number, length != 1, &whole, MARK)
+}
+
+/// Parameters and room of any length; the length comes before what the call itself would refuse.
+fn projections(c: &mut Comparison) -> Outcome {
+    let mut length = |right: usize| if c.rng.once_in(2) { right } else { c.rng.index(right + 3) };
+    let (given, room) = (length(8), length(2));
+    let mut parameters = crate::gen::rso::TIMBALAI.to_vec();
+    parameters.resize(given, 0);
+    let wrong = given != 8 || room != 2;
+    let what = |name: &str| format!("{name} with {given} parameters and room for {room}");
+    let mut floats = vec![FLOAT_MARK; room];
+    let angles = [c.rng.pick(&[1_440_000_000, -1]), 41_400_000_000];
+    let number = product::rso_forward(&parameters, angles, &mut floats);
+    decide(&what("RSO forward"), number, wrong, &floats, FLOAT_MARK)?;
+    let mut whole = vec![MARK; room];
+    let metres = [c.rng.pick(&[500_000.0, f64::NAN]), 500_000.0];
+    let number = product::rso_reverse(&parameters, metres, &mut whole);
+    decide(&what("RSO reverse"), number, wrong, &whole, MARK)
 }
 
 /// One byte too few is -255; just enough, or more, is not.

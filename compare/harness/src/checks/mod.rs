@@ -7,5 +7,7 @@ pub mod later;
 #[cfg(feature = "product")]
 pub mod lengths;
 pub mod roundings;
+pub mod rso;
+pub mod rso_causes;
 pub mod texts;
 pub mod trips;

@@ -1,7 +1,7 @@
 //! Full inputs for measuring: every line of one sort.
 
 use super::chains::{Chains, Row};
-use super::{angles, geodetic, lines, numbers, points};
+use super::{angles, geodetic, lines, numbers, points, rso};
 use crate::rng::Rng;
 
 /// A sheet of steps of those kinds and, up to the size, points that go through.
@@ -102,6 +102,12 @@ pub fn position(rng: &mut Rng) -> [i64; 4] {
             return [code, x, y, z];
         }
     }
+}
+
+/// The Peninsula's projection and a point of the Peninsula.
+pub fn rso(rng: &mut Rng) -> ([i64; 8], [i64; 2]) {
+    let (low, high) = rso::area_of(&rso::PENINSULA);
+    (rso::PENINSULA, [rng.between(numbers::LATITUDE.0, numbers::LATITUDE.1), rng.between(low, high)])
 }
 
 fn filled(mut text: Vec<u8>, size: usize, mut line: impl FnMut() -> Vec<u8>) -> Vec<u8> {

@@ -11,5 +11,6 @@ pub mod numbers;
 pub mod pairs;
 pub mod plans;
 pub mod points;
+pub mod rso;
 pub mod sheets;
 pub mod texts;

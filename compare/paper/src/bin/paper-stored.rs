@@ -3,6 +3,7 @@
 
 use paper::angle::{self, Origin};
 use paper::geodetic::geodetic;
+use paper::rso::{self, Parameters};
 use paper::{decimal, later, numbers};
 
 const CHAIN: [i64; 26] = [
@@ -15,6 +16,8 @@ const ARAU_CHAIN: [i64; 52] = [
     70, 0, 6, 2010000, 10, 2010000, 0, 0, 0, 0, 0, 0, 0, //
     86, 0, 10, 2010000, 10, 2020000, -1874, -169, -502, 0, 0, 0, 0,
 ];
+const PROJECTION: [i64; 8] =
+    [3, 1234567890, 39876543210, 112345678901, 15432109876, 100123456789, -1234567890, 987654321];
 const ARAU: [i64; 6] = [1, 6, 2000000, -113105165410, 623631179950, 71174811140];
 const POINT: [i64; 6] = [12, 1, 0, -122145678901, 622012345678, 53876543210];
 const FIRST: &[u8] = b"P\tARAU\t10\t6\t2000000\t-113105165410\t623631179950\t71174811140\n";
@@ -46,6 +49,10 @@ fn main() {
         "cassini_millimetres",
         &angle::cassini_millimetres(&origin, 1445000000, 36800000000).unwrap_or_default(),
     );
+    let parameters = Parameters::new(PROJECTION);
+    let metres = rso::forward(&parameters, 2345678901, 38765432109).unwrap_or_default();
+    bits("rso_forward", &metres);
+    whole("rso_reverse", &rso::reverse(&parameters, metres[0], metres[1]).unwrap_or_default());
     whole("rounded", &[decimal::round(-1234.567895, 3).unwrap_or_default()]);
     let which = |first, second| match later::later(first, second) {
         Ok(later::Which::First) => 1,

@@ -1,0 +1,4 @@
+pub mod Wholes
+pub mod Formulas
+pub mod Finite
+pub mod Vectors

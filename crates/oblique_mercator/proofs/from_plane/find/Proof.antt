@@ -1,0 +1,32 @@
+-- `oblique_mercator::from_plane::find` meets its contract: the formulas are the written ones, and each literal is the f64 of its number, which antt computes. Assumes nothing.
+use borrow.Author.Needs.{needs}
+use lib.Ieee.{ofBits, round}
+use Rattle.oblique_mercator.specs.Reverse.{foundOf}
+use Rattle.angle.specs.Units.{seconds}
+use Rattle.oblique_mercator.proofs.from_plane.find.Statement.{statement}
+use Rattle.oblique_mercator.proofs.from_plane.find.Tie as tie
+
+sinh-requires : tie.Need-sinh-requires
+sinh-requires c κs = search needs
+
+cosh-requires : tie.Need-cosh-requires
+cosh-requires c κs = search needs
+
+sine-requires : tie.Need-sine-requires
+sine-requires c κs = search needs
+
+cosine-requires : tie.Need-cosine-requires
+cosine-requires c κs = search needs
+
+latitude-at-requires : tie.Need-latitude-at-requires
+latitude-at-requires c κs = search needs
+
+arctangent-requires : tie.Need-arctangent-requires
+arctangent-requires c κs = search needs
+
+returns : tie.Need-returns
+unfolding foundOf seconds round ofBits
+returns c = cc
+
+pub find-spec : {M : Type 1} → statement M
+find-spec = tie.close (tie.spec sinh-requires cosh-requires sine-requires cosine-requires latitude-at-requires arctangent-requires returns)

@@ -1,0 +1,45 @@
+-- `oblique_mercator::from_plane::placed` meets its contract: each arm is given its constructors. Assumes nothing.
+use borrow.Author.Needs.{needs}
+use mathlib.Core.Path.{_≡_, _∙_}
+use mir.Syntax.{w64}
+use mir.Val.{SFits}
+use mir.ValLaws.{toZ-ofZ}
+use Rattle.oblique_mercator.specs.Reverse.{placed}
+use Rattle.oblique_mercator.proofs.from_plane.placed.Statement.{statement}
+use Rattle.oblique_mercator.proofs.from_plane.placed.Tie as tie
+
+enum-told : tie.Need-enum-told
+enum-told c = search needs
+
+enum-known-latitude : tie.Need-enum-known-latitude
+enum-known-latitude c = search needs
+
+enum-told-2 : tie.Need-enum-told-2
+enum-told-2 c = search needs
+
+enum-known-difference : tie.Need-enum-known-difference
+enum-known-difference c = search needs
+
+in-ranges-requires : tie.Need-in-ranges-requires
+in-ranges-requires c κs = let a = c .before .before .before .before .before .before in rw (toZ-ofZ w64 (a .args .centre) (a .fits .centre)) (a .pre)
+
+returns : tie.Need-returns
+unfolding placed
+returns c = rw (c .enum-told .given .1)
+
+returns-2 : tie.Need-returns-2
+unfolding placed
+returns-2 c = rw (c .before .before .before .latitude .given .1, c .enum-told2 .given .1)
+
+returns-3 : tie.Need-returns-3
+unfolding placed
+returns-3 c =
+    let a = c .before .before .before .before .before .before .before in
+    let x = c .before .before .before .before .before .latitude .given in
+    let y = c .before .before .difference .given in
+    let p : SFits w64 (x .0 .0) = search needs in
+    let q : SFits w64 (y .0 .0) = search needs in
+    rw (x .1, y .1) (c .in-ranges .ensures ∙ rw (toZ-ofZ w64 (x .0 .0) p, toZ-ofZ w64 (y .0 .0) q, toZ-ofZ w64 (a .args .centre) (a .fits .centre)))
+
+pub placed-spec : {M : Type 1} → statement M
+placed-spec = tie.close (tie.spec enum-told enum-known-latitude enum-told-2 enum-known-difference in-ranges-requires returns returns-2 returns-3)

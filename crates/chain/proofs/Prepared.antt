@@ -20,15 +20,12 @@ use Rattle.chain.specs.declared.steps.Ready.{Ready}
 use Rattle.chain.specs.declared.steps.Ready.the-variants.{Fixed, Turned, Scaled}
 use Rattle.chain.specs.Faults.{KindOk, StepOk}
 use Rattle.chain.specs.Rows.{rowOf}
-use Rattle.chain.specs.Parts.{stepRound, Parts, linear, part, gain, fixed, applied, shiftAt, scaleAt, shiftParts, velocityParts, bursaWolfParts, frameParts, kindParts, partsOf}
+use Rattle.chain.specs.Parts.{stepRound, Parts, linear, part, gain, fixed, shiftAt, scaleAt, shiftParts, velocityParts, bursaWolfParts, frameParts, kindParts, partsOf, plus, minus, forwardBy, again, inverseBy}
 use Rattle.chain.specs.Axes.{Axis, onX, onY, onZ, coordinate, partOn, Small}
-use Rattle.chain.specs.Ready.{readyParts, slopeParts, ReadyOk, Prepares}
+use Rattle.chain.specs.Ready.{position, moved, movedOf, turnOf, overOf, scaleOf, readyKind, readyFor, readyParts, slopeParts, ReadyOk, Prepares}
 use Rattle.chain.proofs.Rounding.{step-size, step-whole}
 use Rattle.chain.proofs.StepLaws.{Mild, Milds, nothing, part-small}
 use Rattle.chain.proofs.Sizes.{milds, fixed-mild, turned-mild, shift-ok, velocity-ok, velocity-years, moved-size, bursa-wolf-ok, turned-size, row-ok, frame-years, shift-at-size, scale-at-size}
-
-abbrev pub position : ℤ → ℤ → ℤ → Position
-position x y z = record { x = x; y = y; z = z }
 
 -- ---- mild
 slope-mild : (n a b c : ℤ) → natAbs n ≤ 1971000000000000000 → natAbs a + natAbs b + natAbs c ≤ 1202000 → Mild (record { k = n; a = a; b = b; c = c; d = 100000000000000 })
@@ -75,26 +72,9 @@ slope-gain kx ky kz a p = of₃ position
     over : (m n : ℤ) → m ≡ n → stepRound m 100000000000000 ≡ stepRound n 100000000000000
     over m n e = ap (λ (z : ℤ). stepRound z 100000000000000) e
 
--- ---- what the code makes of a velocity, of a Bursa-Wolf step and of a row
-abbrev moved : ℤ → ℤ → ℤ
-moved u dt = stepRound (u *ℤ dt) 1000
-
-abbrev pub movedOf : velocity'.Velocity → ℤ → Position
-movedOf t dt = position (moved (t .vx) dt) (moved (t .vy) dt) (moved (t .vz) dt)
-
+-- ---- what a velocity moves, and equal numbers
 moved-small : (u dt : ℤ) → natAbs u ≤ 10000 → natAbs dt ≤ 120000 → natAbs (moved u dt) ≤ 100000000
 moved-small u dt h l = step-size (omega arith) 100000000 (u *ℤ dt) (moved-size u dt h l)
-
-abbrev pub turnOf : bursaWolf'.BursaWolf → Turn
-turnOf t = record {
-  dx = t .dx;
-  dy = t .dy;
-  dz = t .dz;
-  rx = applied t (t .rx);
-  ry = applied t (t .ry);
-  rz = applied t (t .rz);
-  s = t .s;
-}
 
 abbrev turn : ℤ → ℤ → ℤ → ℤ → ℤ → ℤ → ℤ → Turn
 turn dx dy dz rx ry rz s = record { dx = dx; dy = dy; dz = dz; rx = rx; ry = ry; rz = rz; s = s }
@@ -105,12 +85,6 @@ pub turn-same :
     turn dx dy dz rx ry rz s ≡ turn dx' dy' dz' rx' ry' rz' s'
 turn-same {rx = rx} {ry = ry} {rz = rz} {s = s} {dx' = dx'} {dy' = dy'} {dz' = dz'} a b c d e f g =
     of₃ (λ (x y z : ℤ). turn x y z rx ry rz s) a b c ∙ of₄ (turn dx' dy' dz') d e f g
-
-abbrev pub overOf : ℤ → ℤ
-overOf t = negℤ (t *ℤ pos 100000000000)
-
-abbrev pub scaleOf : List ℤ → ℤ → Scale
-scaleOf row dt = record { kx = overOf (shiftAt row dt 0); ky = overOf (shiftAt row dt 1); kz = overOf (shiftAt row dt 2); slope = negℤ (scaleAt row dt) }
 
 pub scale-same :
     {kx ky kz a kx' ky' kz' a' : ℤ} → kx ≡ kx' → ky ≡ ky' → kz ≡ kz' → a ≡ a' →
@@ -136,13 +110,13 @@ module _ (s : Step) (ok : StepOk s) where
   gains : (kind : Kind) → s .kind ≡ kind → (p : Position) → gain (kindParts kind (s .before) (s .after)) p ≡ gain (partsOf s) p
   gains kind e p = ap (λ (x : Kind). gain (kindParts x (s .before) (s .after)) p) (sym e)
 
-  pub shift-prepares : (t : shift'.Shift) → s .kind ≡ Shift t → Prepares s (Fixed (position (t .dx) (t .dy) (t .dz)))
+  shift-prepares : (t : shift'.Shift) → s .kind ≡ Shift t → Prepares s (Fixed (position (t .dx) (t .dy) (t .dz)))
   unfolding kindParts shiftParts
   shift-prepares t e =
       let o = shift-ok t (good (Shift t) e .range) in
       record { same = gains (Shift t) e; ok = small (t .dx) (t .dy) (t .dz) (o .dx) (o .dy) (o .dz) }
 
-  pub velocity-prepares : (t : velocity'.Velocity) → s .kind ≡ Velocity t → Prepares s (Fixed (movedOf t (s .after .epoch -ℤ s .before .epoch)))
+  velocity-prepares : (t : velocity'.Velocity) → s .kind ≡ Velocity t → Prepares s (Fixed (movedOf t (s .after .epoch -ℤ s .before .epoch)))
   unfolding kindParts velocityParts gain
   velocity-prepares t e =
       let dt = s .after .epoch -ℤ s .before .epoch in
@@ -155,7 +129,7 @@ module _ (s : Step) (ok : StepOk s) where
         ok = small (moved (t .vx) dt) (moved (t .vy) dt) (moved (t .vz) dt) (moved-small (t .vx) dt (o .vx) y) (moved-small (t .vy) dt (o .vy) y) (moved-small (t .vz) dt (o .vz) y);
       }
 
-  pub turn-prepares : (t : bursaWolf'.BursaWolf) → s .kind ≡ BursaWolf t → Prepares s (Turned (turnOf t))
+  turn-prepares : (t : bursaWolf'.BursaWolf) → s .kind ≡ BursaWolf t → Prepares s (Turned (turnOf t))
   unfolding kindParts bursaWolfParts
   turn-prepares t e =
       let o = bursa-wolf-ok t (good (BursaWolf t) e .range) in
@@ -173,7 +147,7 @@ module _ (s : Step) (ok : StepOk s) where
         };
       }
 
-  pub frame-prepares : s .kind ≡ Frame → Prepares s (Scaled (scaleOf (rowOf (s .before .datum)) (s .before .epoch -ℤ pos 2010000)))
+  frame-prepares : s .kind ≡ Frame → Prepares s (Scaled (scaleOf (rowOf (s .before .datum)) (s .before .epoch -ℤ pos 2010000)))
   unfolding kindParts frameParts
   frame-prepares e =
       let row = rowOf (s .before .datum) in
@@ -189,3 +163,46 @@ module _ (s : Step) (ok : StepOk s) where
           slope = omega (arith, abs-neg (scaleAt row dt), scale-at-size row o dt y);
         };
       }
+
+  by-shift : (t : shift'.Shift) → s .kind ≡ Shift t → Prepares s (readyKind (Shift t) (s .before) (s .after))
+  unfolding readyKind
+  by-shift t e = shift-prepares t e
+
+  by-velocity : (t : velocity'.Velocity) → s .kind ≡ Velocity t → Prepares s (readyKind (Velocity t) (s .before) (s .after))
+  unfolding readyKind
+  by-velocity t e = velocity-prepares t e
+
+  by-turn : (t : bursaWolf'.BursaWolf) → s .kind ≡ BursaWolf t → Prepares s (readyKind (BursaWolf t) (s .before) (s .after))
+  unfolding readyKind
+  by-turn t e = turn-prepares t e
+
+  by-frame : s .kind ≡ Frame → Prepares s (readyKind Frame (s .before) (s .after))
+  unfolding readyKind
+  by-frame e = frame-prepares e
+
+  -- so a step that is not refused is prepared by what it is made ready as
+  pub prepares : Prepares s (readyFor s)
+  prepares = go (s .kind) refl
+    where
+      go : (kind : Kind) → s .kind ≡ kind → Prepares s (readyKind kind (s .before) (s .after))
+      go (Shift t) e = by-shift t e
+      go (Velocity t) e = by-velocity t e
+      go (BursaWolf t) e = by-turn t e
+      go Frame e = by-frame e
+
+-- ---- by what is ready for it a step goes where it goes, either way
+module _ (s : Step) (r : Ready) (ready : Prepares s r) where
+  pub forward-same : (p : Position) → forwardBy (readyParts r) p ≡ forwardBy (partsOf s) p
+  unfolding forwardBy
+  forward-same p = ap (plus p) (ready .same p)
+
+  turn-back : (q c : Position) → again (readyParts r) q c ≡ again (partsOf s) q c
+  unfolding again
+  turn-back q c = ap (minus q) (ready .same c)
+
+  pub inverse-same : (q : Position) → inverseBy (readyParts r) q ≡ inverseBy (partsOf s) q
+  unfolding inverseBy
+  inverse-same q =
+      let f : Position → Position = λ c. again (readyParts r) q c in
+      let g : Position → Position = λ c. again (partsOf s) q c in
+      turn-back q (f (f q)) ∙ ap g (turn-back q (f q) ∙ ap g (turn-back q q))

@@ -1,6 +1,8 @@
 -- Converting a point by a chain, forward (document 01: along) and inverse (back): every refusal in the order of the table, and the exact result.
-use mathlib.Core.Bool.{not}
+use mathlib.Core.Bool.{Bool, not}
 use mathlib.Core.List.{List, [], _∷_, _++_, reverse}
+use lib.Dec.{leb}
+use lib.ListN.{length}
 use Rattle.refusal.specs.Numbers as refusal
 use Rattle.refusal.specs.Order.{Test, _gives_, first, pick, unless}
 use Rattle.chain.specs.declared.Position.{Position}
@@ -45,6 +47,13 @@ startOf r (s ∷ ss) = s .before
 unfoldable pub endOf : Realization → List Step → Realization
 endOf r [] = r
 endOf r (s ∷ ss) = endOf (s .after) ss
+
+-- ---- a step more after these: 5 where it does not begin where they end, then 6. The empty chain ends wherever a step begins
+abbrev pub joins : List Step → Step → Bool
+joins ss s = sameRealization (endOf (s .before) ss) (s .before)
+
+abbrev pub moreTests : List Step → Step → List Test
+moreTests ss s = (not (joins ss s) gives refusal.join) ∷ (leb 8 (length ss) gives refusal.ninth) ∷ []
 
 -- ---- the answer
 -- the chain first, then the point: its numbers, whether it is where the chain wants it, and the area

@@ -1,14 +1,22 @@
--- A step made ready: its numbers worked out once, and what it gains by them at a position. The code's own; `Prepares` ties it to the step.
+-- A step made ready: its numbers worked out once, and what it gains by them at a position. The form is ours to choose; what must hold of it is `Prepares`: it gains
+-- what the step gains, everywhere (proofs/Prepared.antt: `prepares`).
 use mathlib.Core.Path.{_≡_}
 use Prim.Native.Nat.{_+_, _≤_}
-use lib.IntN.{ℤ, pos, natAbs}
+use mathlib.Core.List.{List}
+use lib.IntN.{ℤ, pos, negℤ, natAbs, _-ℤ_, _*ℤ_}
 use Rattle.chain.specs.declared.Position.{Position}
+use Rattle.chain.specs.declared.Realization.{Realization}
+use Rattle.chain.specs.declared.Velocity as velocity'
+use Rattle.chain.specs.declared.BursaWolf as bursaWolf'
+use Rattle.chain.specs.declared.Kind.{Kind}
+use Rattle.chain.specs.declared.Kind.the-variants.{Shift, Velocity, BursaWolf, Frame}
 use Rattle.chain.specs.declared.Step.{Step}
 use Rattle.chain.specs.declared.steps.Turn.{Turn}
 use Rattle.chain.specs.declared.steps.Scale.{Scale}
 use Rattle.chain.specs.declared.steps.Ready.{Ready}
 use Rattle.chain.specs.declared.steps.Ready.the-variants.{Fixed, Turned, Scaled}
-use Rattle.chain.specs.Parts.{Parts, fixed, gain, turnedParts, partsOf}
+use Rattle.chain.specs.Rows.{rowOf}
+use Rattle.chain.specs.Parts.{Parts, stepRound, applied, shiftAt, scaleAt, fixed, gain, turnedParts, partsOf}
 use Rattle.chain.specs.Axes.{Small}
 
 -- ---- what it gains
@@ -48,6 +56,45 @@ abbrev pub ReadyOk : Ready → Type 0
 ReadyOk (Fixed g) = Small 100000000 g
 ReadyOk (Turned t) = TurnOk t
 ReadyOk (Scaled t) = ScaleOk t
+
+-- ---- what each kind is made ready as
+abbrev pub position : ℤ → ℤ → ℤ → Position
+position x y z = record { x = x; y = y; z = z }
+
+-- V gains the same everywhere: its years are known
+abbrev pub moved : ℤ → ℤ → ℤ
+moved u dt = stepRound (u *ℤ dt) 1000
+
+abbrev pub movedOf : velocity'.Velocity → ℤ → Position
+movedOf t dt = position (moved (t .vx) dt) (moved (t .vy) dt) (moved (t .vz) dt)
+
+-- B has its rotations in 10^-11 radian, as convention P has them
+abbrev pub turnOf : bursaWolf'.BursaWolf → Turn
+turnOf t = record {
+  dx = t .dx;
+  dy = t .dy;
+  dz = t .dz;
+  rx = applied t (t .rx);
+  ry = applied t (t .ry);
+  rz = applied t (t .rz);
+  s = t .s;
+}
+
+-- F is its row at the epoch, over 10^14
+abbrev pub overOf : ℤ → ℤ
+overOf t = negℤ (t *ℤ pos 100000000000)
+
+abbrev pub scaleOf : List ℤ → ℤ → Scale
+scaleOf row dt = record { kx = overOf (shiftAt row dt 0); ky = overOf (shiftAt row dt 1); kz = overOf (shiftAt row dt 2); slope = negℤ (scaleAt row dt) }
+
+unfoldable pub readyKind : Kind → Realization → Realization → Ready
+readyKind (Shift t) r a = Fixed (position (t .dx) (t .dy) (t .dz))
+readyKind (Velocity t) r a = Fixed (movedOf t (a .epoch -ℤ r .epoch))
+readyKind (BursaWolf t) r a = Turned (turnOf t)
+readyKind Frame r a = Scaled (scaleOf (rowOf (r .datum)) (r .epoch -ℤ pos 2010000))
+
+abbrev pub readyFor : Step → Ready
+readyFor s = readyKind (s .kind) (s .before) (s .after)
 
 -- ---- ready for a step: it gains what the step gains, everywhere
 pub record Prepares (s : Step) (r : Ready) : Type 0 where

@@ -11,8 +11,9 @@ pub use crate::faults::step_fault;
 pub use crate::points::same_realization;
 pub use crate::steps::convert::forward;
 pub use crate::steps::convert::inverse;
-pub use crate::steps::kept::forward_ready;
-pub use crate::steps::kept::make_ready;
+pub use crate::steps::kept::extend;
+pub use crate::steps::kept::forward_prepared;
+pub use crate::steps::kept::inverse_prepared;
 
 // Geocentric coordinates in whole units of 0.00001 m.
 pub struct Position {
@@ -99,8 +100,9 @@ pub struct Chain {
     pub length: usize,
 }
 
-// A chain kept ready: eight numbers for each of eight steps. How they say a step is this crate's own.
-pub type Numbers = [i64; 64];
+// A chain prepared for many points: its length, where it starts and ends, and its steps with their numbers worked out. All zeros are the empty chain; `extend`
+// adds a step. How the numbers say it is this crate's own.
+pub type Prepared = [i64; 72];
 
 // What a conversion answers: the point, or the refusal number.
 pub enum Answer {

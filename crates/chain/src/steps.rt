@@ -7,7 +7,7 @@ ghost use Rattle.chain.specs.Faults.{StepOk};
 ghost use Rattle.chain.specs.Parts.{stepRound, byConvention, rotation11, scaledRotation, atEpoch, part, over11, gain, plus, minus, forwardBy, again, inverseBy};
 ghost use Rattle.chain.specs.Rows.{rowOf};
 ghost use Rattle.chain.specs.Axes.{Small};
-ghost use Rattle.chain.specs.Ready.{Prepares, turnParts, slopeParts, readyParts, ReadyOk, TurnOk, ScaleOk, PartOk, LinearOk};
+ghost use Rattle.chain.specs.Ready.{readyFor, turnParts, slopeParts, readyParts, ReadyOk, TurnOk, ScaleOk, PartOk, LinearOk};
 use crate::BursaWolf;
 use crate::Convention;
 use crate::Kind;
@@ -98,7 +98,7 @@ fn turned(convention: Convention, r: i64, s: i64) -> i64
 
 fn bursa_wolf_ready(step: Step, t: BursaWolf) -> Ready
     requires { ⌜ (StepOk step) × (step .kind ≡ Kind.BursaWolf t) ⌝ }
-    ensures { λ r. ⌜ Prepares step r ⌝ }
+    ensures { λ r. ⌜ r ≡ readyFor step ⌝ }
 {
     let c = t.convention;
     let rx = turned(c, t.rx, t.s);
@@ -117,7 +117,7 @@ fn bursa_wolf_ready(step: Step, t: BursaWolf) -> Ready
 
 fn shift_ready(step: Step, t: Shift) -> Ready
     requires { ⌜ (StepOk step) × (step .kind ≡ Kind.Shift t) ⌝ }
-    ensures { λ r. ⌜ Prepares step r ⌝ }
+    ensures { λ r. ⌜ r ≡ readyFor step ⌝ }
 {
     Ready::Fixed(Position {
         x: t.dx,
@@ -136,7 +136,7 @@ fn moved(v: i64, dt: i64) -> i64
 
 fn velocity_ready(step: Step, t: Velocity) -> Ready
     requires { ⌜ (StepOk step) × (step .kind ≡ Kind.Velocity t) ⌝ }
-    ensures { λ r. ⌜ Prepares step r ⌝ }
+    ensures { λ r. ⌜ r ≡ readyFor step ⌝ }
 {
     let before = step.before;
     let after = step.after;
@@ -165,7 +165,7 @@ fn shift_over14(t: i64, tv: i64, dt: i64) -> i64
 
 fn frame_ready(step: Step) -> Ready
     requires { ⌜ (StepOk step) × (step .kind ≡ Kind.Frame) ⌝ }
-    ensures { λ r. ⌜ Prepares step r ⌝ }
+    ensures { λ r. ⌜ r ≡ readyFor step ⌝ }
 {
     let before = step.before;
     let dt = before.epoch - 2010000;
@@ -185,7 +185,7 @@ fn frame_ready(step: Step) -> Ready
 // A step that is not refused, made ready.
 fn prepare(step: Step) -> Ready
     requires { ⌜ StepOk step ⌝ }
-    ensures { λ r. ⌜ Prepares step r ⌝ }
+    ensures { λ r. ⌜ r ≡ readyFor step ⌝ }
 {
     let kind = step.kind;
     match kind {

@@ -1,17 +1,14 @@
 -- What a sheet prints. A sheet is step lines, then point lines; each good point prints its line after the chain, each refused line prints R.
 use Prim.Native.Nat.{ℕ, _+_}
-use mathlib.Core.Bool.{Bool, true, false, not, _||_}
+use mathlib.Core.Bool.{Bool, true, false, _||_}
 use mathlib.Core.List.{List, [], _∷_, _++_}
-use lib.Dec.{leb}
-use lib.ListN.{length}
 use Rattle.refusal.specs.Numbers as refusal
 use Rattle.refusal.specs.Order.{pick, Test, first, _gives_, unless}
 use Rattle.chain.specs.declared.Step.{Step}
 use Rattle.chain.specs.declared.Point.{Point}
 use Rattle.chain.specs.declared.Answer.{Answer}
 use Rattle.chain.specs.declared.Answer.the-variants as answer
-use Rattle.chain.specs.Faults.{sameRealization}
-use Rattle.chain.specs.Convert.{endOf, forwardOf}
+use Rattle.chain.specs.Convert.{moreTests, forwardOf}
 use Rattle.chain.specs.Prepared.{chainOf}
 use Rattle.line.specs.declared.PointLine.{PointLine}
 use Rattle.line.specs.declared.PointLine.the-variants as point-line
@@ -35,10 +32,6 @@ pub record Sheet : Type 0 where
 abbrev pub fresh : Sheet
 fresh = record { line = 1; steps = []; refused = false; closed = false }
 
--- whether a step begins where the chain so far ends. The empty chain ends wherever a step begins
-abbrev pub joins : List Step → Step → Bool
-joins steps t = sameRealization (endOf (t .before) steps) (t .before)
-
 -- the sheet after a line that changes nothing else
 abbrev pub passed : Sheet → Sheet
 passed s = record { line = s .line + 1; steps = s .steps; refused = s .refused; closed = s .closed }
@@ -55,11 +48,7 @@ refuse s number = reply.Refused (s .line) number
 -- ---- a step line: 1, 2, 3, 4 by itself, then 8, 7, 5, 6
 abbrev pub stepTests : Sheet → Step → List Test
 stepTests s step =
-    (s .refused gives refusal.earlier)
-    ∷ (s .closed gives refusal.misplaced)
-    ∷ (not (joins (s .steps) step) gives refusal.join)
-    ∷ (leb 8 (length (s .steps)) gives refusal.ninth)
-    ∷ []
+    (s .refused gives refusal.earlier) ∷ (s .closed gives refusal.misplaced) ∷ moreTests (s .steps) step
 
 -- an accepted step prints nothing
 abbrev pub stepReply : Sheet → StepLine → Reply

@@ -11,29 +11,22 @@ ghost use Rattle.sheet_rules.specs.State.{Holds, Gave, afterIn, refusedI
 use crate::Decided;
 use crate::Reply;
 use crate::State;
-use crate::joining::step_refusal;
-use crate::joining::with_step;
 use chain::Answer;
-use chain::Numbers;
 use chain::Point;
+use chain::Prepared;
 use chain::Step;
 use line::PointLine;
 use line::StepLine;
 
 pub mod whole;
 
-// The state after a line that adds no step.
+// The state after a line.
 fn after(state: State, refused: bool, closed: bool) -> State
     requires { ⌜ state .line < 1000000 ⌝ }
     ensures { λ r. ⌜ r ≡ afterIn state refused closed ⌝ }
 {
-    let start = state.start;
-    let end = state.end;
     State {
         line: state.line + 1,
-        length: state.length,
-        start: start,
-        end: end,
         refused: refused,
         closed: closed,
     }
@@ -52,26 +45,29 @@ fn refuse(state: State, number: u8, refused: bool, closed: bool) -> Decided
 }
 
 // A step whose line is good by itself.
-fn take_step(state: State, step: Step, numbers: &mut Numbers) -> Decided
+fn take_step(state: State, step: Step, numbers: &mut Prepared) -> Decided
     requires { ⌜ (state .line < 1000000) × (stepFault step ≡ 0) ⌝ }
     ensures { λ r. ⌜ ((s : Sheet) → Holds state (now (numbers .entry)) s → Gave (stepReply s (step-line.Step step)) (afterStep s (step-line.Step step)) (now (numbers .exit)) r) ⌝ }
 {
-    let from = step.before;
-    let number = step_refusal(state, from);
-    if number == 0 {
-        let index = state.length;
-        chain::make_ready(step, numbers, index);
-        let next = with_step(state, step);
-        return Decided {
-            reply: Reply::Nothing,
-            state: next,
-        };
+    if state.refused {
+        return refuse(state, refusal::EARLIER, true, state.closed);
     }
-    refuse(state, number, true, state.closed)
+    if state.closed {
+        return refuse(state, refusal::MISPLACED, true, true);
+    }
+    let number = chain::extend(step, numbers);
+    if number != 0 {
+        return refuse(state, number, true, false);
+    }
+    let next = after(state, false, false);
+    Decided {
+        reply: Reply::Nothing,
+        state: next,
+    }
 }
 
 // A line that begins with S.
-fn decide_step(state: State, numbers: &mut Numbers, text: &[u8]) -> Decided
+fn decide_step(state: State, numbers: &mut Prepared, text: &[u8]) -> Decided
     requires { ⌜ state .line < 1000000 ⌝ }
     ensures { λ r. ⌜ ((s : Sheet) → Holds state (now (numbers .entry)) s → Gave (stepReply s (readStep (now (text .entry)))) (afterStep s (readStep (now (text .entry)))) (now (numbers .exit)) r) ⌝ }
 {
@@ -83,16 +79,14 @@ fn decide_step(state: State, numbers: &mut Numbers, text: &[u8]) -> Decided
 }
 
 // A point whose line is good by itself.
-fn convert_point(state: State, numbers: &Numbers, point: Point) -> Decided
+fn convert_point(state: State, numbers: &Prepared, point: Point) -> Decided
     requires { ⌜ (state .line < 1000000) × (pointFault point ≡ 0) ⌝ }
     ensures { λ r. ⌜ ((s : Sheet) → Holds state (now (numbers .entry)) s → Gave (pointReply s (point-line.Point point)) (afterPoint s (point-line.Point point)) (now (numbers .entry)) r) ⌝ }
 {
     if state.refused {
         return refuse(state, refusal::EARLIER, true, true);
     }
-    let start = state.start;
-    let end = state.end;
-    match chain::forward_ready(numbers, state.length, start, end, point) {
+    match chain::forward_prepared(numbers, point) {
         Answer::Refused(number) => refuse(state, number, false, true),
         Answer::Converted(converted) => {
             let next = after(state, false, true);
@@ -105,7 +99,7 @@ fn convert_point(state: State, numbers: &Numbers, point: Point) -> Decided
 }
 
 // A line that begins with P. A malformed one leaves the chain open; refused for what it says, it closes it.
-fn decide_point(state: State, numbers: &Numbers, text: &[u8]) -> Decided
+fn decide_point(state: State, numbers: &Prepared, text: &[u8]) -> Decided
     requires { ⌜ state .line < 1000000 ⌝ }
     ensures { λ r. ⌜ ((s : Sheet) → Holds state (now (numbers .entry)) s → Gave (pointReply s (readPoint (now (text .entry)))) (afterPoint s (readPoint (now (text .entry)))) (now (numbers .entry)) r) ⌝ }
 {
@@ -117,7 +111,7 @@ fn decide_point(state: State, numbers: &Numbers, text: &[u8]) -> Decided
 }
 
 // Any line but the empty piece, by its first byte.
-fn decide(state: State, numbers: &mut Numbers, text: &[u8]) -> Decided
+fn decide(state: State, numbers: &mut Prepared, text: &[u8]) -> Decided
     requires { ⌜ (state .line < 1000000) × (0 < length (now text)) ⌝ }
     ensures { λ r. ⌜ ((s : Sheet) → Holds state (now (numbers .entry)) s → Gave (replyOf s (now (text .entry))) (nextOf s (now (text .entry))) (now (numbers .exit)) r) ⌝ }
 {

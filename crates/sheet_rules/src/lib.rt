@@ -1,6 +1,5 @@
 // A sheet's rules: one line decided by value over a state, and a whole sheet from bytes to bytes.
 mod decide;
-mod joining;
 
 pub use decide::whole::sheet;
 
@@ -14,14 +13,10 @@ enum Reply {
     Refused(u64, u8),
 }
 
-// What has been read so far, but for the steps made ready, which are lent beside it so that no line copies them.
+// What has been read so far, but for the chain, which is lent beside it so that no line copies it.
 struct State {
     // The number of the line to come, from 1.
     line: u64,
-    // How many steps were accepted; where their chain starts and ends, all 0 while there is none.
-    length: usize,
-    start: chain::Realization,
-    end: chain::Realization,
     // A line beginning with S was refused.
     refused: bool,
     // A point line of good form was read.

@@ -1,19 +1,18 @@
--- What is promised of conversions beside demand 3: what comes out can be handed in again, a refusal has a number of the table, and a chain kept ready answers
--- as the conversion does.
+-- What is promised of conversions beside demand 3: what comes out can be handed in again, a refusal has a number of the table, and a prepared chain, extended step
+-- by step from none, answers as the conversion does, forward and inverse.
 use mathlib.Core.Path.{_≡_}
-use mathlib.Core.List.{List}
+use mathlib.Core.List.{List, [], _∷_, _++_}
 use Prim.Native.Nat.{ℕ, _<_}
-use lib.IntN.{ℤ}
+use lib.IntN.{ℤ, pos}
 use lib.ListN.{length}
 use Rattle.refusal.specs.Order.{first}
-use Rattle.chain.specs.declared.Realization.{Realization}
 use Rattle.chain.specs.declared.Point.{Point}
 use Rattle.chain.specs.declared.Step.{Step}
 use Rattle.chain.specs.declared.Chain.{Chain}
 use Rattle.chain.specs.declared.Answer.the-variants.{Converted, Refused}
-use Rattle.chain.specs.Faults.{pointFault, chainTests}
-use Rattle.chain.specs.Convert.{forwardOf}
-use Rattle.chain.specs.Prepared.{forwardReadyOf, chainOf, Held, Ends}
+use Rattle.chain.specs.Faults.{pointFault, stepTests}
+use Rattle.chain.specs.Convert.{moreTests, forwardOf, inverseOf}
+use Rattle.chain.specs.Prepared.{lengthIn, extendFault, extendedBy, forwardPrepared, inversePrepared, chainOf, Holds}
 
 abbrev pub HandedInAgain : Type 0
 HandedInAgain = (c : Chain) (p q : Point) → pointFault p ≡ 0 → forwardOf c p ≡ Converted q → pointFault q ≡ 0
@@ -21,13 +20,28 @@ HandedInAgain = (c : Chain) (p q : Point) → pointFault p ≡ 0 → forwardOf c
 abbrev pub NumberOfTable : Type 0
 NumberOfTable = (c : Chain) (p : Point) (n : ℕ) → forwardOf c p ≡ Refused n → n < 100
 
--- l holds the steps made ready, and the chain's start and end are kept beside them
-abbrev pub KeptReady : Type 0
-KeptReady =
-    (l : List ℤ) (p : Point) (start end : Realization) (ss : List Step) →
-    Held l ss → Ends start end ss → first (chainTests (chainOf ss)) ≡ 0 → pointFault p ≡ 0 → forwardReadyOf l (length ss) start end p ≡ forwardOf (chainOf ss) p
+-- the numbers hold no step to begin with, and a step more that is not refused
+abbrev pub HeldEmpty : Type 0
+HeldEmpty = (l : List ℤ) → length l ≡ 72 → lengthIn l ≡ pos 0 → Holds l []
+
+abbrev pub HeldMore : Type 0
+HeldMore = (l : List ℤ) (ss : List Step) (s : Step) → Holds l ss → first (stepTests s ++ moreTests ss s) ≡ 0 → Holds (extendedBy l s) (ss ++ (s ∷ []))
+
+-- what they say of a step is what the steps say
+abbrev pub SameRefusal : Type 0
+SameRefusal = (l : List ℤ) (ss : List Step) (s : Step) → Holds l ss → extendFault l s ≡ first (stepTests s ++ moreTests ss s)
+
+abbrev pub PreparedForward : Type 0
+PreparedForward = (l : List ℤ) (ss : List Step) → Holds l ss → (p : Point) → pointFault p ≡ 0 → forwardPrepared l p ≡ forwardOf (chainOf ss) p
+
+abbrev pub PreparedInverse : Type 0
+PreparedInverse = (l : List ℤ) (ss : List Step) → Holds l ss → (p : Point) → pointFault p ≡ 0 → inversePrepared l p ≡ inverseOf (chainOf ss) p
 
 pub record Outcomes : Type 0 where
   pub again : HandedInAgain
   pub number : NumberOfTable
-  pub ready : KeptReady
+  pub empty : HeldEmpty
+  pub more : HeldMore
+  pub refusal : SameRefusal
+  pub forward : PreparedForward
+  pub inverse : PreparedInverse

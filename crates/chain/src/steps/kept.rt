@@ -1,17 +1,19 @@
-// A chain kept ready for many points, in numbers that the caller lends: eight to a step, in up to eight places.
+// A chain prepared for many points, in rows of eight numbers that the caller lends: the first holds the chain's length and its ends, each other a step.
 ghost use mathlib.Core.Path.{_≡_};
-ghost use mathlib.Core.Bool.{true};
-ghost use mathlib.Core.List.{[], _∷_};
-ghost use Prim.Native.Nat.{_*_, _<_, _≤_};
-ghost use lib.Dec.{eqb};
+ghost use mathlib.Core.Bool.{true, _&&_};
+ghost use mathlib.Core.List.{[], _∷_, reverse};
+ghost use Prim.Native.Nat.{_+_, _-_, _*_, _<_, _≤_};
+ghost use lib.IntN.{pos, natAbs};
 ghost use lib.Seq.{sets};
-ghost use Rattle.refusal.specs.Order.{pick};
+ghost use Rattle.refusal.specs.Order.{first};
+ghost use Rattle.ranges.specs.Ranges.{within};
 ghost use Rattle.chain.specs.Faults.{inArea};
-ghost use Rattle.chain.specs.Prepared.{numbersOf, readyOf, readyAt, readyRange, readySteps, MadeReady, carried, forwardReadyOf};
+ghost use Rattle.chain.specs.Parts.{forwardBy, inverseBy};
+ghost use Rattle.chain.specs.Prepared.{startIn, endIn, formRange, numbersOf, readyOf, readyAt, readyRange, rowAt, rowsOf, extendTests, extendFault, startWith, firstRow, extendedBy, preparedTests, carried, reachedWith, forwardPrepared, inversePrepared};
 use crate::Answer;
-use crate::Numbers;
 use crate::Point;
 use crate::Position;
+use crate::Prepared;
 use crate::Realization;
 use crate::Step;
 use crate::faults;
@@ -22,14 +24,27 @@ use crate::steps::Scale;
 use crate::steps::Turn;
 use crate::steps::convert;
 
+// The forms of a row: the same gain everywhere, Bursa-Wolf, a frame.
+const FIXED: i64 = 0;
+
+const TURNED: i64 = 1;
+
+const SCALED: i64 = 2;
+
+// A step's row: whether a step can have given it, and what it says.
+struct Row {
+    good: bool,
+    ready: Ready,
+}
+
 // What eight numbers say.
 fn ready_of(form: i64, a: i64, b: i64, c: i64, d: i64, e: i64, f: i64, g: i64) -> Ready
     ensures { λ r. ⌜ r ≡ readyOf form a b c d e f g ⌝ }
 {
-    if ranges::equal(0, form) {
+    if ranges::equal(FIXED, form) {
         return Ready::Fixed(Position { x: a, y: b, z: c });
     }
-    if ranges::equal(1, form) {
+    if ranges::equal(TURNED, form) {
         return Ready::Turned(Turn {
             dx: a,
             dy: b,
@@ -48,9 +63,9 @@ fn ready_of(form: i64, a: i64, b: i64, c: i64, d: i64, e: i64, f: i64, g: i64) -
     })
 }
 
-// The step that is kept in a place.
-fn ready_at(numbers: &Numbers, index: usize) -> Ready
-    requires { ⌜ index < 8 ⌝ }
+// What a row says.
+fn ready_at(numbers: &Prepared, index: usize) -> Ready
+    requires { ⌜ index < 9 ⌝ }
     ensures { λ r. ⌜ r ≡ readyAt (now (numbers .entry)) index ⌝ }
 {
     let at = 8 * index;
@@ -98,19 +113,35 @@ fn ready_in_range(r: Ready) -> bool
     }
 }
 
-// Forward over the steps that are kept, the first one first.
-fn carry(numbers: &Numbers, length: usize, point: Point, end: Realization) -> Answer
-    requires { ⌜ (length ≤ 8) × (inArea (point .position) ≡ true) ⌝ }
-    ensures { λ r. ⌜ r ≡ carried point end (readySteps (now (numbers .entry)) 0 length) (point .position) ⌝ }
+// A row, and whether a step can have given its form and its figures: the caller's numbers can be anything.
+fn row_at(numbers: &Prepared, index: usize) -> Row
+    requires { ⌜ index < 9 ⌝ }
+    ensures { λ r. ⌜ r ≡ rowAt (now (numbers .entry)) index ⌝ }
+{
+    let at = 8 * index;
+    let form = numbers[at];
+    let ready = ready_at(numbers, index);
+    let good = ranges::within(FIXED, form, SCALED) & ready_in_range(ready);
+    Row {
+        good: good,
+        ready: ready,
+    }
+}
+
+// Forward over the rows from the first step's on.
+fn carry(numbers: &Prepared, rows: usize, point: Point, end: Realization) -> Answer
+    requires { ⌜ (1 ≤ rows) × (rows ≤ 9) × (inArea (point .position) ≡ true) ⌝ }
+    ensures { λ r. ⌜ r ≡ carried forwardBy point end (rowsOf (now (numbers .entry)) 1 (rows - 1)) (point .position) ⌝ }
 {
     let mut p = point.position;
-    let mut i = 0;
-    while i < length {
-        let r = ready_at(numbers, i);
-        if !ready_in_range(r) {
+    let mut i = 1;
+    while i < rows {
+        let row = row_at(numbers, i);
+        if !row.good {
             return Answer::Refused(refusal::RANGE);
         }
-        p = steps::forward_ready(r, p);
+        let ready = row.ready;
+        p = steps::forward_ready(ready, p);
         if !points::in_area(p) {
             return Answer::Refused(refusal::LEFT);
         }
@@ -119,45 +150,114 @@ fn carry(numbers: &Numbers, length: usize, point: Point, end: Realization) -> An
     Answer::Converted(convert::moved_to(point, end, p))
 }
 
-// Where a point is after a chain of so many steps: where it was, for none.
-fn end_with(length: usize, here: Realization, end: Realization) -> Realization
-    ensures { λ r. ⌜ r ≡ pick (eqb length 0) here end ⌝ }
+// Inverse over the rows, from the last step's down.
+fn carry_back(numbers: &Prepared, length: usize, point: Point, end: Realization) -> Answer
+    requires { ⌜ (length ≤ 8) × (inArea (point .position) ≡ true) ⌝ }
+    ensures { λ r. ⌜ r ≡ carried inverseBy point end (reverse (rowsOf (now (numbers .entry)) 1 length)) (point .position) ⌝ }
 {
-    if length == 0 {
+    let mut p = point.position;
+    let mut i = length;
+    while 0 < i {
+        let row = row_at(numbers, i);
+        if !row.good {
+            return Answer::Refused(refusal::RANGE);
+        }
+        let ready = row.ready;
+        p = steps::inverse_ready(ready, p);
+        if !points::in_area(p) {
+            return Answer::Refused(refusal::LEFT);
+        }
+        i -= 1;
+    }
+    Answer::Converted(convert::moved_to(point, end, p))
+}
+
+fn start_in(numbers: &Prepared) -> Realization
+    ensures { λ r. ⌜ r ≡ startIn (now (numbers .entry)) ⌝ }
+{
+    Realization {
+        datum: numbers[1],
+        epoch: numbers[2],
+    }
+}
+
+fn end_in(numbers: &Prepared) -> Realization
+    ensures { λ r. ⌜ r ≡ endIn (now (numbers .entry)) ⌝ }
+{
+    Realization {
+        datum: numbers[3],
+        epoch: numbers[4],
+    }
+}
+
+// A length that a chain can have, as a number of rows.
+fn count(n: i64) -> usize
+    requires { ⌜ within (pos 0) n (pos 8) ≡ true ⌝ }
+    ensures { λ r. ⌜ r ≡ natAbs n ⌝ }
+{
+    n as usize
+}
+
+// What a chain of n steps, wanted at a realization, says of a point with no fault of its own: NINTH, START, AREA, or 0 for none.
+fn prepared_fault(n: i64, wanted: Realization, point: Point) -> u8
+    ensures { λ r. ⌜ r ≡ first (preparedTests n wanted point) ⌝ }
+{
+    if !ranges::within(0, n, 8) {
+        return refusal::NINTH;
+    }
+    let here = point.realization;
+    if !(ranges::equal(0, n) | points::same_realization(here, wanted)) {
+        return refusal::START;
+    }
+    let position = point.position;
+    if !points::in_area(position) {
+        return refusal::AREA;
+    }
+    0
+}
+
+// Where a point is after a chain of so many steps: where it was, for none.
+fn reached_with(n: i64, here: Realization, end: Realization) -> Realization
+    ensures { λ r. ⌜ r ≡ reachedWith n here end ⌝ }
+{
+    if ranges::equal(0, n) {
         return here;
     }
     end
 }
 
-// What is left of a forward conversion once a chain is kept ready in `numbers` and the point has no fault of its own (`point_fault`): 9, 10, 11, or the
-// converted point. `start` and `end` are the chain's, and are not looked at for the empty chain. Numbers that no step gives are refused with 2, a length over
-// 8 with 6.
-pub fn forward_ready(
-    numbers: &Numbers,
-    length: usize,
-    start: Realization,
-    end: Realization,
-    point: Point,
-) -> Answer
-    ensures { λ r. ⌜ r ≡ forwardReadyOf (now (numbers .entry)) length start end point ⌝ }
+// What is left of a forward conversion once a chain is prepared and the point has no fault of its own (`point_fault`): the point at the chain's end in units of
+// 0.00001 m, or refused with 9, 10 or 11. Numbers that no chain gives are refused too: a length that is not 0 to 8 with 6, a row that no step gives with 2.
+pub fn forward_prepared(numbers: &Prepared, point: Point) -> Answer
+    ensures { λ r. ⌜ r ≡ forwardPrepared (now (numbers .entry)) point ⌝ }
 {
-    if 8 < length {
-        return Answer::Refused(refusal::NINTH);
+    let n = numbers[0];
+    let f = prepared_fault(n, start_in(numbers), point);
+    if f != 0 {
+        return Answer::Refused(f);
     }
     let here = point.realization;
-    if !((length == 0) | points::same_realization(here, start)) {
-        return Answer::Refused(refusal::START);
-    }
-    let position = point.position;
-    if !points::in_area(position) {
-        return Answer::Refused(refusal::AREA);
-    }
-    carry(numbers, length, point, end_with(length, here, end))
+    let end = reached_with(n, here, end_in(numbers));
+    carry(numbers, count(n) + 1, point, end)
 }
 
-// Eight numbers into a place.
+// The same for an inverse conversion: the point at the chain's start, or refused as above.
+pub fn inverse_prepared(numbers: &Prepared, point: Point) -> Answer
+    ensures { λ r. ⌜ r ≡ inversePrepared (now (numbers .entry)) point ⌝ }
+{
+    let n = numbers[0];
+    let f = prepared_fault(n, end_in(numbers), point);
+    if f != 0 {
+        return Answer::Refused(f);
+    }
+    let here = point.realization;
+    let end = reached_with(n, here, start_in(numbers));
+    carry_back(numbers, count(n), point, end)
+}
+
+// Eight numbers into a row.
 fn put(
-    numbers: &mut Numbers,
+    numbers: &mut Prepared,
     index: usize,
     form: i64,
     a: i64,
@@ -168,7 +268,7 @@ fn put(
     f: i64,
     g: i64,
 )
-    requires { ⌜ index < 8 ⌝ }
+    requires { ⌜ index < 9 ⌝ }
     ensures { λ _. ⌜ now (numbers .exit) ≡ sets (now (numbers .entry)) (8 * index) (form ∷ a ∷ b ∷ c ∷ d ∷ e ∷ f ∷ g ∷ []) ⌝ }
 {
     let at = 8 * index;
@@ -182,26 +282,84 @@ fn put(
     numbers[at + 7] = g;
 }
 
-fn put_ready(r: Ready, numbers: &mut Numbers, index: usize)
-    requires { ⌜ index < 8 ⌝ }
+fn put_ready(r: Ready, numbers: &mut Prepared, index: usize)
+    requires { ⌜ index < 9 ⌝ }
     ensures { λ _. ⌜ now (numbers .exit) ≡ sets (now (numbers .entry)) (8 * index) (numbersOf r) ⌝ }
 {
     match r {
-        Ready::Fixed(g) => put(numbers, index, 0, g.x, g.y, g.z, 0, 0, 0, 0),
-        Ready::Turned(t) => put(numbers, index, 1, t.dx, t.dy, t.dz, t.rx, t.ry, t.rz, t.s),
-        Ready::Scaled(t) => put(numbers, index, 2, t.kx, t.ky, t.kz, t.slope, 0, 0, 0),
+        Ready::Fixed(g) => put(numbers, index, FIXED, g.x, g.y, g.z, 0, 0, 0, 0),
+        Ready::Turned(t) => put(
+            numbers,
+            index,
+            TURNED,
+            t.dx,
+            t.dy,
+            t.dz,
+            t.rx,
+            t.ry,
+            t.rz,
+            t.s,
+        ),
+        Ready::Scaled(t) => put(numbers, index, SCALED, t.kx, t.ky, t.kz, t.slope, 0, 0, 0),
     }
 }
 
-// Keeps a step ready in a place, 0 to 7. A step with a fault of its own, or a place past the last, leaves the numbers as they were.
-pub fn make_ready(step: Step, numbers: &mut Numbers, index: usize)
-    ensures { λ _. ⌜ MadeReady (now (numbers .entry)) index step (now (numbers .exit)) ⌝ }
+// The first row: the length and the ends.
+fn put_first(numbers: &mut Prepared, n: i64, start: Realization, end: Realization)
+    ensures { λ _. ⌜ now (numbers .exit) ≡ sets (now (numbers .entry)) 0 (firstRow n start end) ⌝ }
 {
-    if 8 <= index {
-        return;
+    let a = start.datum;
+    let b = start.epoch;
+    let c = end.datum;
+    let d = end.epoch;
+    numbers[0] = n;
+    numbers[1] = a;
+    numbers[2] = b;
+    numbers[3] = c;
+    numbers[4] = d;
+}
+
+// Where a chain starts, with a step more: the first step's beginning.
+fn start_with(n: i64, start: Realization, step: Step) -> Realization
+    ensures { λ r. ⌜ r ≡ startWith n start step ⌝ }
+{
+    if ranges::equal(0, n) {
+        return step.before;
     }
-    if faults::step_fault(step) != 0 {
-        return;
+    start
+}
+
+// What a step is refused for after a chain of n steps that ends at a realization: its own RANGE, EPOCH, KIND, then JOIN, NINTH, or 0 for none.
+fn extend_fault(n: i64, end: Realization, step: Step) -> u8
+    ensures { λ r. ⌜ r ≡ first (extendTests n end step) ⌝ }
+{
+    let f = faults::step_fault(step);
+    if f != 0 {
+        return f;
     }
-    put_ready(steps::prepare(step), numbers, index);
+    let from = step.before;
+    if !(ranges::equal(0, n) | points::same_realization(end, from)) {
+        return refusal::JOIN;
+    }
+    if !ranges::within(0, n, 7) {
+        return refusal::NINTH;
+    }
+    0
+}
+
+// Adds a step to a prepared chain: 0, or the refusal with the numbers as they were. 2, 3, 4 for the step by itself, then 5 where it does not begin where the chain
+// ends, then 6 where the chain has eight steps, or a length that no chain has.
+pub fn extend(step: Step, numbers: &mut Prepared) -> u8
+    ensures { λ r. ⌜ (r ≡ extendFault (now (numbers .entry)) step) × (now (numbers .exit) ≡ extendedBy (now (numbers .entry)) step) ⌝ }
+{
+    let n = numbers[0];
+    let f = extend_fault(n, end_in(numbers), step);
+    if f != 0 {
+        return f;
+    }
+    let start = start_with(n, start_in(numbers), step);
+    let end = step.after;
+    put_ready(steps::prepare(step), numbers, count(n) + 1);
+    put_first(numbers, n + 1, start, end);
+    0
 }

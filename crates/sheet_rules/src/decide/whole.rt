@@ -3,25 +3,18 @@ ghost use Rattle.line.specs.Text.{Wrote};
 ghost use Rattle.listing.specs.Fold.{Prints};
 ghost use Rattle.sheet_rules.specs.Sheet.{fresh, replyText, sheetOf};
 ghost use Rattle.sheet_rules.specs.State.{Holds};
-ghost use mathlib.Core.Path.{_≡_};
-ghost use mathlib.Core.List.{List};
-ghost use lib.IntN.{ℤ};
-ghost use lib.ListN.{length};
+ghost use lib.IntN.{pos};
+ghost use lib.ListN.{replicate};
 use crate::Reply;
 use crate::State;
 use crate::decide::decide;
-use chain::Realization;
 
 // Nothing read yet.
 fn fresh() -> State
-    ensures { λ r. ⌜ ((l : List ℤ) → length l ≡ 64 → Holds r l fresh) ⌝ }
+    ensures { λ r. ⌜ Holds r (replicate 72 (pos 0)) fresh ⌝ }
 {
-    let nowhere = Realization { datum: 0, epoch: 0 };
     State {
         line: 1,
-        length: 0,
-        start: nowhere,
-        end: nowhere,
         refused: false,
         closed: false,
     }
@@ -46,7 +39,7 @@ pub fn sheet(input: &[u8], out: &mut [u8]) -> usize
     if listing::LONGEST_INPUT < input.len() {
         return line::write_refusal(out, 0, 0, refusal::LONG);
     }
-    let mut numbers = [0i64; 64];
+    let mut numbers = [0i64; 72];
     let mut state = fresh();
     let mut at: usize = 0;
     let mut from: usize = 0;

@@ -8,7 +8,7 @@ use Rattle.rounding.proofs.Zn.{v, _⊖_, abs, unabs}
 use Rattle.rounding.proofs.Machine.{rd, fits, rd-, fit-, of₃}
 use Rattle.chain.specs.Parts.{minus}
 use Rattle.chain.specs.Axes.{Axis, onX, onY, onZ, coordinate}
-use Rattle.chain.proofs.Prepared.{position}
+use Rattle.chain.specs.Ready.{position}
 use Rattle.chain.proofs.steps.minus.Statement.{statement}
 use Rattle.chain.proofs.steps.minus.Tie as tie
 

@@ -9,7 +9,8 @@ use Rattle.rounding.proofs.Zn.{k}
 use Rattle.rounding.proofs.Machine.{rd, fits, to₃, of₃}
 use Rattle.chain.specs.Parts.{stepRound}
 use Rattle.chain.specs.Axes.{Axis, onX, onY, onZ, coordinate}
-use Rattle.chain.proofs.Prepared.{position, slope-gain}
+use Rattle.chain.specs.Ready.{position}
+use Rattle.chain.proofs.Prepared.{slope-gain}
 use Rattle.chain.proofs.steps.scale_gain.Statement.{statement}
 use Rattle.chain.proofs.steps.scale_gain.Tie as tie
 

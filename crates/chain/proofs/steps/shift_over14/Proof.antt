@@ -10,7 +10,8 @@ use Rattle.rounding.proofs.Zn.{mul-le}
 use Rattle.rounding.proofs.Machine.{rd, fits, rd*, fit*, rd0-, fit0-, of₃}
 use lib.Dec.{lit<}
 use Rattle.chain.specs.Parts.{atEpoch}
-use Rattle.chain.proofs.Prepared.{overOf, over}
+use Rattle.chain.specs.Ready.{overOf}
+use Rattle.chain.proofs.Prepared.{over}
 use Rattle.chain.proofs.Sizes.{at-epoch-size}
 use Rattle.chain.proofs.steps.shift_over14.Statement.{statement}
 use Rattle.chain.proofs.steps.shift_over14.Tie as tie

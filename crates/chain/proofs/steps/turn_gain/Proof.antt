@@ -10,7 +10,7 @@ use Rattle.rounding.proofs.Machine.{rd, fits, rd0-, fit0-, to₄, of₃, of₄}
 use Rattle.chain.specs.declared.steps.Turn.{Turn}
 use Rattle.chain.specs.Parts.{linear, part, gain, over11}
 use Rattle.chain.specs.Ready.{TurnOk, PartOk}
-use Rattle.chain.proofs.Prepared.{position}
+use Rattle.chain.specs.Ready.{position}
 use Rattle.chain.proofs.steps.turn_gain.Statement.{statement}
 use Rattle.chain.proofs.steps.turn_gain.Tie as tie
 

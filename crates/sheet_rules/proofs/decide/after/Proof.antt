@@ -5,12 +5,12 @@ use mathlib.Core.Path.{refl}
 use Rattle.sheet_rules.proofs.decide.after.Statement.{statement}
 use Rattle.sheet_rules.proofs.decide.after.Tie as tie
 
-add-t6 : tie.Need-add-t6
-add-t6 c = search needs
+add-t4 : tie.Need-add-t4
+add-t4 c = search needs
 
 returns : tie.Need-returns
 unfolding afterIn
 returns c = refl
 
 pub after-spec : {M : Type 1} → statement M
-after-spec = tie.close (tie.spec add-t6 returns)
+after-spec = tie.close (tie.spec add-t4 returns)

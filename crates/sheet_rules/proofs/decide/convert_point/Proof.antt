@@ -12,8 +12,8 @@ refuse-requires c κs = search needs
 returns : tie.Need-returns
 returns c = λ s h. let q : s .refused ≡ true = sym (h .refused) ∙ c .before .if1 .taken in rw q (gave-refusal h _ _ _ _ refl (sym (or-true (s .closed))) _ _ (c .refuse .ensures))
 
-forward-ready-requires : tie.Need-forward-ready-requires
-forward-ready-requires c κs = tt
+forward-prepared-requires : tie.Need-forward-prepared-requires
+forward-prepared-requires c κs = tt
 
 enum-known-number : tie.Need-enum-known-number
 enum-known-number c = search needs
@@ -30,17 +30,17 @@ after-requires c κs = search needs
 returns-2 : tie.Need-returns-2
 returns-2 c = λ s h.
     let f = c .before .before .before .before in
-    let b = c .before .before .before .before .before .before .before .before in
-    let q : s .refused ≡ false = sym (h .refused) ∙ c .before .before .before .before .before .before .before .if1 .left in
-    let e = answered h (b .args .point) (b .pre .1) (f .forward-ready .ensures) (c .before .before .number .given .1) in
+    let b = c .before .before .before .before .before .before in
+    let q : s .refused ≡ false = sym (h .refused) ∙ c .before .before .before .before .before .if1 .left in
+    let e = answered h (b .args .point) (b .pre .1) (f .forward-prepared .ensures) (c .before .before .number .given .1) in
     rw (q, e) (gave-refusal h _ _ _ _ refl (sym (or-true (s .closed))) _ _ (c .refuse2 .ensures))
 
 returns-3 : tie.Need-returns-3
 returns-3 c = λ s h.
     let f = c .before .before .before .before in
-    let b = c .before .before .before .before .before .before .before .before in
-    let q : s .refused ≡ false = sym (h .refused) ∙ c .before .before .before .before .before .before .before .if1 .left in
-    let e = answered h (b .args .point) (b .pre .1) (f .forward-ready .ensures) (c .before .before .converted .given .1) in
+    let b = c .before .before .before .before .before .before in
+    let q : s .refused ≡ false = sym (h .refused) ∙ c .before .before .before .before .before .if1 .left in
+    let e = answered h (b .args .point) (b .pre .1) (f .forward-prepared .ensures) (c .before .before .converted .given .1) in
     rw (q, e) (gave-point h _ _ _ _ refl (sym (or-true (s .closed))) _ _ refl (c .after .ensures))
 
 pub convert-point-spec : {M : Type 1} → statement M
@@ -49,7 +49,7 @@ convert-point-spec =
     (tie.spec
     refuse-requires
     returns
-    forward-ready-requires
+    forward-prepared-requires
     enum-known-number
     refuse-requires-2
     enum-known-converted

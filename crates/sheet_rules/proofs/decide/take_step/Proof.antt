@@ -1,35 +1,53 @@
 -- `sheet_rules::decide::take_step` meets its contract. Assumes nothing.
 use mathlib.Core.Path.{refl, sym, _∙_}
-use Rattle.sheet_rules.proofs.Laws.{opened, gave-step, gave-no-step}
+use Rattle.sheet_rules.proofs.Laws.{gave-earlier, gave-misplaced, gave-no-step, gave-step}
 use borrow.Author.Needs.{needs}
 use Rattle.sheet_rules.proofs.decide.take_step.Statement.{statement}
 use Rattle.sheet_rules.proofs.decide.take_step.Tie as tie
 
-step-refusal-requires : tie.Need-step-refusal-requires
-step-refusal-requires c κs = search needs
-
-make-ready-requires : tie.Need-make-ready-requires
-make-ready-requires c κs = tt
-
-with-step-requires : tie.Need-with-step-requires
-with-step-requires c κs = (c .before .before .before .before .before .pre .0, opened _ _ (sym (c .before .before .before .step-refusal .ensures) ∙ c .before .before .if1 .taken) .few)
-
-returns : tie.Need-returns
-returns c = λ s h. gave-step h (c .before .before .before .before .before .before .args .step) _ (c .before .before .before .before .step-refusal .ensures) (c .before .before .before .if1 .taken) (c .before .before .before .before .before .before .pre .1) _ _ (c .before .make-ready .ensures) refl (c .with-step .ensures)
-
 refuse-requires : tie.Need-refuse-requires
 refuse-requires c κs = search needs
 
+returns : tie.Need-returns
+returns c = λ s h. gave-earlier h (c .before .before .args .step) (c .before .if1 .taken) _ (c .refuse .ensures)
+
+refuse-requires-2 : tie.Need-refuse-requires-2
+refuse-requires-2 c κs = search needs
+
 returns-2 : tie.Need-returns-2
-returns-2 c = λ s h. gave-no-step h (c .before .before .before .before .args .step) _ (c .before .before .step-refusal .ensures) (c .before .if1 .left) _ (c .refuse .ensures)
+returns-2 c = λ s h. gave-misplaced h (c .before .before .before .args .step) (c .before .before .if1 .left) (c .before .if2 .taken) _ (c .refuse2 .ensures)
+
+extend-requires : tie.Need-extend-requires
+extend-requires c κs = search needs
+
+refuse-requires-3 : tie.Need-refuse-requires-3
+refuse-requires-3 c κs = search needs
+
+returns-3 : tie.Need-returns-3
+returns-3 c = λ s h.
+    let a = c .before .before .before .before .before .before in
+    let x = c .before .before in
+    gave-no-step h (a .args .step) (c .before .before .before .before .before .if1 .left) (c .before .before .before .before .if2 .left) (a .pre .1) _ (x .extend .ensures .0) (c .before .if3 .taken) _ (x .extend .ensures .1) _ (c .refuse3 .ensures)
+
+after-requires : tie.Need-after-requires
+after-requires c κs = search needs
+
+returns-4 : tie.Need-returns-4
+returns-4 c = λ s h.
+    let a = c .before .before .before .before .before .before in
+    let x = c .before .before in
+    gave-step h (a .args .step) (c .before .before .before .before .before .if1 .left) (c .before .before .before .before .if2 .left) (a .pre .1) (sym (x .extend .ensures .0) ∙ c .before .if3 .left) _ (x .extend .ensures .1) _ refl (c .after .ensures)
 
 pub take-step-spec : {M : Type 1} → statement M
 take-step-spec =
     tie.close
     (tie.spec
-    step-refusal-requires
-    make-ready-requires
-    with-step-requires
-    returns
     refuse-requires
-    returns-2)
+    returns
+    refuse-requires-2
+    returns-2
+    extend-requires
+    refuse-requires-3
+    returns-3
+    after-requires
+    returns-4)

@@ -1,6 +1,8 @@
 -- `chain::steps::convert::forward_step` meets its contract. Assumes nothing.
-use mathlib.Core.Path.{_∙_, ap}
-use Rattle.chain.specs.Parts.{plus, forwardBy}
+use mathlib.Core.Path.{_∙_, subst⁻¹}
+use Rattle.chain.specs.declared.steps.Ready.{Ready}
+use Rattle.chain.specs.Ready.{Prepares}
+use Rattle.chain.proofs.Prepared.{prepares, forward-same}
 use Rattle.chain.proofs.Within.{area-small}
 use Rattle.chain.proofs.steps.convert.forward_step.Statement.{statement}
 use Rattle.chain.proofs.steps.convert.forward_step.Tie as tie
@@ -8,12 +10,15 @@ use Rattle.chain.proofs.steps.convert.forward_step.Tie as tie
 prepare-requires : tie.Need-prepare-requires
 prepare-requires c κs = c .pre .0
 
+-- what was prepared is ready for the step
+ready : (c : tie.After-prepare) → Prepares (c .before .args .step) (c .prepare .result)
+ready c = subst⁻¹ (λ (r : Ready). Prepares (c .before .args .step) r) (c .prepare .ensures) (prepares (c .before .args .step) (c .before .pre .0))
+
 forward-ready-requires : tie.Need-forward-ready-requires
-forward-ready-requires c κs = let s = c .before in (c .prepare .ensures .ok, area-small (s .args .p) (s .pre .1))
+forward-ready-requires c κs = let s = c .before in (ready c .ok, area-small (s .args .p) (s .pre .1))
 
 returns : tie.Need-returns
-unfolding forwardBy
-returns c = let s = c .before .before in c .forward-ready .ensures ∙ ap (plus (s .args .p)) (c .before .prepare .ensures .same (s .args .p))
+returns c = let s = c .before .before in c .forward-ready .ensures ∙ forward-same (s .args .step) (c .before .prepare .result) (ready (c .before)) (s .args .p)
 
 pub forward-step-spec : {M : Type 1} → statement M
 forward-step-spec = tie.close (tie.spec prepare-requires forward-ready-requires returns)

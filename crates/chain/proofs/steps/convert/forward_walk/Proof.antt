@@ -9,7 +9,7 @@ use lib.ListN.{length, take, drop, getD}
 use Rattle.rounding.proofs.Zn.{k}
 use Rattle.chain.specs.declared.Position.{Position}
 use Rattle.chain.specs.declared.Step.{Step}
-use Rattle.chain.proofs.Prepared.{position}
+use Rattle.chain.specs.Ready.{position}
 use lib.ListN.{length-map}
 use Rattle.chain.specs.declared.Answer.{Answer}
 use Rattle.chain.specs.declared.Answer.the-variants.{Converted}

@@ -10,7 +10,7 @@ use Rattle.rounding.proofs.Zn.{k}
 use Rattle.rounding.proofs.Machine.{test}
 use Rattle.chain.specs.declared.Position.{Position}
 use Rattle.chain.specs.declared.Step.{Step}
-use Rattle.chain.proofs.Prepared.{position}
+use Rattle.chain.specs.Ready.{position}
 use lib.ListN.{length-map}
 use Rattle.chain.specs.declared.Answer.{Answer}
 use Rattle.chain.specs.declared.Answer.the-variants.{Converted}

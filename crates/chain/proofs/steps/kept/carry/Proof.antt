@@ -1,63 +1,95 @@
--- `chain::steps::kept::carry` meets its contract. Assumes nothing.
-use Rattle.chain.specs.declared.steps.Ready.{Ready}
-use Rattle.chain.specs.declared.Answer.the-variants.{Converted}
-use Rattle.chain.specs.Parts.{forwardBy}
-use Rattle.chain.specs.Ready.{readyParts}
-use Rattle.chain.specs.Prepared.{readyAt, readyRange}
-use Rattle.chain.proofs.Within.{area-small}
-use Rattle.chain.proofs.Keeping.{range-ok, turn-range, turn-left, turn-on, turn-end}
-use Prim.Native.Nat.{_+_, _-_, _≤_}
-use mathlib.Core.Path.{_≡_, sym, _∙_, ap}
-use mathlib.Core.Bool.{true}
+-- `chain::steps::kept::carry` meets its contract. The loop's invariant: the rows that are left lead where all of them do. Assumes nothing.
+use mathlib.Core.Path.{_≡_, refl, sym, _∙_, ap, subst⁻¹}
+use mathlib.Core.Bool.{Bool, true, false}
+use mathlib.Core.List.{List, _∷_}
+use Prim.Native.Nat.{ℕ, _+_, _-_, _≤_}
 use native.Mathlib.Omega.{arith}
 use borrow.Author.Tests.{not-true, not-false}
+use lib.IntN.{ℤ}
+use Rattle.chain.specs.declared.Position.{Position}
+use Rattle.chain.specs.declared.steps.kept.Row.{Row}
+use Rattle.chain.specs.declared.Answer.the-variants.{Converted}
 use Rattle.chain.specs.Faults.{inArea}
-use Rattle.chain.specs.Prepared.{carried, readySteps}
+use Rattle.chain.specs.Parts.{forwardBy}
+use Rattle.chain.specs.Ready.{readyParts, ReadyOk}
+use Rattle.chain.specs.Prepared.{rowAt, rowsOf, carried}
+use Rattle.chain.proofs.Within.{area-small}
+use Rattle.chain.proofs.Keeping.{rows-on, no-rows, turn-range, turn-left, turn-on, turn-end, row-ok}
 use Rattle.chain.proofs.steps.kept.carry.Statement.{statement}
 use Rattle.chain.proofs.steps.kept.carry.Tie as tie
 
 abbrev Inv-loop : tie.InvT-loop
-Inv-loop numbers length point end p₀ i₀ p i = (i ≤ length) × (inArea p ≡ true) × (carried point end (readySteps numbers i (length - i)) p ≡ carried point end (readySteps numbers 0 length) (point .position))
+Inv-loop numbers rows point end p₀ i₀ p i = (1 ≤ i) × (i ≤ rows) × (inArea p ≡ true) × (carried forwardBy point end (rowsOf numbers i (rows - i)) p ≡ carried forwardBy point end (rowsOf numbers 1 (rows - 1)) (point .position))
 
 abbrev μ-loop : tie.MeasureT-loop
-μ-loop numbers length point end p₀ i₀ p i = length - i
+μ-loop numbers rows point end p₀ i₀ p i = rows - i
 
 loop-holds : tie.Need-loop-holds Inv-loop μ-loop
-loop-holds c = let e : c .before .args .length - 0 ≡ c .before .args .length = omega arith in (omega arith, c .before .pre .1, rw e)
+loop-holds c = (omega arith, omega (arith, c .before .pre .0), c .before .pre .2, refl)
 
-ready-at-requires : tie.Need-ready-at-requires Inv-loop μ-loop
-ready-at-requires c κs = omega arith
+row-at-requires : tie.Need-row-at-requires Inv-loop μ-loop
+row-at-requires c κs = omega arith
 
-ready-in-range-requires : tie.Need-ready-in-range-requires Inv-loop μ-loop
-ready-in-range-requires c κs = tt
+-- a turn: the row at i, then those that are left
+module _ (c : tie.After-row-at Inv-loop μ-loop) where
+  abbrev s : tie.Start Inv-loop μ-loop
+  s = c .before .before .before .before
+
+  abbrev l : List ℤ
+  l = s .args .numbers .now
+
+  abbrev i : ℕ
+  i = c .before .before .loop .i
+
+  abbrev q : Position
+  q = c .before .before .loop .p
+
+  abbrev after : List Row
+  after = rowsOf l (i + 1) (s .args .rows - (i + 1))
+
+  is : (rowsOf l i (s .args .rows - i)) ≡ rowAt l i ∷ after
+  is = let t = c .before .loop-test .taken in rows-on l i (s .args .rows) t
+
+  good : (b : Bool) → c .row-at .result .good ≡ b → rowAt l i .good ≡ b
+  good b e = ap (λ (r : Row). r .good) (sym (c .row-at .ensures)) ∙ e
+
+  whole : carried forwardBy (s .args .point) (s .args .end) (rowsOf l i (s .args .rows - i)) q ≡ carried forwardBy (s .args .point) (s .args .end) (rowsOf l 1 (s .args .rows - 1)) (s .args .point .position)
+  whole = c .before .before .loop .inv .3
 
 returns : tie.Need-returns Inv-loop μ-loop
 returns c =
-    let c2 = c .before .before in
-    let c4 = c2 .before .before in
-    let c6 = c4 .before .before in
-    let k = c4 .loop in
-    let l = c6 .args .numbers .now in
-    sym (sym (k .inv .2) ∙ turn-range (c6 .args .point) (c6 .args .end) l (k .i) (c6 .args .length) (omega arith) (k .p) (ap readyRange (sym (c2 .ready-at .ensures)) ∙ sym (c .before .ready-in-range .ensures) ∙ not-true _ (c .if1 .taken)))
+    let a = c .before .before in
+    sym (sym (whole a) ∙ turn-range forwardBy (s a .args .point) (s a .args .end) _ (after a) (rowAt (l a) (i a)) (is a) (q a) (good a false (not-true _ (c .if1 .taken))))
 
 forward-ready-requires : tie.Need-forward-ready-requires Inv-loop μ-loop
-forward-ready-requires c κs = (range-ok _ (sym (c .before .ready-in-range .ensures) ∙ not-false _ (c .if1 .left)), area-small (c .before .before .before .before .loop .p) (c .before .before .before .before .loop .inv .1))
+forward-ready-requires c κs =
+    let a = c .before .before in
+    (subst⁻¹ (λ (r : Row). ReadyOk (r .ready)) (a .row-at .ensures) (row-ok (l a) (i a) (good a true (not-false _ (c .if1 .left)))), area-small (q a) (a .before .before .loop .inv .2))
 
 in-area-requires : tie.Need-in-area-requires Inv-loop μ-loop
 in-area-requires c κs = tt
 
+-- where the row leads
+module _ (c : tie.After-in-area Inv-loop μ-loop) where
+  abbrev a : tie.After-row-at Inv-loop μ-loop
+  a = c .before .before .before .before
+
+  abbrev next : Position
+  next = forwardBy (readyParts (rowAt (l a) (i a) .ready)) (q a)
+
+  sound : rowAt (l a) (i a) .good ≡ true
+  sound = good a true (not-false _ (c .before .before .if1 .left))
+
+  is-next : c .before .forward-ready .result ≡ next
+  is-next = c .before .forward-ready .ensures ∙ ap (λ (r : Row). forwardBy (readyParts (r .ready)) (q a)) (a .row-at .ensures)
+
+  area : (b : Bool) → c .in-area .result ≡ b → inArea next ≡ b
+  area b e = ap inArea (sym is-next) ∙ sym (c .in-area .ensures) ∙ e
+
 returns-2 : tie.Need-returns-2 Inv-loop μ-loop
 returns-2 c =
-    let c2 = c .before .before in
-    let c3 = c2 .before in
-    let c4 = c3 .before in
-    let c5 = c4 .before in
-    let c7 = c5 .before .before in
-    let c9 = c7 .before .before in
-    let k = c7 .loop in
-    let l = c9 .args .numbers .now in
-    let e = ap readyRange (sym (c5 .ready-at .ensures)) ∙ sym (c4 .ready-in-range .ensures) ∙ not-false _ (c3 .if1 .left) in
-    sym (sym (k .inv .2) ∙ turn-left (c9 .args .point) (c9 .args .end) l (k .i) (c9 .args .length) (omega arith) (k .p) e (ap (λ (r : Ready). inArea (forwardBy (readyParts r) (k .p))) (sym (c5 .ready-at .ensures)) ∙ ap inArea (sym (c2 .forward-ready .ensures)) ∙ sym (c .before .in-area .ensures) ∙ not-true _ (c .if2 .taken)))
+    let d = c .before in
+    sym (sym (whole (a d)) ∙ turn-left forwardBy (s (a d) .args .point) (s (a d) .args .end) _ (after (a d)) (rowAt (l (a d)) (i (a d))) (is (a d)) (q (a d)) (sound d) (area d false (not-true _ (c .if2 .taken))))
 
 add-i : tie.Need-add-i Inv-loop μ-loop
 add-i c = omega arith
@@ -67,44 +99,25 @@ loop-less c = omega arith
 
 loop-again : tie.Need-loop-again Inv-loop μ-loop
 loop-again c =
-    let c2 = c .before .before in
-    let c3 = c2 .before in
-    let c4 = c3 .before in
-    let c5 = c4 .before in
-    let c7 = c5 .before .before in
-    let c9 = c7 .before .before in
-    let k = c7 .loop in
-    let l = c9 .args .numbers .now in
-    let e = ap readyRange (sym (c5 .ready-at .ensures)) ∙ sym (c4 .ready-in-range .ensures) ∙ not-false _ (c3 .if1 .left) in
-    let a : inArea (c2 .forward-ready .result) ≡ true = sym (c .before .in-area .ensures) ∙ not-false _ (c .if2 .left) in
-    let f : c2 .forward-ready .result ≡ forwardBy (readyParts (readyAt l (k .i))) (k .p) = c2 .forward-ready .ensures ∙ ap (λ (r : Ready). forwardBy (readyParts r) (k .p)) (c5 .ready-at .ensures) in
-    (omega arith, a, ap (carried (c9 .args .point) (c9 .args .end) (readySteps l (k .i + 1) (c9 .args .length - (k .i + 1)))) f ∙ sym (turn-on (c9 .args .point) (c9 .args .end) l (k .i) (c9 .args .length) (omega arith) (k .p) e (ap inArea (sym f) ∙ a)) ∙ k .inv .2)
+    let d = c .before in
+    let h = area d true (not-false _ (c .if2 .left)) in (
+      omega arith,
+      omega arith,
+      ap inArea (is-next d) ∙ h,
+      ap (carried forwardBy (s (a d) .args .point) (s (a d) .args .end) (after (a d))) (is-next d)
+          ∙ sym (turn-on forwardBy (s (a d) .args .point) (s (a d) .args .end) _ (after (a d)) (rowAt (l (a d)) (i (a d))) (is (a d)) (q (a d)) (sound d) h) ∙ whole (a d),
+    )
 
 moved-to-requires : tie.Need-moved-to-requires Inv-loop μ-loop
 moved-to-requires c κs = tt
 
 returns-3 : tie.Need-returns-3 Inv-loop μ-loop
 returns-3 c =
-    let c2 = c .before .before in
-    let c4 = c2 .before .before in
-    let k = c2 .loop in
-    ap Converted (c .moved-to .ensures) ∙ sym (turn-end (c4 .args .point) (c4 .args .end) (c4 .args .numbers .now) (k .i) (c4 .args .length) (k .p) (omega arith)) ∙ k .inv .2
+    let s = c .before .before .before .before in
+    let k = c .before .before .loop in
+    let t = c .before .loop-test .left in
+    ap Converted (c .moved-to .ensures) ∙ sym (turn-end forwardBy (s .args .point) (s .args .end) (k .p))
+    ∙ ap (λ (rs : List Row). carried forwardBy (s .args .point) (s .args .end) rs (k .p)) (sym (no-rows (s .args .numbers .now) (k .i) (s .args .rows) t)) ∙ k .inv .3
 
 pub carry-spec : {M : Type 1} → statement M
-carry-spec =
-    tie.close
-    (tie.spec
-    Inv-loop
-    μ-loop
-    loop-holds
-    ready-at-requires
-    ready-in-range-requires
-    returns
-    forward-ready-requires
-    in-area-requires
-    returns-2
-    add-i
-    loop-less
-    loop-again
-    moved-to-requires
-    returns-3)
+carry-spec = tie.close (tie.spec Inv-loop μ-loop loop-holds row-at-requires returns forward-ready-requires in-area-requires returns-2 add-i loop-less loop-again moved-to-requires returns-3)

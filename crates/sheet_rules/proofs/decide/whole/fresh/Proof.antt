@@ -4,7 +4,7 @@ use Rattle.sheet_rules.proofs.decide.whole.fresh.Statement.{statement}
 use Rattle.sheet_rules.proofs.decide.whole.fresh.Tie as tie
 
 returns : tie.Need-returns
-returns c = λ l e. hold-fresh _ l e
+returns c = hold-fresh
 
 pub fresh-spec : {M : Type 1} → statement M
 fresh-spec = tie.close (tie.spec returns)

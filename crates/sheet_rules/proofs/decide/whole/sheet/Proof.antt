@@ -34,7 +34,7 @@ fresh-requires : tie.Need-fresh-requires Inv-loop μ-loop
 fresh-requires c κs = search needs
 
 loop-holds : tie.Need-loop-holds Inv-loop μ-loop
-loop-holds c = starts rules _ fresh refl _ _ (c .fresh .ensures _ refl)
+loop-holds c = starts rules _ fresh refl _ _ (c .fresh .ensures)
 
 line-end-requires : tie.Need-line-end-requires Inv-loop μ-loop
 line-end-requires c κs = search needs

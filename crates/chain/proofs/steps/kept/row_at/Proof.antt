@@ -1,0 +1,46 @@
+-- `chain::steps::kept::row_at` meets its contract. Assumes nothing.
+use mathlib.Core.Path.{_≡_, _∙_, ap, ap₂}
+use mathlib.Core.Bool.{Bool, _&&_}
+use Prim.Native.Nat.{ℕ, _+_, _*_}
+use native.Mathlib.Omega.{arith}
+use borrow.Author.Needs.{needs}
+use lib.IntN.{ℤ, pos}
+use lib.ListN.{getD}
+use Rattle.rounding.proofs.Machine.{told}
+use Rattle.ranges.specs.Ranges.{within}
+use Rattle.chain.specs.declared.steps.Ready.{Ready}
+use Rattle.chain.specs.Prepared.{readyRange, rowAt}
+use Rattle.chain.proofs.steps.kept.row_at.Statement.{statement}
+use Rattle.chain.proofs.steps.kept.row_at.Tie as tie
+
+mul-at : tie.Need-mul-at
+mul-at c = search needs
+
+mul-form : tie.Need-mul-form
+mul-form c = search needs
+
+element-copy-out-form : tie.Need-element-copy-out-form
+element-copy-out-form c = search needs
+
+ready-at-requires : tie.Need-ready-at-requires
+ready-at-requires c κs = search needs
+
+within-requires : tie.Need-within-requires
+within-requires c κs = search needs
+
+ready-in-range-requires : tie.Need-ready-in-range-requires
+ready-in-range-requires c κs = search needs
+
+returns : tie.Need-returns
+unfolding rowAt
+returns c =
+    let s = c .before .before .before .before in
+    let l = s .args .numbers .now in
+    let e : 8 * s .args .index ≡ 8 * s .args .index + 0 = omega arith in
+    let form = told (c .before .before .before .form .given) ∙ ap (λ (n : ℕ). getD l n (pos 0)) e in
+    let ready = c .before .before .ready-at .ensures in
+    ap₂ (λ (b : Bool) (r : Ready). record { good = b; ready = r })
+    (ap₂ _&&_ (c .before .within .ensures ∙ ap (λ (z : ℤ). within (pos 0) z (pos 2)) form) (c .ready-in-range .ensures ∙ ap readyRange ready)) ready
+
+pub row-at-spec : {M : Type 1} → statement M
+row-at-spec = tie.close (tie.spec mul-at mul-form element-copy-out-form ready-at-requires within-requires ready-in-range-requires returns)

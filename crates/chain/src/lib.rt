@@ -8,7 +8,6 @@ mod steps;
 
 pub use crate::faults::point_fault;
 pub use crate::faults::step_fault;
-pub use crate::points::same_realization;
 pub use crate::steps::convert::forward;
 pub use crate::steps::convert::inverse;
 pub use crate::steps::kept::extend;

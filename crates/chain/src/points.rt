@@ -23,7 +23,7 @@ pub(crate) fn agrees(r: Realization) -> bool
 }
 
 // Whether two are the same datum at the same epoch.
-pub fn same_realization(a: Realization, b: Realization) -> bool
+pub(crate) fn same_realization(a: Realization, b: Realization) -> bool
     ensures { λ t. ⌜ t ≡ sameRealization a b ⌝ }
 {
     equal(a.datum, b.datum) & equal(a.epoch, b.epoch)

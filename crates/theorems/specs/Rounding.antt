@@ -1,4 +1,5 @@
--- What is promised of rounding, beside the definitions: of a fraction over every rule for halves and every divisor, and of an f64 over every number of decimal places.
+-- What is promised of rounding, beside the definitions: of a fraction over every divisor and every rule for halves, and of an f64 over every number of decimal
+-- places.
 use mathlib.Core.Path.{_≡_}
 use mathlib.Core.Bool.{Bool}
 use Prim.Native.Nat.{ℕ, _+_, _*_, _^_, _≤_, _<_}
@@ -6,12 +7,11 @@ use lib.IntN.{ℤ, pos, negℤ, natAbs, _+ℤ_, _-ℤ_, _*ℤ_}
 use lib.Signed.{_≤ℤ_, _<ℤ_}
 use lib.Ieee.{fin, up, down}
 use Rattle.refusal.specs.Order.{pick}
-use Rattle.rounding.specs.Nearest.{Near, Ties, away, Symmetric, Rounds, rounded}
+use Rattle.rounding.specs.Nearest.{Near, Ties, Symmetric, Rounds, away, rounded}
 use Rattle.rounding.specs.Decimals.{withSign, roundedOf}
 use Rattle.rounding.specs.declared.decimals.Rounded.the-variants.{Whole}
 
--- ---- a fraction: never more than a half off, at a half what the rule takes, and no other number; odd by a symmetric rule; monotone; and numerators less than
--- L + 1 divisors apart round at most L + 1 apart
+-- ---- a fraction: never more than a half off, at a half what the rule takes, and no other number; odd by a symmetric rule, monotone, and numerators less than L + 1 divisors apart round at most L + 1 apart
 pub record Fractions (ties : Ties) (d : ℕ) : Type 0 where
   pub near : (z : ℤ) → natAbs (pos 2 *ℤ (pos d *ℤ rounded ties z d -ℤ z)) ≤ d
   pub half : (z t : ℤ) → pos 2 *ℤ z ≡ (pos 2 *ℤ t +ℤ pos 1) *ℤ pos d → rounded ties z d ≡ pick (ties t) (t +ℤ pos 1) t
@@ -27,9 +27,9 @@ pub record Decimals (s : Bool) (m : ℕ) (e : ℤ) (p : ℕ) : Type 0 where
   -- and there is no other: that one is answered
   pub only : (z : ℤ) → p ≤ 5 → m * up e < 10000000 * down e → Rounds away (withSign s (m * up e * 10 ^ p)) (down e) z → roundedOf (fin s m e) p ≡ Whole z
 
--- what Near means: no q is nearer to z/d than r
+-- what nearest means: no whole number q is nearer to z/d than r, in units of 1/d
 abbrev pub Closest : Type 0
-Closest = (z : ℤ) (d : ℕ) (r q : ℤ) → Near z d r → natAbs (pos d *ℤ r -ℤ z) ≤ natAbs (pos d *ℤ q -ℤ z)
+Closest = (d : ℕ) (z r q : ℤ) → Near z d r → natAbs (pos d *ℤ r -ℤ z) ≤ natAbs (pos d *ℤ q -ℤ z)
 
 pub record Rounding : Type 0 where
   pub fractions : (ties : Ties) (d : ℕ) → 0 < d → Fractions ties d

@@ -1,0 +1,12 @@
+-- `elementary::series::cosine_table` meets its contract: the products and quotients are the coefficients, which antt computes. Assumes nothing.
+use lib.Ieee.{mul, div, neg, round, ofBits}
+use Rattle.elementary.proofs.series.Tables.{sames-are}
+use Rattle.elementary.proofs.series.cosine_table.Statement.{statement}
+use Rattle.elementary.proofs.series.cosine_table.Tie as tie
+
+returns : tie.Need-returns
+unfolding mul div neg round ofBits
+returns c = sames-are _ _ tt
+
+pub cosine-table-spec : {M : Type 1} → statement M
+cosine-table-spec = tie.close (tie.spec returns)

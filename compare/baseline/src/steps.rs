@@ -10,7 +10,7 @@ const E14: i64 = 100_000_000_000_000;
 enum Gain {
     /// T and V: the same at every position.
     Constant([i64; 3]),
-    /// B: rotations in 10^-11 radian with the convention's sign.
+    /// B: scaled rotations in 10^-11 radian with the convention's sign.
     Rotated { shift: [i64; 3], r: [i64; 3], s: i64 },
     /// F: the negated translation and scale, both over 10^14.
     Frame { translation: [i64; 3], scale: i64 },
@@ -38,7 +38,9 @@ impl Gain {
             }
             Kind::Rotated { sign } => {
                 let [_, _, _, rx, ry, rz, s] = step.numbers;
-                let r = [rx, ry, rz].map(|r| sign * quotient(r * 484_813_681_110, E11));
+                // The scale goes onto the rotations too, after they have been made radians.
+                let scaled = |r: i64| quotient(quotient(r * 484_813_681_110, E11) * (E11 + s), E11);
+                let r = [rx, ry, rz].map(|r| sign * scaled(r));
                 Gain::Rotated { shift: [a, b, c], r, s }
             }
             Kind::Frame => Gain::frame(step.before),

@@ -104,6 +104,12 @@ fn radians(r: i64) -> i128 {
     nearest(i128::from(r) * 484_813_681_110, 100_000_000_000)
 }
 
+/// Request A7: the rotation in 10^-11 radian times one plus the scale, rounded a second time.
+pub fn scaled_rotation(r: i64, s: i128) -> i128 {
+    const E11: i128 = 100_000_000_000;
+    nearest(radians(r) * (E11 + s), E11)
+}
+
 fn bursa_wolf_gain(
     convention: Convention,
     shift: [i64; 3],
@@ -115,8 +121,8 @@ fn bursa_wolf_gain(
     let [dx, dy, dz] = shift.map(i128::from);
     let s = i128::from(scale);
     let [rx, ry, rz] = match convention {
-        Convention::PositionVector => rotation.map(radians),
-        Convention::CoordinateFrame => rotation.map(|r| -radians(r)),
+        Convention::PositionVector => rotation.map(|r| scaled_rotation(r, s)),
+        Convention::CoordinateFrame => rotation.map(|r| scaled_rotation(-r, s)),
     };
     [
         nearest(dx * E11 + (s * x - rz * y + ry * z), E11),

@@ -2,6 +2,7 @@
 
 use paper::angle::cartesian;
 use paper::numbers::{forward, inverse};
+use paper::step::scaled_rotation;
 
 /// A step of 13 numbers from its letter, its convention and the rest.
 fn step(kind: char, convention: char, places: [i64; 4], numbers: &[i64]) -> Vec<i64> {
@@ -63,6 +64,31 @@ fn cases_8_to_10_bursa_wolf() {
     assert_eq!(inverse(&chain, &to), Ok(from));
     let chain = step('B', 'C', [3, 2_000_000, 4, 2_000_000], &numbers);
     assert_eq!(shown(forward(&chain, &from)), [-199997091116, 600000969628, 50000000000]);
+}
+
+/// Request A7, worked by hand: rz 100000 is 484813.68, so 484814, and with s 1000000 it is 484818.85, so 484819.
+/// Cases 8 to 10 have s = 0 and keep their numbers.
+#[test]
+fn the_scale_goes_onto_the_rotations() {
+    let from = [1, 3, 2_000_000, -200000000000, 600000000000, 50000000000];
+    let numbers = [0, 0, 0, 0, 0, 100_000, 1_000_000];
+    let chain = step('B', 'P', [3, 2_000_000, 4, 2_000_000], &numbers);
+    let to = forward(&chain, &from).expect("not refused");
+    assert_eq!(to[3..], [-200004908914, 600005030362, 50000500000]);
+    assert_eq!(inverse(&chain, &to), Ok(from));
+    let chain = step('B', 'C', [3, 2_000_000, 4, 2_000_000], &numbers);
+    assert_eq!(shown(forward(&chain, &from)), [-199999091086, 600006969638, 50000500000]);
+}
+
+/// 64000 times 1.0000078125 is 64000.5: an exact half of the second rounding, away from zero on both sides.
+#[test]
+fn a_half_of_the_second_rounding() {
+    assert_eq!(scaled_rotation(13201, 0), 64000);
+    assert_eq!(scaled_rotation(13201, 781_250), 64001);
+    assert_eq!(scaled_rotation(-13201, 781_250), -64001);
+    assert_eq!(scaled_rotation(13201, -781_250), 64000);
+    assert_eq!(scaled_rotation(1_000_000, 2_000_000), 4_848_234);
+    assert_eq!(scaled_rotation(-1_000_000, 2_000_000), -4_848_234);
 }
 
 /// The part is one fraction: 6 - 5.5 is a half and goes up, while 6 + round(-5.5) would be 0.

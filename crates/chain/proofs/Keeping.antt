@@ -89,7 +89,7 @@ ok-range : (r : Ready) → ReadyOk r → readyRange r ≡ true
 unfolding readyRange
 ok-range (Fixed g) o = rw (up-to-holds 100000000 (g .x) (o .on onX), up-to-holds 100000000 (g .y) (o .on onY), up-to-holds 100000000 (g .z) (o .on onZ))
 ok-range (Turned t) o =
-    rw (up-to-holds 100000000 (t .dx) (o .dx), up-to-holds 100000000 (t .dy) (o .dy), up-to-holds 100000000 (t .dz) (o .dz), up-to-holds 4848137 (t .rx) (o .rx), up-to-holds 4848137 (t .ry) (o .ry), up-to-holds 4848137 (t .rz) (o .rz), up-to-holds 2000000 (t .s) (o .s))
+    rw (up-to-holds 100000000 (t .dx) (o .dx), up-to-holds 100000000 (t .dy) (o .dy), up-to-holds 100000000 (t .dz) (o .dz), up-to-holds 4848234 (t .rx) (o .rx), up-to-holds 4848234 (t .ry) (o .ry), up-to-holds 4848234 (t .rz) (o .rz), up-to-holds 2000000 (t .s) (o .s))
 ok-range (Scaled t) o =
     rw (up-to-holds 1971000000000000000 (t .kx) (o .kx), up-to-holds 1971000000000000000 (t .ky) (o .ky), up-to-holds 1971000000000000000 (t .kz) (o .kz), up-to-holds 1202000 (t .slope) (o .slope))
 
@@ -285,15 +285,15 @@ range-ok (Fixed g) e =
 range-ok (Turned t) e =
     let f = both (shiftRange (t .dx) && shiftRange (t .dy) && shiftRange (t .dz)) _ e in
     let d = all (shiftRange (t .dx)) (shiftRange (t .dy)) (shiftRange (t .dz)) (f .0) in
-    let g = both (upTo 4848137 (t .rx) && upTo 4848137 (t .ry) && upTo 4848137 (t .rz)) (scaleRange (t .s)) (f .1) in
-    let r = all (upTo 4848137 (t .rx)) (upTo 4848137 (t .ry)) (upTo 4848137 (t .rz)) (g .0) in
+    let g = both (upTo 4848234 (t .rx) && upTo 4848234 (t .ry) && upTo 4848234 (t .rz)) (scaleRange (t .s)) (f .1) in
+    let r = all (upTo 4848234 (t .rx)) (upTo 4848234 (t .ry)) (upTo 4848234 (t .rz)) (g .0) in
     record {
       dx = up-to 100000000 (t .dx) (d .0);
       dy = up-to 100000000 (t .dy) (d .1);
       dz = up-to 100000000 (t .dz) (d .2);
-      rx = up-to 4848137 (t .rx) (r .0);
-      ry = up-to 4848137 (t .ry) (r .1);
-      rz = up-to 4848137 (t .rz) (r .2);
+      rx = up-to 4848234 (t .rx) (r .0);
+      ry = up-to 4848234 (t .ry) (r .1);
+      rz = up-to 4848234 (t .rz) (r .2);
       s = up-to 2000000 (t .s) (g .1);
     }
 range-ok (Scaled t) e =

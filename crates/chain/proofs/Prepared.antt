@@ -20,7 +20,7 @@ use Rattle.chain.specs.declared.steps.Ready.{Ready}
 use Rattle.chain.specs.declared.steps.Ready.the-variants.{Fixed, Turned, Scaled}
 use Rattle.chain.specs.Faults.{KindOk, StepOk}
 use Rattle.chain.specs.Rows.{rowOf}
-use Rattle.chain.specs.Parts.{stepRound, Parts, linear, part, gain, fixed, byConvention, rotation11, shiftAt, scaleAt, shiftParts, velocityParts, bursaWolfParts, frameParts, kindParts, partsOf, plus, minus, forwardBy, again, inverseBy}
+use Rattle.chain.specs.Parts.{stepRound, Parts, linear, part, gain, fixed, shiftAt, scaleAt, shiftParts, velocityParts, bursaWolfParts, frameParts, kindParts, partsOf, plus, minus, forwardBy, again, inverseBy}
 use Rattle.chain.specs.Axes.{Axis, onX, onY, onZ, coordinate, partOn, Small}
 use Rattle.chain.specs.Ready.{position, moved, movedOf, turnOf, overOf, scaleOf, readyKind, readyFor, readyParts, slopeParts, ReadyOk, Prepares}
 use Rattle.chain.proofs.Rounding.{step-size, step-whole}
@@ -140,9 +140,9 @@ module _ (s : Step) (ok : StepOk s) where
           dx = o .dx;
           dy = o .dy;
           dz = o .dz;
-          rx = turned-size c (t .rx) (o .rx);
-          ry = turned-size c (t .ry) (o .ry);
-          rz = turned-size c (t .rz) (o .rz);
+          rx = turned-size c (t .rx) (t .s) (o .rx) (o .s);
+          ry = turned-size c (t .ry) (t .s) (o .ry) (o .s);
+          rz = turned-size c (t .rz) (t .s) (o .rz) (o .s);
           s = o .s;
         };
       }

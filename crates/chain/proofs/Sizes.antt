@@ -6,7 +6,7 @@ use Prim.Native.Nat.{ℕ, zero, suc, _+_, _*_, _-_, _<_, _≤_}
 use native.Mathlib.Nat as NatL
 use native.Mathlib.Omega.{arith}
 use lib.Dec.{lit<, lit≤}
-use lib.IntN.{ℤ, pos, negℤ, natAbs, _-ℤ_, _*ℤ_}
+use lib.IntN.{ℤ, pos, negℤ, natAbs, _+ℤ_, _-ℤ_, _*ℤ_}
 use lib.ListN.{getD}
 use Rattle.refusal.specs.Order.{pick}
 use Rattle.rounding.proofs.Zn.{v, k, _⊖_, _⊗_, abs, unabs, unle, mul-le, add-le, abs-neg}
@@ -22,7 +22,7 @@ use Rattle.chain.specs.declared.Step.{Step}
 use Rattle.ranges.specs.Ranges.{within, equal, datumRange, epochRange, shiftRange, rotationRange, scaleRange, velocityRange}
 use Rattle.chain.specs.Faults.{KindOk, StepOk, agrees, realizationRange, kindRange, kindRule, stepRange, stepFault}
 use Rattle.chain.specs.Rows.{rows, rowIndex, rowOf, figure}
-use Rattle.chain.specs.Parts.{Parts, fixed, shiftParts, velocityParts, byConvention, rotation11, over11, over14, turnedParts, bursaWolfParts, atEpoch, shiftAt, scaleAt, scaledParts, frameParts, kindParts}
+use Rattle.chain.specs.Parts.{Parts, fixed, shiftParts, velocityParts, byConvention, rotation11, scaledRotation, applied, over11, over14, turnedParts, bursaWolfParts, atEpoch, shiftAt, scaleAt, scaledParts, frameParts, kindParts}
 use Rattle.chain.specs.Axes.{Axis, onX, onY, onZ, partOn}
 use Rattle.ranges.proofs.Ranges.{both, all, bounds, up-to}
 use Rattle.refusal.proofs.Orders.{head-holds}
@@ -145,7 +145,7 @@ fixed-mild n d h l = record { slope = omega arith; start = l }
 fixed-flat : (n : ℤ) (d : ℕ) → 0 < d → Flat (fixed n d)
 fixed-flat n d h = record { over = h; flat = refl }
 
-over11-mild : (n a b c : ℤ) → natAbs n ≤ 100000000 → natAbs a + natAbs b + natAbs c ≤ 11696274 → Mild (over11 n a b c)
+over11-mild : (n a b c : ℤ) → natAbs n ≤ 100000000 → natAbs a + natAbs b + natAbs c ≤ 11696468 → Mild (over11 n a b c)
 over11-mild n a b c h l = record { slope = omega arith; start = mul-le n (pos 100000000000) 100000000 100000000000 h (omega arith) }
 
 over14-mild : (n a b c : ℤ) → natAbs n ≤ 19710000 → natAbs a + natAbs b + natAbs c ≤ 1202000 → Mild (over14 n a b c)
@@ -221,14 +221,21 @@ bursa-wolf-ok t e =
       s = up-to 2000000 (t .s) (g .1);
     }
 
+-- with a scale of at most 2,000,000 on it, at most 4,848,234
+pub scaled-size : (r s : ℤ) → natAbs r ≤ 4848137 → natAbs s ≤ 2000000 → natAbs (scaledRotation r s) ≤ 4848234
+unfolding scaledRotation
+scaled-size r s h l =
+    step-size (omega arith) 4848234 (r *ℤ (pos 100000000000 +ℤ s))
+    (NatL.le-trans (mul-le r (pos 100000000000 +ℤ s) 4848137 100002000000 h (add-le (pos 100000000000) s 100000000000 2000000 (omega arith) l)) (lit≤ tt))
+
 -- a rotation as a step's parts have it
-pub turned-size : (c : Convention) (r : ℤ) → natAbs r ≤ 1000000 → natAbs (rotation11 (byConvention c r)) ≤ 4848137
-turned-size c r h = rotation11-size (byConvention c r) (omega (arith, convention-size c r))
+pub turned-size : (c : Convention) (r s : ℤ) → natAbs r ≤ 1000000 → natAbs s ≤ 2000000 → natAbs (scaledRotation (rotation11 (byConvention c r)) s) ≤ 4848234
+turned-size c r s h l = scaled-size (rotation11 (byConvention c r)) s (rotation11-size (byConvention c r) (omega (arith, convention-size c r))) l
 
 pub turned-mild :
     (dx dy dz rx ry rz s : ℤ) →
     natAbs dx ≤ 100000000 → natAbs dy ≤ 100000000 → natAbs dz ≤ 100000000 →
-    natAbs rx ≤ 4848137 → natAbs ry ≤ 4848137 → natAbs rz ≤ 4848137 → natAbs s ≤ 2000000 →
+    natAbs rx ≤ 4848234 → natAbs ry ≤ 4848234 → natAbs rz ≤ 4848234 → natAbs s ≤ 2000000 →
     Milds (turnedParts dx dy dz rx ry rz s)
 turned-mild dx dy dz rx ry rz s hdx hdy hdz hx hy hz hs =
     milds (turnedParts dx dy dz rx ry rz s) (over11-mild dx s (negℤ rz) ry hdx (omega (arith, abs-neg rz))) (over11-mild dy rz s (negℤ rx) hdy (omega (arith, abs-neg rx)))
@@ -255,8 +262,8 @@ kind-mild (Velocity t) r a ok =
 kind-mild (BursaWolf t) r a ok =
     let o = bursa-wolf-ok t (ok .range) in
     let c = t .convention in
-    turned-mild (t .dx) (t .dy) (t .dz) (rotation11 (byConvention c (t .rx))) (rotation11 (byConvention c (t .ry))) (rotation11 (byConvention c (t .rz))) (t .s) (o .dx) (o .dy) (o .dz)
-    (turned-size c (t .rx) (o .rx)) (turned-size c (t .ry) (o .ry)) (turned-size c (t .rz) (o .rz)) (o .s)
+    turned-mild (t .dx) (t .dy) (t .dz) (applied t (t .rx)) (applied t (t .ry)) (applied t (t .rz)) (t .s) (o .dx) (o .dy) (o .dz)
+    (turned-size c (t .rx) (t .s) (o .rx) (o .s)) (turned-size c (t .ry) (t .s) (o .ry) (o .s)) (turned-size c (t .rz) (t .s) (o .rz) (o .s)) (o .s)
 kind-mild Frame r a ok =
     let row = rowOf (r .datum) in
     let dt = r .epoch -ℤ pos 2010000 in

@@ -28,6 +28,10 @@ bursaWolf way =
       s = less 198765;
     })
 
+-- rotations and scale alone
+abbrev turning : Convention → ℤ → ℤ → ℤ → ℤ → Kind
+turning way rx ry rz s = BursaWolf (record { convention = way; dx = pos 0; dy = pos 0; dz = pos 0; rx = rx; ry = ry; rz = rz; s = s })
+
 abbrev pub moreCases : List Case
 moreCases =
     -- ITRF2000 ten years after its epoch, ITRF2008 ten years before it
@@ -36,10 +40,20 @@ moreCases =
     ∷ case forward Frame (on 9 2000000) (on 10 2000000) a1 (xyz (less 113105165606) (pos 623631179960) (pos 71174810823))
     ∷ case inverse Frame (on 9 2000000) (on 10 2000000) a1 (xyz (less 113105165214) (pos 623631179940) (pos 71174811457))
     -- all seven numbers, by either convention
-    ∷ case forward (bursaWolf PositionVector) (on 1 0) (on 2 0) a1 (xyz (less 113107007502) (pos 623632003737) (pos 71174324955))
-    ∷ case inverse (bursaWolf PositionVector) (on 1 0) (on 2 0) a1 (xyz (less 113103323314) (pos 623630356159) (pos 71175297321))
-    ∷ case forward (bursaWolf CoordinateFrame) (on 1 0) (on 2 0) a1 (xyz (less 113105120603) (pos 623632346176) (pos 71174323028))
-    ∷ case inverse (bursaWolf CoordinateFrame) (on 1 0) (on 2 0) a1 (xyz (less 113105210217) (pos 623630013722) (pos 71175299252))
+    ∷ case forward (bursaWolf PositionVector) (on 1 0) (on 2 0) a1 (xyz (less 113107007501) (pos 623632003737) (pos 71174324956))
+    ∷ case inverse (bursaWolf PositionVector) (on 1 0) (on 2 0) a1 (xyz (less 113103323315) (pos 623630356159) (pos 71175297320))
+    ∷ case forward (bursaWolf CoordinateFrame) (on 1 0) (on 2 0) a1 (xyz (less 113105120604) (pos 623632346176) (pos 71174323027))
+    ∷ case inverse (bursaWolf CoordinateFrame) (on 1 0) (on 2 0) a1 (xyz (less 113105210216) (pos 623630013722) (pos 71175299253))
+    -- the scale on the rotations: both at their limits, 4,848,137 becomes 4,848,234
+    ∷ case forward (turning PositionVector (pos 1000000) (less 1000000) (pos 1000000) (pos 2000000)) (on 1 0) (on 2 0) a1
+    (xyz (less 113141113334) (pos 623634718249) (pos 71200986132))
+    ∷ case inverse (turning CoordinateFrame (pos 1000000) (less 1000000) (pos 1000000) (pos 2000000)) (on 1 0) (on 2 0) a1
+    (xyz (less 113136588591) (pos 623609770776) (pos 71198136112))
+    -- an exact half of the second rounding: 13,201 is 64,000 of 10^-11 radian, and with the scale 64,000.5
+    ∷ case forward (turning PositionVector (pos 0) (pos 0) (pos 13201) (pos 781250)) (on 1 0) (on 2 0) a1
+    (xyz (less 113106448174) (pos 623635979680) (pos 71175367193))
+    ∷ case forward (turning CoordinateFrame (pos 0) (pos 0) (pos 13201) (pos 781250)) (on 1 0) (on 2 0) a1
+    (xyz (less 113105649914) (pos 623636124457) (pos 71175367193))
     ∷ []
 
 -- ---- the area: its ends are in it, one unit past an end is outside it, and a step of one unit from an end leaves it

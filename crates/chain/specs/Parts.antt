@@ -66,6 +66,14 @@ byConvention CoordinateFrame r = negℤ r
 unfoldable pub rotation11 : ℤ → ℤ
 rotation11 r = stepRound (r *ℤ pos 484813681110) 100000000000
 
+-- with the scale on it (request A7): the nearest to it times (10^11 + s)/10^11
+unfoldable pub scaledRotation : ℤ → ℤ → ℤ
+scaledRotation r s = stepRound (r *ℤ (pos 100000000000 +ℤ s)) 100000000000
+
+-- a rotation as a step applies it: by its convention, made units of 10^-11 radian, then scaled. Two roundings
+abbrev pub applied : bursaWolf'.BursaWolf → ℤ → ℤ
+applied t r = scaledRotation (rotation11 (byConvention (t .convention) r)) (t .s)
+
 -- k + (a·X + b·Y + c·Z)/10^11 is one fraction
 abbrev pub over11 : ℤ → ℤ → ℤ → ℤ → Part
 over11 k a b c = record { k = k *ℤ pos 100000000000; a = a; b = b; c = c; d = 100000000000 }
@@ -77,7 +85,7 @@ turnedParts dx dy dz rx ry rz s = record { px = over11 dx s (negℤ rz) ry; py =
 unfoldable pub bursaWolfParts : bursaWolf'.BursaWolf → Parts
 bursaWolfParts t =
     turnedParts (t .dx) (t .dy) (t .dz)
-    (rotation11 (byConvention (t .convention) (t .rx))) (rotation11 (byConvention (t .convention) (t .ry))) (rotation11 (byConvention (t .convention) (t .rz)))
+    (applied t (t .rx)) (applied t (t .ry)) (applied t (t .rz))
     (t .s)
 
 -- ---- F, frame: −[(T + Tv dt/1000) + (D + Dv dt/1000) × coordinate/10^11], dt = epoch − 2,010,000

@@ -74,7 +74,7 @@ readyAt l i = readyOf (number l i 0) (number l i 1) (number l i 2) (number l i 3
 unfoldable pub readyRange : Ready → Bool
 readyRange (Fixed g) = shiftRange (g .x) && shiftRange (g .y) && shiftRange (g .z)
 readyRange (Turned t) =
-    shiftRange (t .dx) && shiftRange (t .dy) && shiftRange (t .dz) && (upTo 4848137 (t .rx) && upTo 4848137 (t .ry) && upTo 4848137 (t .rz) && scaleRange (t .s))
+    shiftRange (t .dx) && shiftRange (t .dy) && shiftRange (t .dz) && (upTo 4848234 (t .rx) && upTo 4848234 (t .ry) && upTo 4848234 (t .rz) && scaleRange (t .s))
 readyRange (Scaled t) =
     upTo 1971000000000000000 (t .kx) && upTo 1971000000000000000 (t .ky) && upTo 1971000000000000000 (t .kz) && upTo 1202000 (t .slope)
 

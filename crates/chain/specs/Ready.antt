@@ -16,7 +16,7 @@ use Rattle.chain.specs.declared.steps.Scale.{Scale}
 use Rattle.chain.specs.declared.steps.Ready.{Ready}
 use Rattle.chain.specs.declared.steps.Ready.the-variants.{Fixed, Turned, Scaled}
 use Rattle.chain.specs.Rows.{rowOf}
-use Rattle.chain.specs.Parts.{Parts, stepRound, byConvention, rotation11, shiftAt, scaleAt, fixed, gain, turnedParts, partsOf}
+use Rattle.chain.specs.Parts.{Parts, stepRound, applied, shiftAt, scaleAt, fixed, gain, turnedParts, partsOf}
 use Rattle.chain.specs.Axes.{Small}
 
 -- ---- what it gains
@@ -41,9 +41,9 @@ pub record TurnOk (t : Turn) : Type 0 where
   pub dx : natAbs (t .dx) ≤ 100000000
   pub dy : natAbs (t .dy) ≤ 100000000
   pub dz : natAbs (t .dz) ≤ 100000000
-  pub rx : natAbs (t .rx) ≤ 4848137
-  pub ry : natAbs (t .ry) ≤ 4848137
-  pub rz : natAbs (t .rz) ≤ 4848137
+  pub rx : natAbs (t .rx) ≤ 4848234
+  pub ry : natAbs (t .ry) ≤ 4848234
+  pub rz : natAbs (t .rz) ≤ 4848234
   pub s : natAbs (t .s) ≤ 2000000
 
 pub record ScaleOk (t : Scale) : Type 0 where
@@ -74,9 +74,9 @@ turnOf t = record {
   dx = t .dx;
   dy = t .dy;
   dz = t .dz;
-  rx = rotation11 (byConvention (t .convention) (t .rx));
-  ry = rotation11 (byConvention (t .convention) (t .ry));
-  rz = rotation11 (byConvention (t .convention) (t .rz));
+  rx = applied t (t .rx);
+  ry = applied t (t .ry);
+  rz = applied t (t .rz);
   s = t .s;
 }
 
@@ -103,7 +103,7 @@ pub record Prepares (s : Step) (r : Ready) : Type 0 where
 
 -- ---- what one axis' part asks of its numbers
 pub record LinearOk (a b c : ℤ) (p : Position) : Type 0 where
-  pub sum : natAbs a + natAbs b + natAbs c ≤ 11696274
+  pub sum : natAbs a + natAbs b + natAbs c ≤ 11696468
   pub small : Small 650000000000 p
 
 pub record PartOk (k a b c : ℤ) (p : Position) : Type 0 where

@@ -4,7 +4,7 @@ ghost use mathlib.Core.Path.{_≡_};
 ghost use Prim.Native.Nat.{_≤_};
 ghost use lib.IntN.{ℤ, pos, natAbs, negℤ, _+ℤ_, _*ℤ_};
 ghost use Rattle.chain.specs.Faults.{StepOk};
-ghost use Rattle.chain.specs.Parts.{stepRound, byConvention, rotation11, atEpoch, part, over11, gain, plus, minus, forwardBy, again, inverseBy};
+ghost use Rattle.chain.specs.Parts.{stepRound, byConvention, rotation11, scaledRotation, atEpoch, part, over11, gain, plus, minus, forwardBy, again, inverseBy};
 ghost use Rattle.chain.specs.Rows.{rowOf};
 ghost use Rattle.chain.specs.Axes.{Small};
 ghost use Rattle.chain.specs.Ready.{readyFor, turnParts, slopeParts, readyParts, ReadyOk, TurnOk, ScaleOk, PartOk, LinearOk};
@@ -80,12 +80,20 @@ fn rotation11(r: i64) -> i64
     rounding::quotient::round_div(r * 484813681110, 100000000000)
 }
 
-// A rotation as it is applied.
-fn turned(convention: Convention, r: i64) -> i64
-    requires { ⌜ natAbs r ≤ 1000000 ⌝ }
-    ensures { λ t. ⌜ t ≡ rotation11 (byConvention convention r) ⌝ }
+// A rotation in 10^-11 radian with the scale on it, to the nearest.
+fn scaled_rotation(r: i64, s: i64) -> i64
+    requires { ⌜ (natAbs r ≤ 4848137) × (natAbs s ≤ 2000000) ⌝ }
+    ensures { λ t. ⌜ t ≡ scaledRotation r s ⌝ }
 {
-    rotation11(by_convention(convention, r))
+    rounding::quotient::round_div(r * (100000000000 + s), 100000000000)
+}
+
+// A rotation as it is applied.
+fn turned(convention: Convention, r: i64, s: i64) -> i64
+    requires { ⌜ (natAbs r ≤ 1000000) × (natAbs s ≤ 2000000) ⌝ }
+    ensures { λ t. ⌜ t ≡ scaledRotation (rotation11 (byConvention convention r)) s ⌝ }
+{
+    scaled_rotation(rotation11(by_convention(convention, r)), s)
 }
 
 fn bursa_wolf_ready(step: Step, t: BursaWolf) -> Ready
@@ -93,9 +101,9 @@ fn bursa_wolf_ready(step: Step, t: BursaWolf) -> Ready
     ensures { λ r. ⌜ r ≡ readyFor step ⌝ }
 {
     let c = t.convention;
-    let rx = turned(c, t.rx);
-    let ry = turned(c, t.ry);
-    let rz = turned(c, t.rz);
+    let rx = turned(c, t.rx, t.s);
+    let ry = turned(c, t.ry, t.s);
+    let rz = turned(c, t.rz, t.s);
     Ready::Turned(Turn {
         dx: t.dx,
         dy: t.dy,

@@ -22,6 +22,21 @@ impl Default for Rotations {
     }
 }
 
+/// Rotations and scales whose second rounding is of an exact half: 13201 is 64000 units of 10^-11 radian, and
+/// times 1.0000078125 that is 64000.5.
+const SCALED_HALVES: &[(i64, i64)] = &[
+    (13_201, 781_250),
+    (25_783, 400_000),
+    (41_253, 250_000),
+    (82_506, 125_000),
+    (112_801, 640_000),
+    (116_024, 800_000),
+    (145_030, 640_000),
+    (175_325, 1_000_000),
+    (181_513, 625_000),
+    (237_617, 390_625),
+];
+
 #[derive(Default)]
 pub struct Chains {
     rotations: Rotations,
@@ -78,6 +93,11 @@ impl Chains {
             };
         }
         row[12] = if small { rng.between(-30, 30) } else { within(rng, SCALE.0, SCALE.1) };
+        if rng.once_in(12) {
+            let (r, s) = rng.pick(SCALED_HALVES);
+            let axis = 9 + rng.index(3);
+            (row[axis], row[12]) = (r * rng.pick(&[-1, 1]), s * rng.pick(&[-1, 1]));
+        }
     }
 }
 

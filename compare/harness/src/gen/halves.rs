@@ -3,8 +3,8 @@
 
 use super::chains::Row;
 use crate::rng::Rng;
-use paper::fraction::nearest;
 use paper::ranges::Position;
+use paper::step::scaled_rotation;
 
 const E11: i128 = 100_000_000_000;
 
@@ -28,8 +28,8 @@ pub fn beside(rng: &mut Rng, row: &Row, mut position: Position) -> Position {
 /// The factors of X, Y, Z in the three parts; whole shifts change no fraction.
 fn factors(row: &Row) -> [[i128; 3]; 3] {
     let sign = if row[1] == i64::from(b'C') { -1 } else { 1 };
-    let turned = |r: i64| sign * nearest(i128::from(r) * 484_813_681_110, E11);
-    let [rx, ry, rz] = [turned(row[9]), turned(row[10]), turned(row[11])];
     let s = i128::from(row[12]);
+    let turned = |r: i64| sign * scaled_rotation(r, s);
+    let [rx, ry, rz] = [turned(row[9]), turned(row[10]), turned(row[11])];
     [[s, -rz, ry], [rz, s, -rx], [-ry, rx, s]]
 }

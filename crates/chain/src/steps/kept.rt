@@ -91,7 +91,7 @@ fn turn_in_range(t: Turn) -> bool
     ensures { λ r. ⌜ r ≡ readyRange (Ready.Turned t) ⌝ }
 {
     ranges::three_within(-100000000, t.dx, t.dy, t.dz, 100000000)
-        & (ranges::three_within(-4848137, t.rx, t.ry, t.rz, 4848137)
+        & (ranges::three_within(-4848234, t.rx, t.ry, t.rz, 4848234)
             & ranges::within(-2000000, t.s, 2000000))
 }
 

@@ -53,7 +53,7 @@ module _ (s : tie.Start) where
   sc = read (T .s) (omega (arith, ok .s))
 
   -- the three parts' numbers
-  part-ok : (d a b c : ℤ) → natAbs d ≤ 100000000 → natAbs a + natAbs b + natAbs c ≤ 11696274 → PartOk d a b c (s .args .p)
+  part-ok : (d a b c : ℤ) → natAbs d ≤ 100000000 → natAbs a + natAbs b + natAbs c ≤ 11696468 → PartOk d a b c (s .args .p)
   part-ok d a b c h l = record { start = h; linear = record { sum = l; small = s .pre .1 } }
 
   ok-x : PartOk (T .dx) (T .s) (negℤ (T .rz)) (T .ry) (s .args .p)

@@ -25,7 +25,7 @@ returns c =
     let c6 = c2 .before .before .before .before in
     let c9 = c6 .before .before .before in
     let t = c9 .struct-told .given in
-    ap₂ _&&_ (c6 .three-within .ensures ∙ of₃ (λ (x y z : ℤ). upTo 100000000 x && upTo 100000000 y && upTo 100000000 z) (told (t .0 .1)) (told (t .1 .0 .1)) (told (t .1 .1 .0 .1))) (ap₂ _&&_ (c2 .three-within2 .ensures ∙ of₃ (λ (x y z : ℤ). upTo 4848137 x && upTo 4848137 y && upTo 4848137 z) (told (t .1 .1 .1 .0 .1)) (told (t .1 .1 .1 .1 .0 .1)) (told (t .1 .1 .1 .1 .1 .0 .1))) (c .within .ensures ∙ ap (upTo 2000000) (told (t .1 .1 .1 .1 .1 .1 .0 .1))))
+    ap₂ _&&_ (c6 .three-within .ensures ∙ of₃ (λ (x y z : ℤ). upTo 100000000 x && upTo 100000000 y && upTo 100000000 z) (told (t .0 .1)) (told (t .1 .0 .1)) (told (t .1 .1 .0 .1))) (ap₂ _&&_ (c2 .three-within2 .ensures ∙ of₃ (λ (x y z : ℤ). upTo 4848234 x && upTo 4848234 y && upTo 4848234 z) (told (t .1 .1 .1 .0 .1)) (told (t .1 .1 .1 .1 .0 .1)) (told (t .1 .1 .1 .1 .1 .0 .1))) (c .within .ensures ∙ ap (upTo 2000000) (told (t .1 .1 .1 .1 .1 .1 .0 .1))))
 
 pub turn-in-range-spec : {M : Type 1} → statement M
 turn-in-range-spec =

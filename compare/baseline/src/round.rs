@@ -1,16 +1,17 @@
-//! Roundings, a half away from zero, without numbers wider than 64 bits.
+//! Roundings without numbers wider than 64 bits: of the steps' fractions, a half to the even number; of an f64
+//! to decimals, a half away from zero.
 
 /// n / d rounded; d is above zero and below 2^62.
 pub fn quotient(n: i64, d: i64) -> i64 {
     whole_and_quotient(0, n, d)
 }
 
-/// The exact w + n/d, rounded once. Rounding n/d alone goes wrong where w and n differ in sign.
+/// The exact w + n/d, rounded once. Rounding n/d alone goes wrong where w is odd.
 #[inline]
 pub fn whole_and_quotient(w: i64, n: i64, d: i64) -> i64 {
     let floor = w + n.div_euclid(d);
     let doubled = 2 * n.rem_euclid(d);
-    let up = doubled > d || (doubled == d && floor >= 0);
+    let up = doubled > d || (doubled == d && floor & 1 == 1);
     floor + i64::from(up)
 }
 

@@ -38,11 +38,28 @@ fn case_2_velocity() {
     assert_eq!(answer, Ok([3, 7, 2_020_000, -113105206094, 623631172391, 71174796647]));
 }
 
+/// As request A11 has them: 3 and 4 become 0, and V 3 over 500 thousandths gives 2.
 #[test]
 fn cases_3_to_5_halves() {
-    assert_eq!(velocity(1, 500), 1);
-    assert_eq!(velocity(-1, 500), -1);
+    assert_eq!(velocity(1, 500), 0);
+    assert_eq!(velocity(-1, 500), 0);
     assert_eq!(velocity(1, 499), 0);
+    assert_eq!(velocity(1, 501), 1);
+    assert_eq!(velocity(3, 500), 2);
+    assert_eq!(velocity(-3, 500), -2);
+    assert_eq!(velocity(5, 500), 2);
+    assert_eq!(velocity(3, -500), -2);
+}
+
+/// Back by the same rule: what 3 over 500 thousandths gained is what going back takes off.
+#[test]
+fn halves_going_back() {
+    for (v, gain) in [(1, 0), (3, 2), (-3, -2), (5, 2), (-7, -4)] {
+        let chain = step('V', ' ', [6, 2_000_000, 6, 2_000_500], &[v, 0, 0]);
+        let x = -200_000_000_000;
+        let there = [1, 6, 2_000_500, x, 600_000_000_000, 50_000_000_000];
+        assert_eq!(shown(inverse(&chain, &there))[0], x - gain);
+    }
 }
 
 #[test]
@@ -80,23 +97,29 @@ fn the_scale_goes_onto_the_rotations() {
     assert_eq!(shown(forward(&chain, &from)), [-199999091086, 600006969638, 50000500000]);
 }
 
-/// 64000 times 1.0000078125 is 64000.5: an exact half of the second rounding, away from zero on both sides.
+/// 64000 times 1.0000078125 is 64000.5: an exact half of the second rounding, to the even one on both sides.
 #[test]
 fn a_half_of_the_second_rounding() {
     assert_eq!(scaled_rotation(13201, 0), 64000);
-    assert_eq!(scaled_rotation(13201, 781_250), 64001);
-    assert_eq!(scaled_rotation(-13201, 781_250), -64001);
+    assert_eq!(scaled_rotation(13201, 781_250), 64000);
+    assert_eq!(scaled_rotation(-13201, 781_250), -64000);
+    assert_eq!(scaled_rotation(112_801, 0), 546_875);
+    assert_eq!(scaled_rotation(112_801, 640_000), 546_878);
+    assert_eq!(scaled_rotation(112_801, -640_000), 546_872);
     assert_eq!(scaled_rotation(13201, -781_250), 64000);
     assert_eq!(scaled_rotation(1_000_000, 2_000_000), 4_848_234);
     assert_eq!(scaled_rotation(-1_000_000, 2_000_000), -4_848_234);
 }
 
-/// The part is one fraction: 6 - 5.5 is a half and goes up, while 6 + round(-5.5) would be 0.
+/// The part is one fraction and its whole decides what is even: 1 + 5.5 is 6.5 and gives 6, while
+/// 1 + round(5.5) would be 7.
 #[test]
 fn the_whole_part_is_rounded_once() {
-    let chain = step('B', 'P', [3, 2_000_000, 4, 2_000_000], &[6, 0, 0, 0, 0, 0, 5]);
     let from = [1, 3, 2_000_000, -110_000_000_000, 600_000_000_000, 0];
-    assert_eq!(shown(forward(&chain, &from)), [-109_999_999_999, 600_000_000_030, 0]);
+    for (dx, gain) in [(0, 6), (1, 6), (2, 8), (-5, 0), (-6, 0), (-7, -2)] {
+        let chain = step('B', 'P', [3, 2_000_000, 4, 2_000_000], &[dx, 0, 0, 0, 0, 0, -5]);
+        assert_eq!(shown(forward(&chain, &from)), [-110_000_000_000 + gain, 599_999_999_970, 0]);
+    }
 }
 
 #[test]

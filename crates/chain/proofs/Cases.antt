@@ -1,6 +1,6 @@
 -- The worked cases, by computation. Assumes nothing.
 use mathlib.Core.Path.{refl}
-use Rattle.rounding.specs.Nearest.{away, floor, rest, goesUp, rounded}
+use Rattle.rounding.specs.Nearest.{toEven, floor, rest, goesUp, rounded}
 use Rattle.ranges.specs.Ranges.{within}
 use Rattle.chain.specs.Faults.{realizationRange, agrees, sameRealization, givenPosition, inArea, pointRange, pointFault, kindRange, stepRange, kindRule, stepFault}
 use Rattle.chain.specs.Rows.{rowIndex, rowOf}
@@ -12,15 +12,15 @@ use Rattle.chain.specs.RangeCases.{RangeCases}
 use Rattle.chain.specs.OrderCases.{OrderCases}
 
 pub worked-cases : WorkedCases
-unfolding away floor rest goesUp rounded stepRound within realizationRange agrees sameRealization givenPosition inArea pointRange kindRange stepRange kindRule rowIndex rowOf linear part gain shiftParts velocityParts rotation11 scaledRotation bursaWolfParts atEpoch frameParts kindParts plus minus forwardBy again inverseBy walk startOf endOf answerOf convert forwardOf inverseOf
+unfolding toEven floor rest goesUp rounded stepRound within realizationRange agrees sameRealization givenPosition inArea pointRange kindRange stepRange kindRule rowIndex rowOf linear part gain shiftParts velocityParts rotation11 scaledRotation bursaWolfParts atEpoch frameParts kindParts plus minus forwardBy again inverseBy walk startOf endOf answerOf convert forwardOf inverseOf
 worked-cases = refl
 
 pub more-cases : MoreCases
-unfolding away floor rest goesUp rounded stepRound within realizationRange agrees sameRealization givenPosition inArea pointRange kindRange stepRange kindRule rowIndex rowOf linear part gain shiftParts velocityParts rotation11 scaledRotation bursaWolfParts atEpoch frameParts kindParts plus minus forwardBy again inverseBy walk startOf endOf answerOf convert forwardOf inverseOf
+unfolding toEven floor rest goesUp rounded stepRound within realizationRange agrees sameRealization givenPosition inArea pointRange kindRange stepRange kindRule rowIndex rowOf linear part gain shiftParts velocityParts rotation11 scaledRotation bursaWolfParts atEpoch frameParts kindParts plus minus forwardBy again inverseBy walk startOf endOf answerOf convert forwardOf inverseOf
 more-cases = record { conversions = refl; area = refl }
 
 pub order-cases : OrderCases
-unfolding away floor rest goesUp rounded stepRound within realizationRange agrees sameRealization givenPosition inArea pointRange kindRange stepRange kindRule rowIndex rowOf linear part gain shiftParts velocityParts rotation11 scaledRotation bursaWolfParts atEpoch frameParts kindParts plus minus forwardBy again inverseBy walk startOf endOf answerOf convert forwardOf inverseOf
+unfolding toEven floor rest goesUp rounded stepRound within realizationRange agrees sameRealization givenPosition inArea pointRange kindRange stepRange kindRule rowIndex rowOf linear part gain shiftParts velocityParts rotation11 scaledRotation bursaWolfParts atEpoch frameParts kindParts plus minus forwardBy again inverseBy walk startOf endOf answerOf convert forwardOf inverseOf
 order-cases = refl
 
 pub range-cases : RangeCases

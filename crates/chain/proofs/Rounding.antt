@@ -2,26 +2,26 @@
 use mathlib.Core.Path.{_≡_}
 use Prim.Native.Nat.{ℕ, _+_, _*_, _<_, _≤_}
 use lib.IntN.{ℤ, negℤ, natAbs, _-ℤ_}
-use Rattle.rounding.specs.Nearest.{away}
-use Rattle.rounding.proofs.Rounded.{rounded-apart, rounded-size, rounded-opposite, rounded-whole, away-symmetric}
+use Rattle.rounding.specs.Nearest.{toEven}
+use Rattle.rounding.proofs.Rounded.{rounded-apart, rounded-size, rounded-opposite, rounded-whole, even-symmetric}
 use Rattle.chain.specs.Parts.{stepRound}
 
 -- two values that lie less than L + 1 apart are rounded to numbers at most L + 1 apart
 pub step-apart : {d : ℕ} → 0 < d → (L : ℕ) (x y : ℤ) → natAbs (x -ℤ y) < (L + 1) * d → natAbs (stepRound x d -ℤ stepRound y d) ≤ L + 1
 unfolding stepRound
-step-apart = rounded-apart away
+step-apart = rounded-apart toEven
 
 -- a value of at most m is rounded to a number of at most m
 pub step-size : {d : ℕ} → 0 < d → (m : ℕ) (z : ℤ) → natAbs z ≤ m * d → natAbs (stepRound z d) ≤ m
 unfolding stepRound
-step-size = rounded-size away
+step-size = rounded-size toEven
 
 -- the opposite is rounded to the opposite
 pub step-opposite : {d : ℕ} → 0 < d → (z : ℤ) → stepRound (negℤ z) d ≡ negℤ (stepRound z d)
 unfolding stepRound
-step-opposite h = rounded-opposite away h away-symmetric
+step-opposite h = rounded-opposite toEven h even-symmetric
 
 -- a whole number is rounded to itself
 pub step-whole : (z : ℤ) → stepRound z 1 ≡ z
 unfolding stepRound
-step-whole = rounded-whole away
+step-whole = rounded-whole toEven

@@ -86,9 +86,9 @@ cases =
     -- 2: a velocity over ten years
     ∷ case forward (velocity (less 1874) (less 169) (less 502)) (on 8 2010000) (on 8 2020000)
     (xyz (less 113105187354) (pos 623631174081) (pos 71174801667)) (xyz (less 113105206094) (pos 623631172391) (pos 71174796647))
-    -- 3, 4, 5: 1 over 500 thousandths is 1, −1 is −1, and 1 over 499 is 0
-    ∷ case forward (velocity (pos 1) (pos 0) (pos 0)) (on 8 2010000) (on 8 2010500) a1 (xyz (less 113105165409) (pos 623631179950) (pos 71174811140))
-    ∷ case forward (velocity (less 1) (pos 0) (pos 0)) (on 8 2010000) (on 8 2010500) a1 (xyz (less 113105165411) (pos 623631179950) (pos 71174811140))
+    -- 3, 4, 5: 1 and −1 over 500 thousandths are 0, a half to the even number (request A11), and so is 1 over 499
+    ∷ case forward (velocity (pos 1) (pos 0) (pos 0)) (on 8 2010000) (on 8 2010500) a1 a1
+    ∷ case forward (velocity (less 1) (pos 0) (pos 0)) (on 8 2010000) (on 8 2010500) a1 a1
     ∷ case forward (velocity (pos 1) (pos 0) (pos 0)) (on 8 2010000) (on 8 2010499) a1 a1
     -- 6, 7: a frame from datum 9, and back to its start
     ∷ case forward Frame (on 9 2010000) (on 10 2010000)

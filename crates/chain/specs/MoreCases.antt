@@ -11,7 +11,7 @@ use Rattle.chain.specs.declared.Kind.{Kind}
 use Rattle.chain.specs.declared.Kind.the-variants.{BursaWolf, Frame}
 use Rattle.chain.specs.declared.Answer.{Answer}
 use Rattle.chain.specs.declared.Answer.the-variants.{Converted, Refused}
-use Rattle.chain.specs.Cases.{less, on, xyz, point, shift, Way, forward, inverse, Case, answer, expected, case, a1}
+use Rattle.chain.specs.Cases.{less, on, xyz, point, shift, velocity, Way, forward, inverse, Case, answer, expected, case, a1}
 
 -- ---- conversions
 abbrev bursaWolf : Convention → Kind
@@ -32,6 +32,10 @@ bursaWolf way =
 abbrev turning : Convention → ℤ → ℤ → ℤ → ℤ → Kind
 turning way rx ry rz s = BursaWolf (record { convention = way; dx = pos 0; dy = pos 0; dz = pos 0; rx = rx; ry = ry; rz = rz; s = s })
 
+-- shifts on X and Z, and a scale
+abbrev shifted : ℤ → ℤ → ℤ → Kind
+shifted dx dz s = BursaWolf (record { convention = PositionVector; dx = dx; dy = pos 0; dz = dz; rx = pos 0; ry = pos 0; rz = pos 0; s = s })
+
 abbrev pub moreCases : List Case
 moreCases =
     -- ITRF2000 ten years after its epoch, ITRF2008 ten years before it
@@ -49,11 +53,17 @@ moreCases =
     (xyz (less 113141113334) (pos 623634718249) (pos 71200986132))
     ∷ case inverse (turning CoordinateFrame (pos 1000000) (less 1000000) (pos 1000000) (pos 2000000)) (on 1 0) (on 2 0) a1
     (xyz (less 113136588591) (pos 623609770776) (pos 71198136112))
-    -- an exact half of the second rounding: 13,201 is 64,000 of 10^-11 radian, and with the scale 64,000.5
+    -- an exact half of the second rounding: 13,201 is 64,000 of 10^-11 radian, and with the scale 64,000.5, which is 64,000 again
     ∷ case forward (turning PositionVector (pos 0) (pos 0) (pos 13201) (pos 781250)) (on 1 0) (on 2 0) a1
-    (xyz (less 113106448174) (pos 623635979680) (pos 71175367193))
+    (xyz (less 113106448168) (pos 623635979681) (pos 71175367193))
     ∷ case forward (turning CoordinateFrame (pos 0) (pos 0) (pos 13201) (pos 781250)) (on 1 0) (on 2 0) a1
-    (xyz (less 113105649914) (pos 623636124457) (pos 71175367193))
+    (xyz (less 113105649920) (pos 623636124456) (pos 71175367193))
+    -- halves to the even number: velocities of 3, −3 and 5 over 500 thousandths are 2, −2 and 2
+    ∷ case forward (velocity (pos 3) (less 3) (pos 5)) (on 8 2010000) (on 8 2010500) a1 (xyz (less 113105165408) (pos 623631179948) (pos 71174811142))
+    ∷ case inverse (velocity (pos 3) (less 3) (pos 5)) (on 8 2010000) (on 8 2010500) a1 (xyz (less 113105165412) (pos 623631179952) (pos 71174811138))
+    -- and the parity is that of the whole part: 7 − 5.5 is 1.5 and gives 2, 1 + 2.5 is 3.5 and gives 4
+    ∷ case forward (shifted (pos 7) (pos 1) (pos 5)) (on 1 0) (on 2 0) (xyz (less 110000000000) (pos 600000000000) (pos 50000000000)) (xyz (less 109999999998) (pos 600000000030) (pos 50000000004))
+    ∷ case inverse (shifted (pos 7) (pos 1) (pos 5)) (on 1 0) (on 2 0) (xyz (less 110000000000) (pos 600000000000) (pos 50000000000)) (xyz (less 110000000001) (pos 599999999970) (pos 49999999997))
     ∷ []
 
 -- ---- the area: its ends are in it, one unit past an end is outside it, and a step of one unit from an end leaves it

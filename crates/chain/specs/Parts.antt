@@ -3,7 +3,7 @@
 use mathlib.Core.List.{List}
 use Prim.Native.Nat.{ℕ, _+_}
 use lib.IntN.{ℤ, pos, negℤ, _+ℤ_, _-ℤ_, _*ℤ_}
-use Rattle.rounding.specs.Nearest.{away, rounded}
+use Rattle.rounding.specs.Nearest.{toEven, rounded}
 use Rattle.chain.specs.declared.Position.{Position}
 use Rattle.chain.specs.declared.Realization.{Realization}
 use Rattle.chain.specs.declared.Shift as shift'
@@ -17,9 +17,9 @@ use Rattle.chain.specs.declared.Step.{Step}
 use Rattle.chain.specs.Rows.{rowOf, figure}
 
 -- ---- the fractions
--- how a step's parts and rotations are rounded: to the nearest whole number, a half away from zero
+-- how a step's parts and rotations are rounded: to the nearest whole number, a half to the even one (request A11)
 unfoldable pub stepRound : ℤ → ℕ → ℤ
-stepRound = rounded away
+stepRound = rounded toEven
 
 -- one axis' part, (k + a·X + b·Y + c·Z)/d
 pub record Part : Type 0 where

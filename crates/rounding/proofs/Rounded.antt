@@ -1,16 +1,16 @@
 -- That `rounded` is the one number that its rule asks for, and so has every law of `Rounds`; and that half away from zero is symmetric. Assumes nothing.
 use mathlib.Core.Path.{_≡_, refl, sym, _∙_, ap, subst}
 use mathlib.Core.Bool.{Bool, true, false, not, _&&_, _||_}
-use Prim.Native.Nat.{ℕ, suc, _+_, _*_, _/_, _%_, _<_, _≤_}
+use Prim.Native.Nat.{ℕ, zero, suc, _+_, _*_, _/_, _%_, _<_, _≤_}
 use native.Mathlib.Nat as NatL
 use native.Mathlib.Omega.{arith}
-use borrow.Author.Tests.{ltb-true, ltb-false, le-ltb, eq-eqb, eqb-true}
+use borrow.Author.Tests.{ltb-true, ltb-false, le-ltb, eq-eqb, ne-eqb, eqb-true, eqb-false}
 use lib.Dec.{ltb, eqb}
 use lib.IntN.{ℤ, pos, negsuc, negℤ, natAbs, _+ℤ_, _-ℤ_, _*ℤ_}
 use lib.Signed.{_≤ℤ_, _<ℤ_, leZ}
 use Rattle.refusal.specs.Order.{pick}
-use Rattle.rounding.specs.Nearest.{Near, Ties, away, Symmetric, Rounds, floor, rest, goesUp, rounded}
-use Rattle.rounding.proofs.Zn.{P, N, v, k, k-, neg, _⊕_, _⊖_, _⊗_, le, unle, lt, unlt, eq, uneq, abs, unabs}
+use Rattle.rounding.specs.Nearest.{Near, Ties, away, toEven, Symmetric, Rounds, floor, rest, goesUp, rounded}
+use Rattle.rounding.proofs.Zn.{P, N, v, k, k-, neg, _⊕_, _⊖_, _⊗_, le, unle, lt, unlt, eq, uneq, abs, unabs, pos-abs, abs-neg}
 use Rattle.rounding.proofs.Machine.{le-true, le-false, yes-le, not-le}
 use Rattle.rounding.proofs.Nearest.{near-apart, near-mono, near-size, unique, opposite}
 
@@ -127,3 +127,44 @@ away-symmetric = record { opposite = λ t. go t (leZ (pos 0) t) refl }
     go : (t : ℤ) (b : Bool) → leZ (pos 0) t ≡ b → leZ (pos 0) (negℤ (t +ℤ pos 1)) ≡ not b
     go t true e = let h = unle (le-true (pos 0) t e) (k 0) (v t) in not-le (pos 0) (negℤ (t +ℤ pos 1)) (lt (neg (v t ⊕ k 1)) (k 0) (omega arith))
     go t false e = let h = unlt (le-false (pos 0) t e) (v t) (k 0) in yes-le (pos 0) (negℤ (t +ℤ pos 1)) (le (k 0) (neg (v t ⊕ k 1)) (omega arith))
+
+-- ---- half to the even number
+-- n and n + 1 are not both odd, nor both even
+one-odd : (n : ℕ) (b : Bool) → eqb (n % 2) 1 ≡ b → eqb ((n + 1) % 2) 1 ≡ not b
+one-odd n true e = ne-eqb ((n + 1) % 2) 1 (λ q. omega (arith, eqb-true (n % 2) 1 e, q))
+one-odd n false e = let h = other (n % 2) (omega arith) (eqb-false (n % 2) 1 e) in eq-eqb ((n + 1) % 2) 1 (omega arith)
+  where
+    other : (m : ℕ) → m < 2 → (m ≡ 1 → ⊥) → m ≡ 0
+    other zero l h = refl
+    other (suc zero) l h = absurd (h refl)
+    other (suc (suc m)) l h = omega arith
+
+-- what a test says of n and of n + 1
+odd-next : (n : ℕ) → eqb ((n + 1) % 2) 1 ≡ not (eqb (n % 2) 1)
+odd-next n = one-odd n (eqb (n % 2) 1) refl
+
+twice : (a b : Bool) → a ≡ not b → b ≡ not a
+twice true false e = refl
+twice false true e = refl
+twice true true e = e
+twice false false e = e
+
+pub even-symmetric : Symmetric toEven
+unfolding toEven
+even-symmetric = record { opposite = go }
+  where
+    odd : {m n : ℕ} → m ≡ n → eqb (m % 2) 1 ≡ eqb (n % 2) 1
+    odd e = ap (λ (n : ℕ). eqb (n % 2) 1) e
+
+    go : (t : ℤ) → eqb (natAbs (negℤ (t +ℤ pos 1)) % 2) 1 ≡ not (eqb (natAbs t % 2) 1)
+    go (pos n) = odd (abs-neg (pos n +ℤ pos 1) ∙ above) ∙ odd-next n
+      where
+        above : natAbs (pos n +ℤ pos 1) ≡ n + 1
+        above = let h = pos-abs (le (k 0) (k n ⊕ k 1) (omega arith)) (k n ⊕ k 1) in omega arith
+    go (negsuc n) = odd below ∙ twice (eqb ((n + 1) % 2) 1) (eqb (n % 2) 1) (odd-next n) ∙ ap not (odd next)
+      where
+        below : natAbs (negℤ (negsuc n +ℤ pos 1)) ≡ n
+        below = let h = pos-abs (le (k 0) (neg (k- n ⊕ k 1)) (omega arith)) (neg (k- n ⊕ k 1)) in omega arith
+
+        next : n + 1 ≡ suc n
+        next = omega arith

@@ -20,6 +20,10 @@ Ties = ℤ → Bool
 unfoldable pub away : Ties
 away t = leZ (pos 0) t
 
+-- a half to the even one of t and t + 1: up where t is odd
+unfoldable pub toEven : Ties
+toEven t = eqb (natAbs t % 2) 1
+
 -- a rule is symmetric where it takes −(t + 1/2), which is −(t + 1) + 1/2, to the opposite of what it takes t + 1/2 to
 pub record Symmetric (ties : Ties) : Type 0 where
   pub opposite : (t : ℤ) → ties (negℤ (t +ℤ pos 1)) ≡ not (ties t)

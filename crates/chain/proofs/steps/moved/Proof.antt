@@ -7,7 +7,7 @@ use mir.Val.{SFits}
 use Rattle.rounding.proofs.Zn.{v, mul-le}
 use Rattle.rounding.proofs.Machine.{rd, fits, rd*, fit*}
 use lib.Dec.{lit<}
-use Rattle.rounding.specs.Nearest.{away}
+use Rattle.rounding.specs.Nearest.{toEven}
 use Rattle.rounding.specs.Quotient.{quotientOf}
 use Rattle.chain.specs.Parts.{stepRound}
 use Rattle.chain.proofs.steps.moved.Statement.{statement}
@@ -27,7 +27,7 @@ round-div-requires c κs = tt
 
 returns : tie.Need-returns
 unfolding stepRound
-returns c = let s = c .before in rd (record { sfits = c .round-div .ok }) ∙ c .round-div .ensures ∙ ap₂ (quotientOf away) (rd* (rd (s .fits .v)) (rd (s .fits .dt)) (f s)) thousand
+returns c = let s = c .before in rd (record { sfits = c .round-div .ok }) ∙ c .round-div .ensures ∙ ap₂ (quotientOf toEven) (rd* (rd (s .fits .v)) (rd (s .fits .dt)) (f s)) thousand
 
 pub moved-spec : {M : Type 1} → statement M
 moved-spec = tie.close (tie.spec mul-round-div round-div-requires returns)

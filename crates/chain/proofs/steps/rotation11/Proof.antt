@@ -8,7 +8,7 @@ use mir.Val.{SFits}
 use Rattle.rounding.proofs.Zn.{mul-le}
 use Rattle.rounding.proofs.Machine.{rd, fits, rd*, fit*}
 use lib.Dec.{lit<}
-use Rattle.rounding.specs.Nearest.{away}
+use Rattle.rounding.specs.Nearest.{toEven}
 use Rattle.rounding.specs.Quotient.{quotientOf}
 use Rattle.chain.specs.Parts.{stepRound, rotation11}
 use Rattle.chain.proofs.steps.rotation11.Statement.{statement}
@@ -31,7 +31,7 @@ round-div-requires c κs = tt
 
 returns : tie.Need-returns
 unfolding stepRound rotation11
-returns c = let s = c .before in rd (record { sfits = c .round-div .ok }) ∙ c .round-div .ensures ∙ ap₂ (quotientOf away) (rd* (rd (s .fits .r)) unit (f s)) ten11
+returns c = let s = c .before in rd (record { sfits = c .round-div .ok }) ∙ c .round-div .ensures ∙ ap₂ (quotientOf toEven) (rd* (rd (s .fits .r)) unit (f s)) ten11
 
 pub rotation11-spec : {M : Type 1} → statement M
 rotation11-spec = tie.close (tie.spec mul-round-div round-div-requires returns)

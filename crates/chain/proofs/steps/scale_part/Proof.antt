@@ -7,7 +7,7 @@ use mir.Val.{SFits}
 use Rattle.rounding.proofs.Zn.{k, mul-le, add-le}
 use Rattle.rounding.proofs.Machine.{rd, fits, rd+, rd*, fit+, fit*}
 use lib.Dec.{lit<}
-use Rattle.rounding.specs.Nearest.{away}
+use Rattle.rounding.specs.Nearest.{toEven}
 use Rattle.rounding.specs.Quotient.{quotientOf}
 use Rattle.chain.specs.Parts.{stepRound}
 use Rattle.chain.proofs.steps.scale_part.Statement.{statement}
@@ -40,7 +40,7 @@ unfolding stepRound
 returns c =
     let s = c .before in
     rd (record { sfits = c .round-div .ok }) ∙ c .round-div .ensures
-    ∙ ap₂ (quotientOf away) (rd+ (rd (s .fits .k)) (rd* (rd (s .fits .slope)) (rd (s .fits .z)) (f s)) (g s)) ten14
+    ∙ ap₂ (quotientOf toEven) (rd+ (rd (s .fits .k)) (rd* (rd (s .fits .slope)) (rd (s .fits .z)) (f s)) (g s)) ten14
 
 pub scale-part-spec : {M : Type 1} → statement M
 scale-part-spec = tie.close (tie.spec mul-round-div add-round-div round-div-requires returns)

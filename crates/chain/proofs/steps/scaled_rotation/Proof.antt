@@ -8,7 +8,7 @@ use mir.Syntax.{w64}
 use mir.Val.{SFits, toZ, ofZ}
 use Rattle.rounding.proofs.Zn.{mul-le, add-le}
 use Rattle.rounding.proofs.Machine.{rd, fits, rd+, fit+, rd*, fit*}
-use Rattle.rounding.specs.Nearest.{away}
+use Rattle.rounding.specs.Nearest.{toEven}
 use Rattle.rounding.specs.Quotient.{quotientOf}
 use Rattle.chain.specs.Parts.{stepRound, scaledRotation}
 use Rattle.chain.proofs.steps.scaled_rotation.Statement.{statement}
@@ -43,7 +43,7 @@ returns : tie.Need-returns
 unfolding stepRound scaledRotation
 returns c =
     let s = c .before in
-    rd (record { sfits = c .round-div .ok }) ∙ c .round-div .ensures ∙ ap₂ (quotientOf away) (rd* (rd (s .fits .r)) (factor s) (product s)) ten11
+    rd (record { sfits = c .round-div .ok }) ∙ c .round-div .ensures ∙ ap₂ (quotientOf toEven) (rd* (rd (s .fits .r)) (factor s) (product s)) ten11
 
 pub scaled-rotation-spec : {M : Type 1} → statement M
 scaled-rotation-spec = tie.close (tie.spec add-round-div mul-round-div round-div-requires returns)

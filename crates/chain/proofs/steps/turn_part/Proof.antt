@@ -5,7 +5,7 @@ use borrow.Author.Needs.{needs}
 use lib.IntN.{ℤ, pos, _+ℤ_, _*ℤ_}
 use Rattle.rounding.proofs.Zn.{k}
 use Rattle.rounding.proofs.Machine.{rd, fits, of₃}
-use Rattle.rounding.specs.Nearest.{away}
+use Rattle.rounding.specs.Nearest.{toEven}
 use Rattle.rounding.specs.Quotient.{mixedOf}
 use Rattle.chain.specs.Parts.{stepRound, linear, part}
 use Rattle.rounding.proofs.Floors.{mixed-usable}
@@ -27,10 +27,10 @@ unfolding stepRound part linear
 returns c =
     let s = c .before .before in
     let p = s .args .p in
-    rd (record { sfits = c .round-mixed .ok }) ∙ c .round-mixed .ensures ∙ of₃ (mixedOf away) (rd (s .fits .k))
+    rd (record { sfits = c .round-mixed .ok }) ∙ c .round-mixed .ensures ∙ of₃ (mixedOf toEven) (rd (s .fits .k))
     (rd (record { sfits = c .before .linear .ok }) ∙ c .before .linear .ensures ∙ of₃ (λ (a b c : ℤ). a *ℤ p .x +ℤ b *ℤ p .y +ℤ c *ℤ p .z) (rd (s .fits .a)) (rd (s .fits .b)) (rd (s .fits .c)))
     ten11
-    ∙ mixed-usable away (s .args .k) _ (pos 100000000000) (record { small = omega (arith, s .pre .start); above = leZ-yes tt })
+    ∙ mixed-usable toEven (s .args .k) _ (pos 100000000000) (record { small = omega (arith, s .pre .start); above = leZ-yes tt })
 
 pub turn-part-spec : {M : Type 1} → statement M
 turn-part-spec = tie.close (tie.spec linear-requires round-mixed-requires returns)

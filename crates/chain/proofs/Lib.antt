@@ -1,4 +1,5 @@
 pub mod StepLaws
+pub mod Apart
 pub mod Within
 pub mod Sizes
 pub mod Walk

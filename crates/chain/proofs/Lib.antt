@@ -4,9 +4,9 @@ pub mod Within
 pub mod Sizes
 pub mod Walk
 pub mod Accepted
+pub mod Ends
 pub mod Outcomes
 pub mod Prepared
 pub mod Places
-pub mod RoundTrip
 pub mod Cases
 pub mod Keeping

@@ -42,6 +42,11 @@ pub leaves : (q : Position) (g : Position → Walk) → inArea q ≡ false → o
 leaves q g e = ap (λ (b : Bool). onward (pick b (at q) outside) g) e
 
 module _ (f : Step → Position → Position) where
+  -- no step: the walk ends where it began
+  pub walk-none : (p r : Position) → walk f [] p ≡ at r → p ≡ r
+  unfolding walk
+  walk-none p r e = at-is e
+
   -- the first step's result is in the area, and the rest goes on from there
   pub walk-step : (s : Step) (ss : List Step) (p r : Position) → walk f (s ∷ ss) p ≡ at r → (inArea (f s p) ≡ true) × (walk f ss (f s p) ≡ at r)
   unfolding walk

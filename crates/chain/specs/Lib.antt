@@ -5,6 +5,5 @@ pub mod Parts
 pub mod Axes
 pub mod Ready
 pub mod Convert
-pub mod RoundTrip
 pub mod Cases
 pub mod Prepared

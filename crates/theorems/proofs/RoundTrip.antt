@@ -10,25 +10,26 @@ use lib.ListN.{length, length-take}
 use lib.IntN.{ℤ, natAbs, _-ℤ_}
 use Rattle.rounding.proofs.Zn.{v, eq, unabs, _⊖_}
 use Rattle.rounding.proofs.Machine.{of₃}
 use Rattle.chain.specs.declared.Position.{Position}
 use Rattle.chain.specs.declared.Realization.{Realization}
 use Rattle.chain.specs.declared.Id.{Id}
 use Rattle.chain.specs.declared.Point.{Point}
 use Rattle.chain.specs.declared.Kind.{Kind}
 use Rattle.chain.specs.declared.Kind.the-variants.{Shift, Velocity, BursaWolf, Frame}
 use Rattle.chain.specs.declared.Step.{Step}
 use Rattle.chain.specs.declared.Chain.{Chain}
 use Rattle.chain.specs.declared.Answer.the-variants.{Converted}
-use Rattle.chain.specs.Faults.{inArea, sameRealization, stepsOf}
+use Rattle.chain.specs.Faults.{inArea, stepsOf}
 use Rattle.chain.specs.Parts.{kindParts, forwardBy, inverseBy}
 use Rattle.chain.specs.Axes.{onX, onY, onZ, Small}
 use Rattle.chain.specs.Convert.{at, walk, forwardStep, inverseStep, startOf, endOf, movedTo, forwardOf, inverseOf}
-use Rattle.chain.specs.RoundTrip.{inexact, inexactSteps, Returned, RoundTrip}
-use Rattle.chain.proofs.Within.{same-is, area-small}
+use Rattle.theorems.specs.RoundTrip.{inexact, inexactSteps, Returned, RoundTrip}
+use Rattle.chain.proofs.Within.{area-small}
 use Rattle.chain.proofs.StepLaws.{Off, off-le, off-self, small-le, inverse-off, inverse-exact, forward-off, forward-exact}
 use Rattle.chain.proofs.Sizes.{StepOk, step-ok, kind-mild, shift-flat, velocity-flat}
-use Rattle.chain.proofs.Walk.{walk-step, walk-last, walk-area, at-is}
-use Rattle.chain.proofs.Accepted.{Sound, converted}
+use Rattle.chain.proofs.Walk.{walk-none, walk-step, walk-last, walk-area}
+use Rattle.chain.proofs.Accepted.{Sound}
+use Rattle.chain.proofs.Ends.{start-home, end-home, forward-went, inverse-went}
 
 -- ---- one step of any kind: nothing is added by a shift or a velocity, one unit by Bursa-Wolf or a frame
 module _ (r a : Realization) where
@@ -59,9 +60,9 @@ last-first f s ss q = ap (λ (l : List Step). walk f l q) (sym (reverseAux-eq ss
 there-and-back :
     (ss : List Step) → Sound ss → (p q q' r : Position) (m : ℕ) → m + inexactSteps ss ≤ 8 → inArea p ≡ true →
     walk forwardStep ss p ≡ at q → Off m q' q → walk inverseStep (reverse ss) q' ≡ at r → Off (m + inexactSteps ss) r p
-unfolding walk
 there-and-back [] ok p q q' r m l h e o b =
-    off-le (omega arith) (subst (λ (x : Position). Off m r x) (sym (at-is e)) (subst (λ (x : Position). Off m x q) (at-is b) o))
+    let h = subst (λ (x : Position). Off m x q) (walk-none inverseStep q' r b) o in
+    off-le (omega arith) (subst (λ (x : Position). Off m r x) (sym (walk-none forwardStep p q e)) h)
 there-and-back (s ∷ ss) ok p q q' r m l h e o b =
     let t = walk-step forwardStep s ss p q e in
     let u = walk-last inverseStep (reverse ss) s q' r (last-first inverseStep s ss q' ∙ b) in
@@ -73,26 +74,16 @@ there-and-back (s ∷ ss) ok p q q' r m l h e o b =
 back-and-there :
     (ss : List Step) → Sound ss → (q p p' r : Position) (m : ℕ) → m + inexactSteps ss ≤ 8 → inArea q ≡ true →
     walk inverseStep (reverse ss) q ≡ at p → Off m p' p → walk forwardStep ss p' ≡ at r → Off (m + inexactSteps ss) r q
-unfolding walk
 back-and-there [] ok q p p' r m l h e o b =
-    off-le (omega arith) (subst (λ (x : Position). Off m r x) (sym (at-is e)) (subst (λ (x : Position). Off m x p) (at-is b) o))
+    let h = subst (λ (x : Position). Off m x p) (walk-none forwardStep p' r b) o in
+    off-le (omega arith) (subst (λ (x : Position). Off m r x) (sym (walk-none inverseStep q p e)) h)
 back-and-there (s ∷ ss) ok q p p' r m l h e o b =
     let t = walk-step forwardStep s ss p' r b in
     let u = walk-last inverseStep (reverse ss) s q p (last-first inverseStep s ss q ∙ e) in
     let n = near (u .mid) (walk-area inverseStep (reverse ss) q (u .mid) h (u .came)) in
-    let j = kind-forward (s .before) (s .after) (s .kind) (step-ok s (ok .0)) p' (u .mid) m n (omega arith) (subst (λ (x : Position). Off m p' x) (sym (u .went)) o) in
+    let i = subst (λ (x : Position). Off m p' x) (sym (u .went)) o in
+    let j = kind-forward (s .before) (s .after) (s .kind) (step-ok s (ok .0)) p' (u .mid) m n (omega arith) i in
     off-le (omega arith) (back-and-there ss (ok .1) q (u .mid) (forwardStep s p') r (m + inexact (s .kind)) (omega arith) h (u .came) j (t .1))
-
--- ---- datum and epoch
-start-home : (r e : Realization) (ss : List Step) → sameRealization r (startOf r ss) ≡ true → e ≡ endOf r ss → (startOf e ss .datum ≡ r .datum) × (startOf e ss .epoch ≡ r .epoch)
-unfolding startOf endOf
-start-home r e [] h i = (ap (λ (t : Realization). t .datum) i, ap (λ (t : Realization). t .epoch) i)
-start-home r e (s ∷ ss) h i = let f = same-is r (s .before) h in (sym (f .0), sym (f .1))
-
-end-home : (r e : Realization) (ss : List Step) → sameRealization r (endOf r ss) ≡ true → e ≡ startOf r ss → (endOf e ss .datum ≡ r .datum) × (endOf e ss .epoch ≡ r .epoch)
-unfolding startOf endOf
-end-home r e [] h i = (ap (λ (t : Realization). t .datum) i, ap (λ (t : Realization). t .epoch) i)
-end-home r e (s ∷ ss) h i = let f = same-is r (endOf (s .after) ss) h in (sym (f .0), sym (f .1))
 
 -- ---- at most eight steps, so at most eight units
 count-le : (ss : List Step) → inexactSteps ss ≤ length ss
@@ -123,26 +114,27 @@ returned n p q r there home e f d o = record {
 }
 
 pub round-trip : RoundTrip
-unfolding forwardOf inverseOf
 round-trip c p q r = (forth, back)
   where
     forth : forwardOf c p ≡ Converted q → inverseOf c q ≡ Converted r → Returned (inexactSteps (stepsOf c)) p r
     forth e f =
         let ss = stepsOf c in
-        let a = converted c p (startOf (p .realization) ss) (endOf (p .realization) ss) (walk forwardStep ss (p .position)) q e in
-        let b = converted c q (endOf (q .realization) ss) (startOf (q .realization) ss) (walk inverseStep (reverse ss) (q .position)) r f in
+        let a = forward-went c p q e in
+        let b = inverse-went c q r f in
         returned (inexactSteps ss) p q r (endOf (p .realization) ss) (startOf (q .realization) ss) (a .is) (b .is)
         (start-home (p .realization) (q .realization) ss (a .accept .here) (ap (λ (t : Point). t .realization) (a .is)))
-        (there-and-back ss (a .accept .sound) (p .position) (q .position) (q .position) (r .position) 0 (eight c (a .accept .short)) (a .accept .area) (a .ended) (off-self _) (b .ended))
+        (there-and-back ss (a .accept .sound) (p .position) (q .position) (q .position) (r .position) 0 (eight c (a .accept .short)) (a .accept .area)
+        (a .ended) (off-self _) (b .ended))
 
     back : inverseOf c p ≡ Converted q → forwardOf c q ≡ Converted r → Returned (inexactSteps (stepsOf c)) p r
     back e f =
         let ss = stepsOf c in
-        let a = converted c p (endOf (p .realization) ss) (startOf (p .realization) ss) (walk inverseStep (reverse ss) (p .position)) q e in
-        let b = converted c q (startOf (q .realization) ss) (endOf (q .realization) ss) (walk forwardStep ss (q .position)) r f in
+        let a = inverse-went c p q e in
+        let b = forward-went c q r f in
         returned (inexactSteps ss) p q r (startOf (p .realization) ss) (endOf (q .realization) ss) (a .is) (b .is)
         (end-home (p .realization) (q .realization) ss (a .accept .here) (ap (λ (t : Point). t .realization) (a .is)))
-        (back-and-there ss (a .accept .sound) (p .position) (q .position) (q .position) (r .position) 0 (eight c (a .accept .short)) (a .accept .area) (a .ended) (off-self _) (b .ended))
+        (back-and-there ss (a .accept .sound) (p .position) (q .position) (q .position) (r .position) 0 (eight c (a .accept .short)) (a .accept .area)
+        (a .ended) (off-self _) (b .ended))
 
 -- a chain of shifts and velocities alone, or an empty one, gives back exactly the point handed in: within 0 units is equal
 same-number : (x y : ℤ) → natAbs (x -ℤ y) ≤ 0 → x ≡ y

@@ -4,3 +4,6 @@ pub mod Rounding
 pub mod Projection
 pub mod Geodetic
 pub mod Texts
+pub mod Apart
+pub mod MarksApart
+pub mod MarksMeet

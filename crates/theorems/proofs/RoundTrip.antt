@@ -96,7 +96,7 @@ count-le (s ∷ ss) = let h = count-le ss in let l = one (s .kind) in omega arit
     one (BursaWolf t) = omega arith
     one Frame = omega arith
 
-eight : (c : Chain) → c .length ≤ 8 → 0 + inexactSteps (stepsOf c) ≤ 8
+pub eight : (c : Chain) → c .length ≤ 8 → 0 + inexactSteps (stepsOf c) ≤ 8
 eight c h = omega (arith, count-le (stepsOf c), length-take (c .length) (c .steps))
 
 -- ---- the claim, from two conversions that were not refused

@@ -4,3 +4,5 @@ pub mod Rounding
 pub mod Projection
 pub mod Geodetic
 pub mod Texts
+pub mod MarksApart
+pub mod MarksMeet

@@ -11,6 +11,7 @@ mod number;
 mod origin_line;
 mod point_line;
 mod step_line;
+mod strange;
 mod write;
 
 pub use compare::later_of_two;
@@ -20,13 +21,16 @@ pub use geodetic_line::read_geodetic;
 pub use origin_line::read_origin;
 pub use point_line::read_point;
 pub use step_line::read_step;
+pub use strange::strange;
 pub use write::write_point;
 pub use write::write_projected;
 pub use write::write_refusal;
 
-// What is wrong with the form of a line: a number of the refusal table.
+// What is wrong with the form of a line: a number of the refusal table, and the byte in the line, from 0, where the first offending field begins. For LENGTH and
+// COUNT the place is the line's length without its line feed, at most 200.
 pub struct Fault {
     pub number: u8,
+    pub place: u8,
 }
 
 // A reader answers three ways: the record; malformed, where the line is not of the form; refused with a number of the refusal table, where the form is

@@ -25,7 +25,7 @@ abbrev pub fault : ℕ → Fault
 fault n = record { number = n; place = 0 }
 
 -- a line whose first letter its program does not know
-unfoldable pub strangeFault : List ℕ → Fault
+abbrev pub strangeFault : List ℕ → Fault
 strangeFault line = fault refusal.form
 
 -- a record by its own fault, which is 0 where there is none

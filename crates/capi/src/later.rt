@@ -1,6 +1,5 @@
 // The later of two point lines: which of the two it is, and why neither is.
 ghost use mathlib.Core.Path.{_≡_};
-ghost use lib.IntN.{pos};
 ghost use lib.ListN.{length};
 ghost use Rattle.capi.specs.Outcome.{Answered};
 ghost use Rattle.capi.specs.Calls.{ofVerdict, laterCall, ofLaterFault, laterFaultCall};
@@ -38,20 +37,14 @@ pub extern "C" fn swivelcrane_later(first: &[u8], second: &[u8], which: &mut [i6
     give(line::later_verdict(first, second), which)
 }
 
-fn whole(n: u8) -> i64
-    ensures { λ r. ⌜ r ≡ pos n ⌝ }
-{
-    n as i64
-}
-
 // Writes the refusal number, the line and the place.
 fn give_fault(fault: LaterFault, out: &mut [i64]) -> i64
     requires { ⌜ length (now out) ≡ 3 ⌝ }
     ensures { λ r. ⌜ Answered (ofLaterFault fault) (now (out .entry)) (now (out .exit)) r ⌝ }
 {
-    let number = whole(fault.number);
-    let line = whole(fault.line);
-    let place = whole(fault.place);
+    let number = status(fault.number);
+    let line = status(fault.line);
+    let place = status(fault.place);
     out[0] = number;
     out[1] = line;
     out[2] = place;

@@ -10,6 +10,7 @@ use lib.ListN.{length, getD, take}
 use lib.Seq.{length-take-le}
 use native.Mathlib.Omega.{arith}
 use borrow.Author.Tests.{eqb-true, ltb-true}
+use Rattle.refusal.specs.Numbers as refusal
 use Rattle.refusal.specs.Order.{pick}
 use Rattle.refusal.proofs.Orders.{first-short}
 use Rattle.chain.specs.declared.Point.{Point}
@@ -32,7 +33,7 @@ use Rattle.line.specs.Fields.{longestLine, body, front, fields, Form, en
 use Rattle.line.specs.Name.{nameOf}
 use Rattle.line.specs.Number.{numberOf}
 use Rattle.line.specs.Forms.{pointForm, stepForm, originForm, geodeticForm}
-use Rattle.line.specs.Readers.{readAs, readPoint, readStep, readOrigin, geodeticFault, readGeodetic}
+use Rattle.line.specs.Readers.{fault, strangeFault, readAs, readPoint, readStep, readOrigin, geodeticFault, readGeodetic}
 
 nothing : {A : Type 0} {a : A} → none ≡ some a → ⊥
 nothing e = let w : _≡_ {A = ℕ} 0 1 = cc in omega arith
@@ -130,25 +131,33 @@ module _ {A R : Type 0} (faultOf : A → ℕ) (small : (a : A) → faultOf a < 1
       go true e = G a refl (eqb-true (faultOf a) 0 e)
       go false e = B (faultOf a) (small a)
 
--- a fault's number has two digits at most
-abbrev Small : Fault → Type 0
-Small f = f .number < 100
+-- a fault's number has two digits at most, and its place lies in the line or at its end
+pub record Small (line : List ℕ) (f : Fault) : Type 0 where
+  pub number : f .number < 100
+  pub inside : f .place ≤ length line
+  pub low : f .place ≤ longestLine
 
-pub point-outcome : (P : PointLine → Type 0) (line : List ℕ) → ((p : Point) → pointFault p ≡ 0 → 16 ≤ length line → P (point-line.Point p)) → ((f : Fault) → Small f → P (point-line.Malformed f)) → ((n : ℕ) → n < 100 → P (point-line.Refused n)) → P (readPoint line)
+form-small : (line : List ℕ) → Small line (fault refusal.form)
+form-small line = record { number = omega arith; inside = omega arith; low = omega arith }
+
+pub strange-small : (line : List ℕ) → Small line (strangeFault line)
+strange-small line = form-small line
+
+pub point-outcome : (P : PointLine → Type 0) (line : List ℕ) → ((p : Point) → pointFault p ≡ 0 → 16 ≤ length line → P (point-line.Point p)) → ((f : Fault) → Small line f → P (point-line.Malformed f)) → ((n : ℕ) → n < 100 → P (point-line.Refused n)) → P (readPoint line)
 unfolding readPoint
-point-outcome P line G M B = outcome pointFault point-fault-short point-line.Point point-line.Refused _ P (said pointForm line) (λ p e f. G p f (point-long line p e)) (M _ (omega arith)) B
+point-outcome P line G M B = outcome pointFault point-fault-short point-line.Point point-line.Refused _ P (said pointForm line) (λ p e f. G p f (point-long line p e)) (M _ (form-small line)) B
 
-pub step-outcome : (P : StepLine → Type 0) (line : List ℕ) → ((s : Step) → stepFault s ≡ 0 → P (step-line.Step s)) → ((f : Fault) → Small f → P (step-line.Malformed f)) → ((n : ℕ) → n < 100 → P (step-line.Refused n)) → P (readStep line)
+pub step-outcome : (P : StepLine → Type 0) (line : List ℕ) → ((s : Step) → stepFault s ≡ 0 → P (step-line.Step s)) → ((f : Fault) → Small line f → P (step-line.Malformed f)) → ((n : ℕ) → n < 100 → P (step-line.Refused n)) → P (readStep line)
 unfolding readStep
-step-outcome P line G M B = outcome stepFault step-fault-short step-line.Step step-line.Refused _ P (said stepForm line) (λ s e f. G s f) (M _ (omega arith)) B
+step-outcome P line G M B = outcome stepFault step-fault-short step-line.Step step-line.Refused _ P (said stepForm line) (λ s e f. G s f) (M _ (form-small line)) B
 
-pub origin-outcome : (P : OriginLine → Type 0) (line : List ℕ) → ((o : OriginNumbers) → originFault o ≡ 0 → P (origin-line.Origin o)) → ((f : Fault) → Small f → P (origin-line.Malformed f)) → ((n : ℕ) → n < 100 → P (origin-line.Refused n)) → P (readOrigin line)
+pub origin-outcome : (P : OriginLine → Type 0) (line : List ℕ) → ((o : OriginNumbers) → originFault o ≡ 0 → P (origin-line.Origin o)) → ((f : Fault) → Small line f → P (origin-line.Malformed f)) → ((n : ℕ) → n < 100 → P (origin-line.Refused n)) → P (readOrigin line)
 unfolding readOrigin
-origin-outcome P line G M B = outcome originFault origin-fault-short origin-line.Origin origin-line.Refused _ P (said originForm line) (λ o e f. G o f) (M _ (omega arith)) B
+origin-outcome P line G M B = outcome originFault origin-fault-short origin-line.Origin origin-line.Refused _ P (said originForm line) (λ o e f. G o f) (M _ (form-small line)) B
 
-pub geodetic-outcome : (P : GeodeticLine → Type 0) (line : List ℕ) → ((g : Geodetic) → 8 ≤ length line → P (geodetic-line.Geodetic g)) → ((f : Fault) → Small f → P (geodetic-line.Malformed f)) → ((n : ℕ) → n < 100 → P (geodetic-line.Refused n)) → P (readGeodetic line)
+pub geodetic-outcome : (P : GeodeticLine → Type 0) (line : List ℕ) → ((g : Geodetic) → 8 ≤ length line → P (geodetic-line.Geodetic g)) → ((f : Fault) → Small line f → P (geodetic-line.Malformed f)) → ((n : ℕ) → n < 100 → P (geodetic-line.Refused n)) → P (readGeodetic line)
 unfolding readGeodetic
-geodetic-outcome P line G M B = outcome geodeticFault geodetic-fault-short geodetic-line.Geodetic geodetic-line.Refused _ P (said geodeticForm line) (λ g e f. G g (geodetic-long line g e)) (M _ (omega arith)) B
+geodetic-outcome P line G M B = outcome geodeticFault geodetic-fault-short geodetic-line.Geodetic geodetic-line.Refused _ P (said geodeticForm line) (λ g e f. G g (geodetic-long line g e)) (M _ (form-small line)) B
 
 -- ---- a reader that gives a record has found no fault
 pub point-sound : (line : List ℕ) (p : Point) → readPoint line ≡ point-line.Point p → pointFault p ≡ 0

@@ -22,7 +22,11 @@ use Rattle.line.specs.Fields.{said}
 use Rattle.line.specs.Forms.{pointForm, stepForm, originForm, geodeticForm}
 
 abbrev pub fault : ℕ → Fault
-fault n = record { number = n }
+fault n = record { number = n; place = 0 }
+
+-- a line whose first letter its program does not know
+abbrev pub strangeFault : List ℕ → Fault
+strangeFault line = fault refusal.form
 
 -- a record by its own fault, which is 0 where there is none
 abbrev pub judged : {A R : Type 0} → (A → ℕ) → (A → R) → (ℕ → R) → A → R

@@ -61,5 +61,6 @@ pub fn read_geodetic(line: &[u8]) -> GeodeticLine
     }
     GeodeticLine::Malformed(Fault {
         number: refusal::FORM,
+        place: 0,
     })
 }

@@ -63,5 +63,6 @@ pub fn read_origin(line: &[u8]) -> OriginLine
     }
     OriginLine::Malformed(Fault {
         number: refusal::FORM,
+        place: 0,
     })
 }

@@ -76,5 +76,6 @@ pub fn read_point(line: &[u8]) -> PointLine
     }
     PointLine::Malformed(Fault {
         number: refusal::FORM,
+        place: 0,
     })
 }

@@ -201,5 +201,6 @@ pub fn read_step(line: &[u8]) -> StepLine
     }
     StepLine::Malformed(Fault {
         number: refusal::FORM,
+        place: 0,
     })
 }

@@ -2,16 +2,18 @@
 //
 // A line is at most 200 bytes with the line feed at its end; its fields are parted by one tab. Every function here takes any bytes
 // of any length. What is refused is refused for its form first, whatever its numbers are.
+mod awaited;
 mod compare;
 mod ends;
 mod field;
 mod geodetic_line;
+mod malformed;
 mod name;
 mod number;
 mod origin_line;
+mod other_line;
 mod point_line;
 mod step_line;
-mod strange;
 mod write;
 
 pub use compare::later_of_two;
@@ -19,9 +21,9 @@ pub use compare::later_verdict;
 pub use ends::line_end;
 pub use geodetic_line::read_geodetic;
 pub use origin_line::read_origin;
+pub use other_line::strange;
 pub use point_line::read_point;
 pub use step_line::read_step;
-pub use strange::strange;
 pub use write::write_point;
 pub use write::write_projected;
 pub use write::write_refusal;

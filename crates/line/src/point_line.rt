@@ -1,8 +1,8 @@
 // P, id, issue, datum, epoch, X, Y, Z.
-use crate::Fault;
 use crate::PointLine;
 use crate::field::body_end;
 use crate::field::letter;
+use crate::malformed::fault_of;
 use crate::name::name;
 use crate::number::number;
 ghost use mathlib.Core.Path.{_≡_};
@@ -74,8 +74,6 @@ pub fn read_point(line: &[u8]) -> PointLine
             return judge_point(p);
         }
     }
-    PointLine::Malformed(Fault {
-        number: refusal::FORM,
-        place: 0,
-    })
+    let fault = fault_of(line, b'P');
+    PointLine::Malformed(fault)
 }

@@ -22,7 +22,7 @@ use Rattle.line.specs.Forms.{pointForm, stepForm, originForm, geodeticFo
 use Rattle.line.specs.Malformed.{pointShape, stepShape, originShape, geodeticShape, unknownShape, faultOf}
 
 -- a line whose first letter its program does not know
-unfoldable pub strangeFault : List ℕ → Fault
+abbrev pub strangeFault : List ℕ → Fault
 strangeFault line = faultOf unknownShape line
 
 -- a record by its own fault, which is 0 where there is none

@@ -16,6 +16,7 @@ mod point_line;
 mod step_line;
 mod write;
 
+pub use compare::later_fault;
 pub use compare::later_of_two;
 pub use compare::later_verdict;
 pub use ends::line_end;
@@ -72,15 +73,23 @@ pub enum GeodeticLine {
     Refused(u8),
 }
 
+// Why neither of two point lines is the later one: a number of the refusal table; the line it is given for, 1 or 2, or 0 where neither alone is at fault; and the
+// place in that line, 0 but for a line of bad form. All three are 0 where nothing is refused.
+pub struct LaterFault {
+    pub number: u8,
+    pub line: u8,
+    pub place: u8,
+}
+
 // Which of two point lines is the later one, or why neither is.
 pub enum Verdict {
     First,
     Second,
-    Refused(u8),
+    Refused(LaterFault),
 }
 
-// The later of two point lines: that part of the caller's bytes, and refusal number 0; or an empty part of the first and the number.
+// The later of two point lines: that part of the caller's bytes, and no fault; or an empty part of the first and the fault.
 pub struct Later<'a> {
     pub part: &'a [u8],
-    pub refusal: u8,
+    pub fault: LaterFault,
 }

@@ -62,8 +62,8 @@ module _ (P : ℕ → Type 0) (good : P 0) where
 
   by-class : P refusal.letter → P refusal.id → P refusal.plain → (c : Class) (f : List ℕ) → P (fieldFault c f)
   by-class l i p (letters ls) f = by-reading refusal.letter (letterOf ls f) l
-  by-class l i p identifier f = by-reading refusal.id _ i
-  by-class l i p number f = by-reading refusal.plain _ p
+  by-class l i p identifier f = by-reading refusal.id (nameOf f) i
+  by-class l i p number f = by-reading refusal.plain (numberOf f) p
 
 clean-good : (at : ℕ) (cs : List Class) (fs : List (List ℕ)) → length fs ≡ length cs → offending refusal.letter at cs fs ≡ none → offending refusal.id at cs fs ≡ none → offending refusal.plain at cs fs ≡ none → allGood cs fs ≡ true
 unfolding offending
@@ -94,11 +94,11 @@ fields-good cs end fs = go (allGood cs fs) refl
     go true e =
         rw (good-clean refusal.letter 0 (omega arith) cs fs e, eq-eqb (length fs) (length cs) (good-count cs fs e), good-clean refusal.id 0 (omega arith) cs fs e, good-clean refusal.plain 0 (omega arith) cs fs e)
     go false e =
-        ne-eqb _ 0 λ z.
-        let l = next-zero _ _ _ (omega arith) z in
-        let c = next-zero _ _ _ (omega arith) (l .1) in
-        let i = next-zero _ _ _ (omega arith) (c .1) in
-        let p = next-zero _ _ _ (omega arith) (i .1) in
+        ne-eqb (fieldsFault cs end fs .number) 0 λ z.
+        let l = next-zero refusal.letter (offending refusal.letter 0 cs fs) _ (omega arith) z in
+        let c = next-zero refusal.count (miscounted cs fs end) _ (omega arith) (l .1) in
+        let i = next-zero refusal.id (offending refusal.id 0 cs fs) _ (omega arith) (c .1) in
+        let p = next-zero refusal.plain (offending refusal.plain 0 cs fs) _ (omega arith) (i .1) in
         never (sym (clean-good 0 cs fs (same-count cs fs end (c .0)) (l .0) (i .0) (p .0)) ∙ e)
 
 -- ---- a form and the classes of its fields
@@ -233,13 +233,13 @@ module _ {A : Type 0} (form : Form A) (shape : Shape) (like : (fs : List (List �
       go (some s) = filled-good form (shape (fields s)) (fields s) (like (fields s)) ∙ sym (fields-good (shape (fields s)) (endOf line) (fields s))
 
 pub point-exactly : (line : List ℕ) → Exactly (said pointForm line) (faultOf pointShape line)
-point-exactly line = exactly _ _ (good-said pointForm pointShape (λ fs. like-on pointForm (pointShape fs) fs (point-like fs)) line)
+point-exactly line = exactly (said pointForm line) (faultOf pointShape line) (good-said pointForm pointShape (λ fs. like-on pointForm (pointShape fs) fs (point-like fs)) line)
 
 pub step-exactly : (line : List ℕ) → Exactly (said stepForm line) (faultOf stepShape line)
-step-exactly line = exactly _ _ (good-said stepForm stepShape step-like line)
+step-exactly line = exactly (said stepForm line) (faultOf stepShape line) (good-said stepForm stepShape step-like line)
 
 pub origin-exactly : (line : List ℕ) → Exactly (said originForm line) (faultOf originShape line)
-origin-exactly line = exactly _ _ (good-said originForm originShape (λ fs. like-on originForm (originShape fs) fs (origin-like fs)) line)
+origin-exactly line = exactly (said originForm line) (faultOf originShape line) (good-said originForm originShape (λ fs. like-on originForm (originShape fs) fs (origin-like fs)) line)
 
 pub geodetic-exactly : (line : List ℕ) → Exactly (said geodeticForm line) (faultOf geodeticShape line)
-geodetic-exactly line = exactly _ _ (good-said geodeticForm geodeticShape (λ fs. like-on geodeticForm (geodeticShape fs) fs (geodetic-like fs)) line)
+geodetic-exactly line = exactly (said geodeticForm line) (faultOf geodeticShape line) (good-said geodeticForm geodeticShape (λ fs. like-on geodeticForm (geodeticShape fs) fs (geodetic-like fs)) line)

@@ -14,7 +14,7 @@ use Rattle.refusal.specs.Order.{pick}
 use Rattle.line.specs.declared.Fault.{Fault}
 use Rattle.line.specs.Bytes.{tab, lineFeed}
 use Rattle.line.specs.Fields.{longestLine, body, front, fields}
-use Rattle.line.specs.Malformed.{Class, Shape, fieldFault, offending, endOf, fault, orNext, fieldsFault, bodyFault, faultOf}
+use Rattle.line.specs.Malformed.{Class, Shape, fieldFault, offending, endOf, miscounted, fault, orNext, fieldsFault, bodyFault, faultOf}
 
 pub nothing : {A : Type 0} {a : A} → none ≡ some a → ⊥
 nothing e = let w : _≡_ {A = ℕ} 0 1 = cc in omega arith
@@ -82,11 +82,11 @@ module _ (P : Fault → Type 0) where
   fields-have : (cs : List Class) (end : ℕ) (s : List ℕ) → P (fault 0 0) → P (fault refusal.count end) → ((n p : ℕ) → n < 100 → p ≤ length s → P (fault n p)) → P (fieldsFault cs end (fields s))
   unfolding fieldsFault
   fields-have cs end s z c h =
-      next-has refusal.letter _ _ (λ p e. h _ p (omega arith) (place-inside _ cs s p e))
-      (next-has refusal.count _ _ (λ p e. counted (eqb (length (fields s)) (length cs)) p e)
-      (next-has refusal.id _ _ (λ p e. h _ p (omega arith) (place-inside _ cs s p e))
-      (next-has refusal.plain _ _ (λ p e. h _ p (omega arith) (place-inside _ cs s p e)) z)))
+      search-has refusal.letter _ (omega arith) (next-has refusal.count (miscounted cs (fields s) end) _ (counted (eqb (length (fields s)) (length cs))) (search-has refusal.id _ (omega arith) (search-has refusal.plain _ (omega arith) z)))
     where
+      search-has : (n : ℕ) (next : Fault) → n < 100 → P next → P (orNext n (offending n 0 cs (fields s)) next)
+      search-has n next l k = next-has n (offending n 0 cs (fields s)) next (λ p e. h n p l (place-inside n cs s p e)) k
+
       counted : (t : Bool) (p : ℕ) → pick t none (some end) ≡ some p → P (fault refusal.count p)
       counted true p e = absurd (nothing e)
       counted false p e = let q : end ≡ p = cc in rw (← q) c

@@ -11,14 +11,14 @@ use native.Mathlib.Omega.{arith}
 use borrow.Author.Tests.{le-leb, lt-leb, leb-true, leb-false, eq-eqb, ne-eqb}
 use Rattle.refusal.specs.Numbers as refusal
 use Rattle.refusal.specs.Order.{pick}
-use Rattle.line.specs.Bytes.{lineFeed}
-use Rattle.line.specs.Fields.{longestLine, body, fields, front, taken, head, single, oneOf, letterOf}
-use Rattle.line.specs.Malformed.{Class, letters, number, numbers, byteOf, kindOf, unknownShape, unread, fieldFault, offending, endOf, fault, fieldsFault, bodyFault, faultOf}
+use Rattle.line.specs.Bytes.{lineFeed, letterT, letterV, letterB, letterF}
+use Rattle.line.specs.Fields.{longestLine, body, fields, front, taken, head, single, oneOf}
+use Rattle.line.specs.Malformed.{Class, letters, number, numbers, byteOf, kindOf, kindShape, unread, fieldFault, offending, endOf, fault, fieldsFault}
 use Rattle.line.specs.Reading.{from, fronts, Tells, Got, Framed, itself}
-use Rattle.line.specs.SecondLook.{classOf, firstFault, Passed, earlier, Looked}
+use Rattle.line.specs.SecondLook.{stepRest, firstFault, Passed, earlier, Looked}
 use Rattle.line.proofs.Walk as W
 use Rattle.line.proofs.Names.{fronts-snoc}
-use Rattle.line.proofs.Malformed.{nothing, body-length, place-inside}
+use Rattle.line.proofs.Malformed.{nothing}
 
 -- ---- the classes: so many numbers
 pub numbers-at : (n i : ℕ) → i < n → getElem? (numbers n) i ≡ some number
@@ -34,6 +34,23 @@ numbers-past (suc n) (suc i) h = numbers-past n i (omega arith)
 -- a field after the first
 pub later : (c : Class) (cs : List Class) (i j : ℕ) → i ≡ j + 1 → getElem? (c ∷ cs) i ≡ getElem? cs j
 later c cs i j e = rw (e, add-one j)
+
+-- a step's four numbers after its kind, and what follows them
+pub step-number : (k i : ℕ) → 0 < i → i < 5 → getElem? (stepRest k) i ≡ some number
+step-number k zero h l = absurd (omega arith)
+step-number k (suc zero) h l = refl
+step-number k (suc (suc zero)) h l = refl
+step-number k (suc (suc (suc zero))) h l = refl
+step-number k (suc (suc (suc (suc zero)))) h l = refl
+step-number k (suc (suc (suc (suc (suc i))))) h l = absurd (omega arith)
+
+pub step-after : (k i j : ℕ) → i ≡ j + 5 → getElem? (stepRest k) i ≡ getElem? (kindShape k) j
+step-after k i j e =
+    later (letters (letterT ∷ letterV ∷ letterB ∷ letterF ∷ [])) (numbers 4 ++ kindShape k) i (j + 4) (omega arith)
+    ∙ later number (numbers 3 ++ kindShape k) (j + 4) (j + 3) (omega arith)
+    ∙ later number (numbers 2 ++ kindShape k) (j + 3) (j + 2) (omega arith)
+    ∙ later number (numbers 1 ++ kindShape k) (j + 2) (j + 1) (omega arith)
+    ∙ later number (kindShape k) (j + 1) j refl
 
 -- ---- where a field ends: bytes that are no tab, so far
 pub record Begun (s : List ℕ) (at i : ℕ) : Type 0 where
@@ -105,11 +122,11 @@ pub faulted : {B C : Type 0} {s : List ℕ} {image : B → C} {read : List ℕ �
     → pick (leb next (length s + 1)) 0 n ≡ firstFault (some c) (from s at)
 faulted {s = s} {image} {read} {at} {v} {next} c n g h same =
     let x = W.field-at s at h in
-    rw (x .is, same (x .first)) (go (read (x .first)) (rw (x .is) at (g .tells)))
+    rw (x .is, same (x .first)) (go (read (x .first)) (x .rest) (rw (x .is) at (g .tells)))
   where
-    go : (o : Option _) → Tells s image (taken o _) v next → pick (leb next (length s + 1)) 0 n ≡ unread n o
-    go none t = rw (lt-leb next (length s + 1) t)
-    go (some b) t = rw (le-leb next (length s + 1) (t .1))
+    go : (o : Option _) (fs : List (List ℕ)) → Tells s image (taken o fs) v next → pick (leb next (length s + 1)) 0 n ≡ unread n o
+    go none fs t = rw (lt-leb next (length s + 1) t)
+    go (some b) fs t = rw (le-leb next (length s + 1) (t .1))
 
 -- ---- the walk over the fields: a place found before, or what is found from here on
 offending-none : (n at : ℕ) (cs : List Class) → offending n at cs [] ≡ none
@@ -125,13 +142,15 @@ offending-on n at h [] (suc i) f fs = rw (ne-eqb 0 n (λ e. omega arith))
 offending-on n at h (c ∷ cs) zero f fs = refl
 offending-on n at h (c ∷ cs) (suc i) f fs = offending-on n at h cs i f fs
 
-module _ (n : ℕ) (positive : 0 < n) {s : List ℕ} {cs : List Class} {at next i : ℕ} (h : at ≤ length s) (p : Passed s at next) where
-  pub held-on : {before after wrong : ℕ} → wrong ≡ firstFault (getElem? cs i) (from s at)
+module _ (n : ℕ) (positive : 0 < n) (s : List ℕ) (cs : List Class) (at i : ℕ) {next : ℕ} (h : at ≤ length s) (p : Passed s at next) where
+  held-on : (before : ℕ) {after wrong : ℕ} → wrong ≡ firstFault (getElem? cs i) (from s at)
       → after ≡ pick (leb before (length s)) before (pick (eqb wrong n) at before)
       → earlier s after (offending n next (drop (i + 1) cs) (from s next)) ≡ earlier s before (offending n at (drop i cs) (from s at))
-  held-on {before} {after} {wrong} w q =
+  held-on before {after} {wrong} w q =
       let e : offending n at (drop i cs) (from s at) ≡ pick (eqb wrong n) (some at) (offending n next (drop (i + 1) cs) (from s next)) =
-          rw (w, p .there, add-one i, p .place) (offending-on n at positive cs i (p .bytes) (from s next)) in
+          rw (w, p .there, add-one i)
+          (offending-on n at positive cs i (p .bytes) (from s next)
+          ∙ ap (λ (k : ℕ). pick (eqb (firstFault (getElem? cs i) (p .bytes ∷ from s next)) n) (some at) (offending n k (drop (suc i) cs) (from s next))) (sym (p .place))) in
       rw (e, q) (go (leb before (length s)) refl (eqb wrong n))
     where
       rest : Option ℕ
@@ -151,19 +170,19 @@ pub record Looking (s : List ℕ) (cs : List Class) (letter id plain count at : 
   pub inside : at ≤ length s + 1
   pub few : count ≤ at
 
-pub looking : (s : List ℕ) (cs : List Class) (none : ℕ) → length s < none → Looking s cs none none none 0 0
-looking s cs none h =
+pub looking : (s : List ℕ) (cs : List Class) (past : ℕ) → length s < past → Looking s cs past past past 0 0
+looking s cs past h =
     record {
-      letter-at = start;
-      id-at = start;
-      plain-at = start;
+      letter-at = start refusal.letter;
+      id-at = start refusal.id;
+      plain-at = start refusal.plain;
       counted = omega (arith, ap length (W.from-start s));
       inside = omega arith;
       few = omega arith;
     }
   where
-    start : {n : ℕ} → earlier s none (offending n 0 cs (from s 0)) ≡ offending n 0 cs (fields s)
-    start = rw (lt-leb none (length s) h, W.from-start s)
+    start : (n : ℕ) → earlier s past (offending n 0 cs (from s 0)) ≡ offending n 0 cs (fields s)
+    start n = rw (lt-leb past (length s) h, W.from-start s)
 
 pub looking-on : {s : List ℕ} {cs : List Class} {letter id plain count at letter′ id′ plain′ next wrong : ℕ} → Looking s cs letter id plain count at
     → at ≤ length s → Passed s at next → wrong ≡ firstFault (getElem? cs count) (from s at)
@@ -171,30 +190,30 @@ pub looking-on : {s : List ℕ} {cs : List Class} {letter id plain count at lett
     → id′ ≡ pick (leb id (length s)) id (pick (eqb wrong refusal.id) at id)
     → plain′ ≡ pick (leb plain (length s)) plain (pick (eqb wrong refusal.plain) at plain)
     → Looking s cs letter′ id′ plain′ (count + 1) next
-looking-on k h p w l i n =
+looking-on {s} {cs} {letter} {id} {plain} {count} {at} k h p w l i n =
     record {
-      letter-at = held-on refusal.letter (omega arith) h p w l ∙ k .letter-at;
-      id-at = held-on refusal.id (omega arith) h p w i ∙ k .id-at;
-      plain-at = held-on refusal.plain (omega arith) h p w n ∙ k .plain-at;
+      letter-at = held-on refusal.letter (omega arith) s cs at count h p letter w l ∙ k .letter-at;
+      id-at = held-on refusal.id (omega arith) s cs at count h p id w i ∙ k .id-at;
+      plain-at = held-on refusal.plain (omega arith) s cs at count h p plain w n ∙ k .plain-at;
       counted = omega (arith, k .counted, ap length (p .there));
       inside = p .inside;
       few = omega (arith, k .few, p .place);
     }
 
 pub looked : {s : List ℕ} {cs : List Class} {letter id plain count at : ℕ} → Looking s cs letter id plain count at → length s < at → Looked s cs letter id plain count
-looked {s} {cs} {count = count} {at} k h =
+looked {s} {cs} {letter} {id} {plain} {count} {at} k h =
     record {
-      letter-at = closed (k .letter-at);
-      id-at = closed (k .id-at);
-      plain-at = closed (k .plain-at);
+      letter-at = closed refusal.letter letter (k .letter-at);
+      id-at = closed refusal.id id (k .id-at);
+      plain-at = closed refusal.plain plain (k .plain-at);
       counted = omega (arith, k .counted, ap length (W.from-past s at h));
     }
   where
-    closed : {n p : ℕ} {o : Option ℕ} → earlier s p (offending n at (drop count cs) (from s at)) ≡ o → earlier s p none ≡ o
-    closed {n} e = rw (W.from-past s at h, offending-none n at (drop count cs)) at e
+    closed : (n p : ℕ) {o : Option ℕ} → earlier s p (offending n at (drop count cs) (from s at)) ≡ o → earlier s p none ≡ o
+    closed n p e = rw (W.from-past s at h, offending-none n at (drop count cs)) at e
 
 -- what was found, and that nothing was
-module _ {s : List ℕ} {p : ℕ} {o : Option ℕ} (e : earlier s p none ≡ o) where
+module _ (s : List ℕ) (p : ℕ) {o : Option ℕ} (e : earlier s p none ≡ o) where
   pub seen : p ≤ length s → o ≡ some p
   seen h = sym e ∙ rw (le-leb p (length s) h)
 

@@ -1,6 +1,7 @@
 // What each field of a line is to be, by the line's first letter and, of a step, by its kind.
 ghost use mathlib.Core.Path.{_≡_};
-ghost use mathlib.Core.List.{_∷_, _++_};
+ghost use mathlib.Core.List.{_∷_};
+ghost use Prim.Native.Nat.{_+_};
 ghost use lib.ListN.{length, getElem?};
 ghost use Rattle.line.specs.Malformed.{identifier, numbers, kindShape};
 ghost use Rattle.line.specs.SecondLook.{classOf, stepRest, classesOf};
@@ -92,16 +93,17 @@ pub fn class_at(first: u8, kind: u8, index: usize) -> Awaited
     Awaited::Nothing
 }
 
+// How many fields a step line is to have, by its kind.
 fn step_count(kind: u8) -> usize
-    ensures { λ r. ⌜ r ≡ length (stepRest kind) ⌝ }
+    ensures { λ r. ⌜ r ≡ length (stepRest kind) + 1 ⌝ }
 {
     if kind == b'T' {
-        return 8;
+        return 9;
     }
     if kind == b'V' {
-        return 8;
+        return 9;
     }
-    if kind == b'B' { 13 } else { 5 }
+    if kind == b'B' { 14 } else { 6 }
 }
 
 // How many fields a line is to have.
@@ -112,7 +114,7 @@ pub fn count_of(first: u8, kind: u8) -> usize
         return 8;
     }
     if first == b'S' {
-        return 1 + step_count(kind);
+        return step_count(kind);
     }
     if first == b'O' {
         return 6;

@@ -7,12 +7,12 @@ mod compare;
 mod ends;
 mod field;
 mod geodetic_line;
-mod malformed;
 mod name;
 mod number;
 mod origin_line;
 mod other_line;
 mod point_line;
+mod second_look;
 mod step_line;
 mod write;
 

@@ -2,8 +2,8 @@
 use crate::OriginLine;
 use crate::field::body_end;
 use crate::field::letter;
-use crate::malformed::fault_of;
 use crate::number::number;
+use crate::second_look::fault_of;
 ghost use mathlib.Core.Path.{_≡_};
 ghost use Rattle.line.specs.Forms.{originForm};
 ghost use Rattle.line.specs.Readers.{readOrigin, judged};

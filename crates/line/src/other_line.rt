@@ -1,8 +1,8 @@
 // A line whose first letter its program does not know.
 use crate::Fault;
 use crate::field::body_end;
-use crate::malformed::end_of;
-use crate::malformed::found;
+use crate::second_look::end_of;
+use crate::second_look::found;
 ghost use mathlib.Core.Path.{_≡_};
 ghost use Rattle.line.specs.Readers.{strangeFault};
 

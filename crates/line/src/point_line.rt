@@ -2,9 +2,9 @@
 use crate::PointLine;
 use crate::field::body_end;
 use crate::field::letter;
-use crate::malformed::fault_of;
 use crate::name::name;
 use crate::number::number;
+use crate::second_look::fault_of;
 ghost use mathlib.Core.Path.{_≡_};
 ghost use Rattle.line.specs.Forms.{pointForm};
 ghost use Rattle.line.specs.Readers.{readPoint, judged};

@@ -15,7 +15,7 @@ use Rattle.line.specs.Bytes.{lineFeed, letterT, letterV, letterB, letter
 use Rattle.line.specs.Fields.{longestLine, body, fields, front, taken, head, single, oneOf}
 use Rattle.line.specs.Malformed.{Class, letters, number, numbers, byteOf, kindOf, kindShape, unread, fieldFault, offending, endOf, fault, fieldsFault}
 use Rattle.line.specs.Reading.{from, fronts, Tells, Got, Framed, itself}
-use Rattle.line.specs.SecondLook.{stepRest, firstFault, Passed, earlier, Looked}
+use Rattle.line.specs.SecondLook.{stepRest, classesOf, shapeOf, firstFault, Passed, earlier, Looked}
 use Rattle.line.proofs.Walk as W
 use Rattle.line.proofs.Names.{fronts-snoc}
 use Rattle.line.proofs.Malformed.{nothing}
@@ -219,6 +219,38 @@ module _ (s : List ℕ) (p : ℕ) {o : Option ℕ} (e : earlier s p none ≡ o) 
 
   pub unseen : length s < p → o ≡ none
   unseen h = sym e ∙ rw (lt-leb p (length s) h)
+
+-- ---- what was found decides
+module _ {s : List ℕ} {cs : List Class} {letter id plain count : ℕ} (k : Looked s cs letter id plain count) (end : ℕ) where
+  pub is-letter : letter ≤ length s → fault refusal.letter letter ≡ fieldsFault cs end (fields s)
+  unfolding fieldsFault
+  is-letter l = rw (seen s letter (k .letter-at) l)
+
+  module _ (l : length s < letter) where
+    pub is-count : (count ≡ length cs → ⊥) → fault refusal.count end ≡ fieldsFault cs end (fields s)
+    unfolding fieldsFault
+    is-count n = rw (unseen s letter (k .letter-at) l, ne-eqb (length (fields s)) (length cs) (λ e. n (k .counted ∙ e)))
+
+    module _ (n : count ≡ length cs) where
+      as-many : eqb (length (fields s)) (length cs) ≡ true
+      as-many = eq-eqb (length (fields s)) (length cs) (sym (k .counted) ∙ n)
+
+      pub is-id : id ≤ length s → fault refusal.id id ≡ fieldsFault cs end (fields s)
+      unfolding fieldsFault
+      is-id i = rw (unseen s letter (k .letter-at) l, as-many, seen s id (k .id-at) i)
+
+      module _ (i : length s < id) where
+        pub is-plain : plain ≤ length s → fault refusal.plain plain ≡ fieldsFault cs end (fields s)
+        unfolding fieldsFault
+        is-plain p = rw (unseen s letter (k .letter-at) l, as-many, unseen s id (k .id-at) i, seen s plain (k .plain-at) p)
+
+        pub is-none : length s < plain → fault 0 0 ≡ fieldsFault cs end (fields s)
+        unfolding fieldsFault
+        is-none p = rw (unseen s letter (k .letter-at) l, as-many, unseen s id (k .id-at) i, unseen s plain (k .plain-at) p)
+
+-- the shape, by the kind that was read
+pub by-kind : (first end : ℕ) {kind : ℕ} (fs : List (List ℕ)) → kind ≡ kindOf fs → fieldsFault (classesOf first kind) end fs ≡ fieldsFault (shapeOf first fs) end fs
+by-kind first end fs e = ap (λ (k : ℕ). fieldsFault (classesOf first k) end fs) e
 
 -- ---- the line's frame
 module _ (line : List ℕ) where

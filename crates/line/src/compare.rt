@@ -122,7 +122,7 @@ fn no_fault() -> LaterFault
 }
 
 // Why neither of two point lines is the later one; all 0 where one is.
-pub fn later_fault<'a>(first: &'a [u8], second: &'a [u8]) -> LaterFault
+pub fn later_fault(first: &[u8], second: &[u8]) -> LaterFault
     ensures { λ r. ⌜ r ≡ laterFaultOf (laterOf (now (first .entry)) (now (second .entry))) ⌝ }
 {
     match later_verdict(first, second) {
@@ -132,12 +132,18 @@ pub fn later_fault<'a>(first: &'a [u8], second: &'a [u8]) -> LaterFault
     }
 }
 
+fn fault_of<'a>(first: &'a [u8], second: &'a [u8]) -> LaterFault
+    ensures { λ r. ⌜ r ≡ laterFaultOf (laterOf (now (first .entry)) (now (second .entry))) ⌝ }
+{
+    later_fault(first, second)
+}
+
 // The later of two lent point lines, each with its line feed: that part of the caller's bytes. Refused: the first line's form, RANGE or
 // EPOCH, then the second's, then IDS, then SAME, with an empty part of the first.
 pub fn later_of_two<'a>(first: &'a [u8], second: &'a [u8]) -> Later<'a>
     ensures { λ r. ⌜ (Handed (laterOf (now (first .entry)) (now (second .entry))) (first .entry) (second .entry) (r .part)) × (r .fault ≡ laterFaultOf (laterOf (now (first .entry)) (now (second .entry)))) ⌝ }
 {
     let part = part_of(first, second);
-    let fault = later_fault(first, second);
+    let fault = fault_of(first, second);
     Later { part, fault }
 }

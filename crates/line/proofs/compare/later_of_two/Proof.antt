@@ -49,10 +49,10 @@ use Rattle.line.proofs.compare.part_of as part
 use Rattle.line.proofs.compare.part_of.Symbol as part-def
 use Rattle.line.proofs.compare.part_of.Symbol.{name as #part-of}
 use Rattle.line.proofs.compare.part_of.Met as part-thm
-use Rattle.line.proofs.compare.later_fault as why
-use Rattle.line.proofs.compare.later_fault.Symbol as fault-def
-use Rattle.line.proofs.compare.later_fault.Symbol.{name as #later-fault}
-use Rattle.line.proofs.compare.later_fault.Met as fault-thm
+use Rattle.line.proofs.compare.fault_of as why
+use Rattle.line.proofs.compare.fault_of.Symbol as fault-def
+use Rattle.line.proofs.compare.fault_of.Symbol.{name as #fault-of}
+use Rattle.line.proofs.compare.fault_of.Met as fault-thm
 use Rattle.line.proofs.compare.later_of_two.Key.{name as #later-of-two}
 use Rattle.line.proofs.compare.later_of_two as both
 use Rattle.line.proofs.compare.later_of_two.Statement as stated
@@ -146,7 +146,7 @@ module _ {M : Type 1} (𝓤 : URA M) (H : Heap 𝓤) (A : Atoms 𝓤) (W : Given
       nothing ! $ move ! (3 ∷ 0 ∷ []) $ fjoin ! $ move ! (2 ∷ 0 ∷ []) $ fjoin ! $ frame ! $
       nothing ! $ owned ! F.the-row (Is F.the-row) (makes F.the-type F′.the-plain 𝓤 H A) f _ is $ fjoin ! $ move ! (1 ∷ 0 ∷ []) $ fjoin ! $ by ! (own-shut 𝓤 H A W (T.the-type α) (T′.the-laws α) (r, (f, tt)))
 
-  module _ (C : Calls 𝓤 H) (Λ : Loops 𝓤 H) (fm : FmC 𝓤 H (W .laws) C) (known-part : Triple 𝓤 (C #part-of) (Part 𝓤 H A mem run)) (known-fault : Triple 𝓤 (C #later-fault) (Why 𝓤 H A mem run)) where
+  module _ (C : Calls 𝓤 H) (Λ : Loops 𝓤 H) (fm : FmC 𝓤 H (W .laws) C) (known-part : Triple 𝓤 (C #part-of) (Part 𝓤 H A mem run)) (known-fault : Triple 𝓤 (C #fault-of) (Why 𝓤 H A mem run)) where
     walk : Is (ShrSlice (named 0) κ u8) s (vs ∷ []) → Is (ShrSlice (named 0) κ u8) t (vt ∷ []) → ent 𝓤 (onEntry 𝓤 H A both.signature (κ, tt) (q, tt) a at) (WpFn 𝓤 H C Λ code.function (vs ∷ vt ∷ []) Post)
     walk ps pt =
         qed W ((‵ (flft κ q) ⊛ ‵ ftrue) ∷ ‵ (owns (ShrSlice (named 0) κ u8 ∷ ShrSlice (named 0) κ u8 ∷ []) a at) ∷ []) ∵
@@ -178,13 +178,13 @@ module _ {M : Type 1} (𝓤 : URA M) (H : Heap 𝓤) (A : Atoms 𝓤) (W : Given
         move ! (1 ∷ []) $ split ! $ move ! (3 ∷ 2 ∷ 0 ∷ 1 ∷ []) $ by ! (exits r f (as-spelled f u′ is′) h e))))))))))))))
 
 module _ {M : Type 1} (𝓤 : URA M) (H : Heap 𝓤) (A : Atoms 𝓤) (W : Given 𝓤 H A) (mem : Memory → SProp 𝓤) (run : Routine → Fun 𝓤) where
-  both-walks : (C : Calls 𝓤 H) (Λ : Loops 𝓤 H) → FmC 𝓤 H (W .laws) C → Triple 𝓤 (C #part-of) (Part 𝓤 H A mem run) → Triple 𝓤 (C #later-fault) (Why 𝓤 H A mem run)
+  both-walks : (C : Calls 𝓤 H) (Λ : Loops 𝓤 H) → FmC 𝓤 H (W .laws) C → Triple 𝓤 (C #part-of) (Part 𝓤 H A mem run) → Triple 𝓤 (C #fault-of) (Why 𝓤 H A mem run)
       → Walks 𝓤 H A both.ended stayed (WpFn 𝓤 H C Λ code.function) (both.clauses 𝓤 H A mem run)
   both-walks C Λ fm known-part known-fault = walked 𝓤 H A both.ended stayed (both.clauses 𝓤 H A mem run) (WpFn 𝓤 H C Λ code.function) (λ κs. (slice-vals, (slice-vals, tt))) (λ κs. (shr-slice-tells (named 0) (κs .0) u8, (shr-slice-tells (named 0) (κs .0) u8, tt)))
       (λ κs qs bounds a g are. via 𝓤 _ (fst∗ 𝓤 _ (emp 𝓤)) (walk 𝓤 H A W mem run (κs .0) (qs .0) (a .0) (a .1 .0) C Λ fm known-part known-fault (are .0) (are .1 .0)))
 
 both-meets : {M : Type 1} (𝓤 : URA M) (H : Heap 𝓤) (A : Atoms 𝓤) (W : Given 𝓤 H A) (mem : Memory → SProp 𝓤) (run : Routine → Fun 𝓤) (𝓣 : Tables 𝓤 H)
-    → Triple 𝓤 (𝓣 .C #part-of) (Part 𝓤 H A mem run) → Triple 𝓤 (𝓣 .C #later-fault) (Why 𝓤 H A mem run)
+    → Triple 𝓤 (𝓣 .C #part-of) (Part 𝓤 H A mem run) → Triple 𝓤 (𝓣 .C #fault-of) (Why 𝓤 H A mem run)
     → Meets 𝓤 H A both.signature (WpFn 𝓤 H (𝓣 .C) (𝓣 .Λ) code.function) (both.spec 𝓤 H A mem run)
 both-meets 𝓤 H A W mem run 𝓣 known-part known-fault = walk-meets 𝓤 H A both.ended stayed W (goes-none-slice 𝓤 H A W 1 (0 ∷ []) tt (plain (λ _. u8)) yes, (goes-none-slice 𝓤 H A W 1 (0 ∷ []) tt (plain (λ _. u8)) yes, tt)) (both.clauses 𝓤 H A mem run) (WpFn 𝓤 H (𝓣 .C) (𝓣 .Λ) code.function) (WpFn-mono 𝓤 H (W .laws) 𝓣 code.function)
     (both-walks 𝓤 H A W mem run (𝓣 .C) (𝓣 .Λ) (fmOf 𝓤 H (W .laws) 𝓣) known-part known-fault)
@@ -196,4 +196,4 @@ later-of-two-spec 𝓤 H 𝓜 𝓖 𝓡 =
     (tables 𝓤 H 𝓜 𝓡 code.env .C) (tables 𝓤 H 𝓜 𝓡 code.env .Λ) #later-of-two code.function (code.unfolded 𝓤 H 𝓜 𝓡)
     (both-meets 𝓤 H (𝓖 .A) (givenOf 𝓤 H 𝓜 𝓖) (𝓜 .mem) (𝓡 .run) (tablesOf 𝓤 H 𝓜 (tables 𝓤 H 𝓜 𝓡 code.env))
     (cited 𝓤 H (Part 𝓤 H (𝓖 .A) (𝓜 .mem) (𝓡 .run)) 𝓜 𝓡 code.env #part-of part-def.routine code.calls-line·compare·part-of (part-thm.met 𝓤 H 𝓜 𝓖 𝓡))
-    (cited 𝓤 H (Why 𝓤 H (𝓖 .A) (𝓜 .mem) (𝓡 .run)) 𝓜 𝓡 code.env #later-fault fault-def.routine code.calls-line·compare·later-fault (fault-thm.met 𝓤 H 𝓜 𝓖 𝓡)))
+    (cited 𝓤 H (Why 𝓤 H (𝓖 .A) (𝓜 .mem) (𝓡 .run)) 𝓜 𝓡 code.env #fault-of fault-def.routine code.calls-line·compare·fault-of (fault-thm.met 𝓤 H 𝓜 𝓖 𝓡)))

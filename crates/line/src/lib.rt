@@ -2,6 +2,7 @@
 //
 // A line is at most 200 bytes with the line feed at its end; its fields are parted by one tab. Every function here takes any bytes
 // of any length. What is refused is refused for its form first, whatever its numbers are.
+mod awaited;
 mod compare;
 mod ends;
 mod field;
@@ -11,6 +12,7 @@ mod number;
 mod origin_line;
 mod other_line;
 mod point_line;
+mod second_look;
 mod step_line;
 mod write;
 

@@ -1,10 +1,10 @@
 // P, id, issue, datum, epoch, X, Y, Z.
-use crate::Fault;
 use crate::PointLine;
 use crate::field::body_end;
 use crate::field::letter;
 use crate::name::name;
 use crate::number::number;
+use crate::second_look::fault_of;
 ghost use mathlib.Core.Path.{_≡_};
 ghost use Rattle.line.specs.Forms.{pointForm};
 ghost use Rattle.line.specs.Readers.{readPoint, judged};
@@ -74,8 +74,6 @@ pub fn read_point(line: &[u8]) -> PointLine
             return judge_point(p);
         }
     }
-    PointLine::Malformed(Fault {
-        number: refusal::FORM,
-        place: 0,
-    })
+    let fault = fault_of(line, b'P');
+    PointLine::Malformed(fault)
 }

@@ -148,9 +148,9 @@ module _ (n : ℕ) (positive : 0 < n) (s : List ℕ) (cs : List Class) (at i : �
       → earlier s after (offending n next (drop (i + 1) cs) (from s next)) ≡ earlier s before (offending n at (drop i cs) (from s at))
   held-on before {after} {wrong} w q =
       let e : offending n at (drop i cs) (from s at) ≡ pick (eqb wrong n) (some at) (offending n next (drop (i + 1) cs) (from s next)) =
-          rw (w, p .there, add-one i)
-          (offending-on n at positive cs i (p .bytes) (from s next)
-          ∙ ap (λ (k : ℕ). pick (eqb (firstFault (getElem? cs i) (p .bytes ∷ from s next)) n) (some at) (offending n k (drop (suc i) cs) (from s next))) (sym (p .place))) in
+      rw (w, p .there, add-one i)
+      (offending-on n at positive cs i (p .bytes) (from s next)
+      ∙ ap (λ (k : ℕ). pick (eqb (firstFault (getElem? cs i) (p .bytes ∷ from s next)) n) (some at) (offending n k (drop (suc i) cs) (from s next))) (sym (p .place))) in
       rw (e, q) (go (leb before (length s)) refl (eqb wrong n))
     where
       rest : Option ℕ

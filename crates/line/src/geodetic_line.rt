@@ -46,7 +46,7 @@ fn judge_geodetic(g: Geodetic) -> GeodeticLine
     }
 }
 
-// A position line: its position, or FORM, GEODETIC.
+// A position line: its position; malformed (LENGTH, LETTER, COUNT, ID, PLAIN); or GEODETIC.
 pub fn read_geodetic(line: &[u8]) -> GeodeticLine
     ensures { λ r. ⌜ r ≡ readGeodetic (now (line .entry)) ⌝ }
 {

@@ -48,7 +48,7 @@ fn judge_origin(o: angle::OriginNumbers) -> OriginLine
     }
 }
 
-// An origin line: its numbers, or FORM, RANGE, GEODETIC.
+// An origin line: its numbers; malformed (LENGTH, LETTER, COUNT, PLAIN); or RANGE, GEODETIC.
 pub fn read_origin(line: &[u8]) -> OriginLine
     ensures { λ r. ⌜ r ≡ readOrigin (now (line .entry)) ⌝ }
 {

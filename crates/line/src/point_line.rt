@@ -61,7 +61,7 @@ fn judge_point(p: chain::Point) -> PointLine
     }
 }
 
-// A point line: its point, or FORM, RANGE, EPOCH.
+// A point line: its point; malformed (LENGTH, LETTER, COUNT, ID, PLAIN); or RANGE, EPOCH.
 pub fn read_point(line: &[u8]) -> PointLine
     ensures { λ r. ⌜ r ≡ readPoint (now (line .entry)) ⌝ }
 {

@@ -186,7 +186,7 @@ fn judge_step(step: chain::Step) -> StepLine
     }
 }
 
-// A step line: its step, or FORM, RANGE, EPOCH, KIND.
+// A step line: its step; malformed (LENGTH, LETTER, COUNT, PLAIN); or RANGE, EPOCH, KIND.
 pub fn read_step(line: &[u8]) -> StepLine
     ensures { λ r. ⌜ r ≡ readStep (now (line .entry)) ⌝ }
 {

@@ -9,6 +9,7 @@ pub mod Texts
 pub mod Compared
 pub mod Lengths
 pub mod Malformed
+pub mod MalformedCases
 pub mod GoodForm
 pub mod SecondLook
 pub mod Readers

@@ -97,6 +97,7 @@ fn sheets(report: &mut Report, rng: &mut Rng, chains: &Chains) {
     sheet("F and B in turn", full::sheet(rng, chains, "FBFBFBFB", FULL));
     sheet("one B step", full::sheet(rng, chains, "B", FULL));
     sheet("refusals", full::refusals(rng, chains, FULL));
+    sheet("bad forms", full::malformed(rng, chains, FULL));
     sheet("bare line feeds", vec![b'\n'; FULL]);
     sheet("no line feed", vec![b'S'; FULL]);
 }
@@ -116,7 +117,7 @@ fn linear(rng: &mut Rng, chains: &Chains) {
         (0..count).map(|_| full::sheet(rng, chains, "BBBBBBBB", FULL / count)).collect()
     };
     let inputs = [sheets(1), sheets(2), sheets(4)];
-    let mut out = vec![0; 11 * FULL + 7];
+    let mut out = vec![0; product::room(&inputs[0][0])];
     let mut other = Vec::with_capacity(out.len());
     let mut ours = |inputs: &[Vec<u8>]| {
         for input in inputs {

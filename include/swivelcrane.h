@@ -58,8 +58,8 @@ enum swivelcrane_refusal {
  * Another kind or convention counts as a number out of range, refusal 2, of that step. */
 #define SWIVELCRANE_STEP_NUMBERS 13
 
-/* Numbers to a point: issue, datum, epoch, X, Y, Z. The point's id stays with the caller. */
-#define SWIVELCRANE_POINT_NUMBERS 6
+/* Numbers to a point: issue, order of control (1 to 4), datum, epoch, X, Y, Z. The point's id stays with the caller. */
+#define SWIVELCRANE_POINT_NUMBERS 7
 
 /* Converts a point along a chain (forward) or back (inverse). The chain has 13 numbers a step; no step at all is a chain
  * too, and more than eight are refused with 6. Refusals: chain 6, then each step 2, 3, 4, 5; point 2, 3, 9, 10; then 11. */

@@ -93,10 +93,10 @@ said-long n form h line a e = go (body line) refl e
     go none q e = absurd (nothing e)
     go (some s) q e = omega (arith, filled-long n form h (fields s) a e, fields-spread s, body-length line s q)
 
--- a point line has eight fields, a position line four
-point-long : (line : List ℕ) (p : Point) → said pointForm line ≡ some p → 16 ≤ length line
+-- a point line has nine fields, a position line four
+point-long : (line : List ℕ) (p : Point) → said pointForm line ≡ some p → 18 ≤ length line
 unfolding Asks pointForm nameOf numberOf
-point-long line p e = said-long 8 pointForm (refl, λ _. (refl, λ _. (refl, λ _. (refl, λ _. (refl, λ _. (refl, λ _. (refl, λ _. (refl, λ _. tt)))))))) line p e
+point-long line p e = said-long 9 pointForm (refl, λ _. (refl, λ _. (refl, λ _. (refl, λ _. (refl, λ _. (refl, λ _. (refl, λ _. (refl, λ _. (refl, λ _. tt))))))))) line p e
 
 geodetic-long : (line : List ℕ) (g : Geodetic) → said geodeticForm line ≡ some g → 8 ≤ length line
 unfolding Asks geodeticForm nameOf numberOf
@@ -134,7 +134,7 @@ module _ {A R : Type 0} (faultOf : A → ℕ) (small : (a : A) → faultOf a < 1
 abbrev Small : Fault → Type 0
 Small f = f .number < 100
 
-pub point-outcome : (P : PointLine → Type 0) (line : List ℕ) → ((p : Point) → pointFault p ≡ 0 → 16 ≤ length line → P (point-line.Point p)) → ((f : Fault) → Small f → P (point-line.Malformed f)) → ((n : ℕ) → n < 100 → P (point-line.Refused n)) → P (readPoint line)
+pub point-outcome : (P : PointLine → Type 0) (line : List ℕ) → ((p : Point) → pointFault p ≡ 0 → 18 ≤ length line → P (point-line.Point p)) → ((f : Fault) → Small f → P (point-line.Malformed f)) → ((n : ℕ) → n < 100 → P (point-line.Refused n)) → P (readPoint line)
 unfolding readPoint
 point-outcome P line G M B = outcome pointFault point-fault-short point-line.Point point-line.Refused _ P (said pointForm line) (λ p e f. G p f (point-long line p e)) (M _ (omega arith)) B
 

@@ -9,7 +9,7 @@
 #define STEP SWIVELCRANE_STEP_NUMBERS
 #define POINT SWIVELCRANE_POINT_NUMBERS
 #define CANARY INT64_C(-7777777777777)
-#define PLACES 8
+#define PLACES 16
 
 static int faults;
 
@@ -123,8 +123,8 @@ static void refused_conversions(void) {
 /* The shift to the north leaves the area: Z is 0 to 90,000,000,000. */
 static void leaves_the_area(void) {
     static const int64_t shift[STEP] = {'T', 0, 5, 2000000, 6, 2006586, 0, 0, 100000000, 0, 0, 0, 0};
-    static const int64_t south[POINT] = {1, 2, 5, 2000000, -122145678901, 622012345678, 89900000001};
-    static const int64_t north[POINT] = {1, 2, 6, 2006586, -122145678901, 622012345678, 99999999};
+    static const int64_t south[POINT] = {1, 1, 5, 2000000, -122145678901, 622012345678, 89900000001};
+    static const int64_t north[POINT] = {1, 1, 6, 2006586, -122145678901, 622012345678, 99999999};
     refused(swivelcrane_forward(shift, STEP, south, POINT, out, POINT), SWIVELCRANE_REFUSAL_LEFT, "left the area: 11");
     refused(swivelcrane_inverse(shift, STEP, north, POINT, out, POINT), SWIVELCRANE_REFUSAL_LEFT, "left the area on the way back: 11");
 }
@@ -206,6 +206,7 @@ static void rounding(void) {
 
 #define TEXT(s) (const uint8_t *)(s), sizeof(s) - 1
 #define FIRST "P\tARAU\t10\t2\t6\t2000000\t-113105165410\t623631179950\t71174811140\n"
+#define ORDER_3 "P\tARAU\t10\t3\t6\t2000000\t-113105165410\t623631179950\t71174811140\n"
 #define BAD "P\tARAU\t9\t1\t6\t2000000\t-113105165411\t+623631179950\t71174811140\n"
 #define OTHER "P\tARAV\t9\t1\t6\t2000000\t-113105165411\t623631179950\t71174811140\n"
 #define SECOND "P\tARAU\t9\t1\t6\t2000000\t-113105165411\t623631179950\t71174811140\n"
@@ -221,7 +222,10 @@ static void later(void) {
     refused(swivelcrane_later(TEXT("P\tA\t0\t1\t6\t2000000\t1\t2\t3\n"), TEXT("P\n"), out, 1), SWIVELCRANE_REFUSAL_RANGE, "later: 2, the first before the second");
     refused(swivelcrane_later(TEXT("P\tA\t1\t1\t6\t0\t1\t2\t3\n"), TEXT(SECOND), out, 1), SWIVELCRANE_REFUSAL_EPOCH, "later: 3");
     refused(swivelcrane_later(TEXT(FIRST), TEXT("P\tA\t1\t1\t6\t2000000\t1\t2\t3\n"), out, 1), SWIVELCRANE_REFUSAL_IDS, "later: 16");
-    refused(swivelcrane_later(TEXT(FIRST), TEXT("P\tARAU\t10\t1\t6\t2000000\t1\t2\t3\n"), out, 1), SWIVELCRANE_REFUSAL_SAME, "later: 17");
+    refused(swivelcrane_later(TEXT(FIRST), TEXT("P\tARAU\t10\t2\t6\t2000000\t1\t2\t3\n"), out, 1), SWIVELCRANE_REFUSAL_SAME, "later: 17");
+    refused(swivelcrane_later(TEXT(FIRST), TEXT(ORDER_3), out, 1), SWIVELCRANE_REFUSAL_SAME, "later, another order: 17");
+    refused(swivelcrane_later(TEXT("P\tA\t1\t5\t6\t2000000\t1\t2\t3\n"), TEXT(SECOND), out, 1), SWIVELCRANE_REFUSAL_RANGE, "later, order 5: 2");
+    refused(swivelcrane_later(TEXT("P\tA\t1\t6\t2000000\t1\t2\t3\n"), TEXT(SECOND), out, 1), SWIVELCRANE_REFUSAL_COUNT, "later, eight fields: 20");
     refused(swivelcrane_later(TEXT(FIRST), TEXT(SECOND), out, 2), SWIVELCRANE_WRONG_LENGTH, "later, room for two");
 }
 
@@ -247,13 +251,13 @@ static void prints(printer *program, const uint8_t *input, size_t length, const 
 }
 
 #define SHIFT "S\tT\t6\t2000000\t6\t2006586\t-15832\t-4363\t-9706\n"
-#define A1 "P\tA1\t1\t1\t6\t2000000\t-113105165410\t623631179950\t71174811140\n"
+#define A1 "P\tA1\t1\t2\t6\t2000000\t-113105165410\t623631179950\t71174811140\n"
 #define ORIGIN "O\t1\t1440000000\t36720000000\t50000\t-25000\n"
 
 static void programs(void) {
     static uint8_t longest[65537];
     memset(longest, '\n', sizeof longest);
-    prints(swivelcrane_sheet, TEXT(SHIFT A1 SHIFT A1), "P\tA1\t1\t1\t6\t2006586\t-113105181242\t623631175587\t71174801434\nR\t3\t7\t0\nR\t4\t8\t0\n", "sheet");
+    prints(swivelcrane_sheet, TEXT(SHIFT A1 SHIFT A1), "P\tA1\t1\t2\t6\t2006586\t-113105181242\t623631175587\t71174801434\nR\t3\t7\t0\nR\t4\t8\t0\n", "sheet");
     prints(swivelcrane_plan, TEXT(ORIGIN "G\tB1\t1440000000\t36720000000\n" ORIGIN), "C\tB1\t50000\t-25000\nR\t3\t7\t0\n", "plan");
     prints(swivelcrane_sheet, TEXT("G\tB1\t1440000000\t36720000000\n"), "R\t1\t19\t0\n", "a position in a sheet");
     prints(swivelcrane_plan, TEXT(A1), "R\t1\t19\t0\n", "a point in a plan");

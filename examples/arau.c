@@ -25,7 +25,7 @@ int main(void) {
         'F', 0, 6,  2010000, 10, 2010000, 0,      0,     0,     0, 0, 0, 0,
         'V', 0, 10, 2010000, 10, 2020000, -1874,  -169,  -502,  0, 0, 0, 0,
     };
-    static const int64_t arau[SWIVELCRANE_POINT_NUMBERS] = {1, 6, 2000000, -113105165410, 623631179950, 71174811140};
+    static const int64_t arau[SWIVELCRANE_POINT_NUMBERS] = {1, 1, 6, 2000000, -113105165410, 623631179950, 71174811140};
     const size_t steps = 4 * SWIVELCRANE_STEP_NUMBERS, numbers = SWIVELCRANE_POINT_NUMBERS;
     int64_t there[SWIVELCRANE_POINT_NUMBERS], home[SWIVELCRANE_POINT_NUMBERS];
 

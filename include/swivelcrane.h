@@ -22,7 +22,7 @@ extern "C" {
 #endif
 
 /* The version of this interface: a function or a number that is added raises the minor, any other change the major. */
-#define SWIVELCRANE_VERSION_MAJOR 2
+#define SWIVELCRANE_VERSION_MAJOR 3
 #define SWIVELCRANE_VERSION_MINOR 0
 
 /* The refusal numbers by name; README.md says of each what to do. 1 is not given. */
@@ -62,8 +62,8 @@ enum swivelcrane_refusal {
  * Another kind or convention counts as a number out of range, refusal 2, of that step. */
 #define SWIVELCRANE_STEP_NUMBERS 13
 
-/* Numbers to a point: issue, datum, epoch, X, Y, Z. The point's id stays with the caller. */
-#define SWIVELCRANE_POINT_NUMBERS 6
+/* Numbers to a point: issue, order of control (1 to 4), datum, epoch, X, Y, Z. The point's id stays with the caller. */
+#define SWIVELCRANE_POINT_NUMBERS 7
 
 /* Converts a point along a chain (forward) or back (inverse). The chain has 13 numbers a step; no step at all is a chain
  * too, and more than eight are refused with 6. Refusals: chain 6, then each step 2, 3, 4, 5; point 2, 3, 9, 10; then 11. */

@@ -44,6 +44,7 @@ pub struct Place {
 #[derive(Clone, Copy, Debug)]
 pub struct Point {
     pub issue: i64,
+    pub order: i64,
     pub place: Place,
     pub xyz: [i64; 3],
 }
@@ -82,6 +83,7 @@ fn agrees(place: Place) -> bool {
 #[inline]
 pub fn point(point: &Point) -> u8 {
     if !(1..=65_535).contains(&point.issue)
+        || !(1..=4).contains(&point.order)
         || !place_in_range(point.place)
         || !within(&point.xyz, 640_000_000_000)
     {

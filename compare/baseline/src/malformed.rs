@@ -59,7 +59,7 @@ pub fn fault(line: &[u8], letters: &[u8]) -> Fault {
     let fields = Fields::new(&line[..length]);
     let Some(letter) = fields.letter(0, letters) else { return fields.fault(LETTER, 0) };
     let (count, id, convention) = match letter {
-        b'P' => (8, true, false),
+        b'P' => (9, true, false),
         b'G' => (4, true, false),
         b'O' => (6, false, false),
         _ if fields.count < 2 => (2, false, false),

@@ -133,8 +133,8 @@ impl<'a> Reader<'a> {
     pub fn point(&mut self) -> Option<(&'a [u8], Point)> {
         self.known(b'P')?;
         let id = self.id()?;
-        let [issue, datum, epoch, x, y, z] = self.numbers(FEED)?;
-        Some((id, Point { issue, place: Place { datum, epoch }, xyz: [x, y, z] }))
+        let [issue, order, datum, epoch, x, y, z] = self.numbers(FEED)?;
+        Some((id, Point { issue, order, place: Place { datum, epoch }, xyz: [x, y, z] }))
     }
 
     pub fn geodetic(&mut self) -> Option<(&'a [u8], [i64; 2])> {

@@ -1,6 +1,6 @@
 //! The sheet: steps, then points.
 
-use crate::check::{self, Fault, Step, EARLIER, JOIN, NINTH, ORDER};
+use crate::check::{self, Fault, Place, Step, EARLIER, JOIN, NINTH, ORDER};
 use crate::program;
 use crate::read::Reader;
 use crate::steps::Chain;
@@ -64,7 +64,8 @@ impl Sheet {
         }
         let moved = self.chain.forward(point)?;
         let [x, y, z] = moved.xyz;
-        write::line(out, b'P', id, &[moved.issue, moved.place.datum, moved.place.epoch, x, y, z]);
+        let Place { datum, epoch } = moved.place;
+        write::line(out, b'P', id, &[moved.issue, moved.order, datum, epoch, x, y, z]);
         Ok(())
     }
 }

@@ -2,6 +2,7 @@
 //! refusal nothing may be written, and never anything past the lent slice.
 
 use crate::subject::{Answer, Subject, STRANGE, WROTE};
+use paper::numbers::PointRow;
 #[cfg(feature = "standin")]
 use standin as _;
 
@@ -212,9 +213,9 @@ pub fn room(input: &[u8]) -> usize {
 pub const MARK: i64 = 0x5a5a_a5a5_1234_4321;
 pub const FLOAT_MARK: f64 = -1.25e300;
 
-/// Lends N places in the midst of eight marked ones.
+/// Lends N places in the midst of sixteen marked ones.
 fn lend<T: Copy + PartialEq, const N: usize>(mark: T, call: impl FnOnce(&mut [T]) -> i64) -> Answer<[T; N]> {
-    let mut places = [mark; 8];
+    let mut places = [mark; 16];
     let number = call(&mut places[1..=N]);
     let touched = |part: &[T]| part.iter().any(|place| *place != mark);
     if touched(&places[..1]) || touched(&places[N + 1..]) {
@@ -251,10 +252,10 @@ impl Subject for Product {
     fn name(&self) -> &'static str {
         "product"
     }
-    fn forward(&self, chain: &[i64], point: &[i64; 6]) -> Answer<[i64; 6]> {
+    fn forward(&self, chain: &[i64], point: &PointRow) -> Answer<PointRow> {
         lend(MARK, |out| forward(chain, point, out))
     }
-    fn inverse(&self, chain: &[i64], point: &[i64; 6]) -> Answer<[i64; 6]> {
+    fn inverse(&self, chain: &[i64], point: &PointRow) -> Answer<PointRow> {
         lend(MARK, |out| inverse(chain, point, out))
     }
     fn cartesian(&self, n: &[i64; 4]) -> Answer<[f64; 3]> {

@@ -2,6 +2,7 @@
 
 use paper::angle::Origin;
 use paper::later::Which;
+use paper::numbers::PointRow;
 use paper::rso::Parameters;
 
 /// The value or the refusal number; 255 is the wrong length. Floats are compared by their bits.
@@ -13,8 +14,8 @@ pub const STRANGE: u8 = 253;
 
 pub trait Subject {
     fn name(&self) -> &'static str;
-    fn forward(&self, chain: &[i64], point: &[i64; 6]) -> Answer<[i64; 6]>;
-    fn inverse(&self, chain: &[i64], point: &[i64; 6]) -> Answer<[i64; 6]>;
+    fn forward(&self, chain: &[i64], point: &PointRow) -> Answer<PointRow>;
+    fn inverse(&self, chain: &[i64], point: &PointRow) -> Answer<PointRow>;
     fn cartesian(&self, numbers: &[i64; 4]) -> Answer<[f64; 3]>;
     fn cartesian_units(&self, numbers: &[i64; 4]) -> Answer<[i64; 3]>;
     /// Code, X, Y, Z to latitude, longitude, height.
@@ -43,10 +44,10 @@ impl Subject for Paper {
     fn name(&self) -> &'static str {
         "independent"
     }
-    fn forward(&self, chain: &[i64], point: &[i64; 6]) -> Answer<[i64; 6]> {
+    fn forward(&self, chain: &[i64], point: &PointRow) -> Answer<PointRow> {
         paper::numbers::forward(chain, point)
     }
-    fn inverse(&self, chain: &[i64], point: &[i64; 6]) -> Answer<[i64; 6]> {
+    fn inverse(&self, chain: &[i64], point: &PointRow) -> Answer<PointRow> {
         paper::numbers::inverse(chain, point)
     }
     fn cartesian(&self, n: &[i64; 4]) -> Answer<[f64; 3]> {
@@ -100,10 +101,10 @@ impl Subject for Baseline {
     fn name(&self) -> &'static str {
         "baseline"
     }
-    fn forward(&self, chain: &[i64], point: &[i64; 6]) -> Answer<[i64; 6]> {
+    fn forward(&self, chain: &[i64], point: &PointRow) -> Answer<PointRow> {
         baseline::numbers::forward(chain, point)
     }
-    fn inverse(&self, chain: &[i64], point: &[i64; 6]) -> Answer<[i64; 6]> {
+    fn inverse(&self, chain: &[i64], point: &PointRow) -> Answer<PointRow> {
         baseline::numbers::inverse(chain, point)
     }
     fn cartesian(&self, n: &[i64; 4]) -> Answer<[f64; 3]> {

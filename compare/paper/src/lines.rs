@@ -108,14 +108,15 @@ pub struct Named<'a, T> {
     pub value: T,
 }
 
-/// P, id, issue, datum, epoch, X, Y, Z.
+/// P, id, issue, order, datum, epoch, X, Y, Z.
 pub fn point(line: &[u8]) -> Result<Named<'_, Point>, Fault> {
     let line = Line::cut(line)?;
     line.letter(0, b"P")?;
-    line.count(8)?;
+    line.count(9)?;
     let id = line.id(1)?;
-    let [issue, datum, epoch, x, y, z] = line.numbers(2)?;
-    Ok(Named { id, value: Point { issue, at: Realization { datum, epoch }, position: [x, y, z] } })
+    let [issue, order, datum, epoch, x, y, z] = line.numbers(2)?;
+    let at = Realization { datum, epoch };
+    Ok(Named { id, value: Point { issue, order, at, position: [x, y, z] } })
 }
 
 /// S, kind, datum, epoch, datum, epoch, then what the kind asks: three numbers; or P or C, dx, dy, dz, rx, ry, rz, s; or

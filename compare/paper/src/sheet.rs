@@ -54,8 +54,9 @@ impl Sheet {
         unless(!self.step_refused, EARLIER)?;
         let moved = chain::forward_checked(&self.chain, named.value)?;
         let [x, y, z] = moved.position;
-        let (issue, datum, epoch) = (moved.issue, moved.at.datum, moved.at.epoch);
+        let (issue, order) = (moved.issue, moved.order);
+        let (datum, epoch) = (moved.at.datum, moved.at.epoch);
         let id = String::from_utf8_lossy(named.id);
-        Ok(format!("P\t{id}\t{issue}\t{datum}\t{epoch}\t{x}\t{y}\t{z}\n"))
+        Ok(format!("P\t{id}\t{issue}\t{order}\t{datum}\t{epoch}\t{x}\t{y}\t{z}\n"))
     }
 }

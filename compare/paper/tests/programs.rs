@@ -22,15 +22,15 @@ fn plan(input: &str, output: &str) {
 
 const STEP: &str = "S|T|6|2000000|6|2006586|-15832|-4363|-9706\n";
 const BACK: &str = "S|T|6|2006586|6|2000000|15832|4363|9706\n";
-const A1: &str = "P|A1|1|6|2000000|-113105165410|623631179950|71174811140\n";
+const A1: &str = "P|A1|1|1|6|2000000|-113105165410|623631179950|71174811140\n";
 
 #[test]
 fn the_sheet_example() {
-    let a2 = A1.replace("A1|1|6", "A2|1|5");
+    let a2 = A1.replace("A1|1|1|6", "A2|1|1|5");
     let a3 = A1.replace("A1|1|", "A3|01|");
     sheet(
         &format!("{STEP}{A1}{a2}{a3}"),
-        "P|A1|1|6|2006586|-113105181242|623631175587|71174801434\nR|3|9|0\nR|4|22|5\n",
+        "P|A1|1|1|6|2006586|-113105181242|623631175587|71174801434\nR|3|9|0\nR|4|22|5\n",
     );
 }
 
@@ -45,7 +45,7 @@ fn the_plan_example() {
 fn ends_of_input() {
     sheet("", "");
     sheet("\n", "R|1|19|0\n");
-    sheet(A1.trim_end(), "R|1|18|55\n");
+    sheet(A1.trim_end(), "R|1|18|57\n");
     sheet(&format!("{A1}x"), &format!("{A1}R|2|18|1\n"));
     let full = vec![b'\n'; 65_536];
     assert!(paper::sheet::sheet(&full).ends_with(b"R\t65536\t19\t0\n"));
@@ -57,16 +57,16 @@ fn ends_of_input() {
 /// A refused S stays with the sheet, and 8 comes before 7: S, P, S, S, P.
 #[test]
 fn steps_after_points() {
-    let out = "P|A1|1|6|2006586|-113105181242|623631175587|71174801434\n";
+    let out = "P|A1|1|1|6|2006586|-113105181242|623631175587|71174801434\n";
     sheet(&format!("{STEP}{A1}{BACK}{BACK}{A1}"), &format!("{out}R|3|7|0\nR|4|8|0\nR|5|8|0\n"));
     sheet(&format!("Sx\n{A1}"), "R|1|19|0\nR|2|8|0\n");
     let outside = A1.replace("623631179950", "0");
     sheet(&format!("{STEP}{outside}{BACK}"), "R|2|10|0\nR|3|7|0\n");
     // A P line of bad form, whichever of the five, leaves the chain open.
     for (from, to, number, place) in [
-        ("\n", " tail of a line that goes on and on and on\n", 22, 44),
+        ("\n", " tail of a line that goes on and on and on\n", 22, 46),
         ("P|", "P |", 19, 0),
-        ("|1|", "|1|1|", 20, 57),
+        ("|1|", "|1|1|", 20, 59),
         ("A1", "a1", 21, 2),
         ("|1|", "|01|", 22, 5),
     ] {
@@ -93,8 +93,8 @@ fn long_lines_and_numbers() {
     sheet(&format!("{}{A1}", long(spare)), &format!("R|1|2|0\n{A1}"));
     sheet(&format!("{}{A1}", long(spare + 1)), &format!("R|1|18|200\n{A1}"));
     sheet(&A1.replace("|1|", "|-1|"), "R|1|2|0\n");
-    sheet(&A1.replace("\n", "|\n"), "R|1|20|56\n");
-    sheet(&A1.replace("\n", "\r\n"), "R|1|22|44\n");
+    sheet(&A1.replace("\n", "|\n"), "R|1|20|58\n");
+    sheet(&A1.replace("\n", "\r\n"), "R|1|22|46\n");
 }
 
 #[test]
@@ -138,16 +138,42 @@ fn the_later_of_two() {
     assert_eq!(later(&tabs(A1), &tabs(&A1.replace("A1", "A2"))), refused(16, 0, 0));
     assert_eq!(later(&line("0"), b""), refused(2, 1, 0));
     assert_eq!(later(&line("1"), b""), refused(18, 2, 0));
-    assert_eq!(later(tabs(A1).trim_ascii_end(), &line("0")), refused(18, 1, 55));
+    assert_eq!(later(tabs(A1).trim_ascii_end(), &line("0")), refused(18, 1, 57));
     assert_eq!(later(&line("1"), &tabs(&A1.replace("2000000", "0"))), refused(3, 2, 0));
     assert_eq!(later(&line("1"), &line("01")), refused(22, 2, 5));
     assert_eq!(later(&tabs(STEP), &line("1")), refused(19, 1, 0));
     // A line feed before the end is a byte of its field.
-    assert_eq!(later(&tabs(&A1.replace('\n', "\n\n")), &line("1")), refused(22, 1, 44));
+    assert_eq!(later(&tabs(&A1.replace('\n', "\n\n")), &line("1")), refused(22, 1, 46));
     assert_eq!(later(&line("1"), &tabs(&A1.replace("A1", "A\n1"))), refused(21, 2, 2));
-    assert_eq!(later(&line("1"), &[tabs(A1), tabs(A1)].concat()), refused(20, 2, 111));
+    assert_eq!(later(&line("1"), &[tabs(A1), tabs(A1)].concat()), refused(20, 2, 115));
     let outside = tabs(&A1.replace("|1|", "|2|").replace("71174811140", "-1"));
     assert_eq!(later(&tabs(A1), &outside), Ok(Which::Second));
+}
+
+/// Request A6: the order stands after the issue, goes through, and never decides.
+#[test]
+fn the_order_of_control() {
+    for order in 1..=4 {
+        let line = A1.replace("|1|1|", &format!("|1|{order}|"));
+        sheet(&line, &line);
+        sheet(
+            &format!("{STEP}{line}{BACK}"),
+            &format!("P|A1|1|{order}|6|2006586|-113105181242|623631175587|71174801434\nR|3|7|0\n"),
+        );
+    }
+    for order in ["0", "5", "-1", "99999999999999999999"] {
+        sheet(&A1.replace("|1|1|", &format!("|1|{order}|")), "R|1|2|0\n");
+    }
+    sheet(&A1.replace("|1|1|", "|1|01|"), "R|1|22|7\n");
+    sheet(&A1.replace("|1|1|", "|1||"), "R|1|22|7\n");
+    // No default: a line of eight fields has one too few.
+    sheet(&A1.replace("|1|1|", "|1|"), "R|1|20|55\n");
+    let line = |issue: i64, order: i64| tabs(&A1.replace("|1|1|", &format!("|{issue}|{order}|")));
+    assert_eq!(later(&line(2, 4), &line(1, 1)), Ok(Which::First));
+    assert_eq!(later(&line(1, 4), &line(2, 1)), Ok(Which::Second));
+    assert_eq!(later(&line(1, 4), &line(1, 4)), Ok(Which::First));
+    assert_eq!(later(&line(1, 4), &line(1, 1)), Err(Refused { number: 17, line: 0, place: 0 }));
+    assert_eq!(later(&line(1, 5), &line(1, 0)), Err(Refused { number: 2, line: 1, place: 0 }));
 }
 
 /// 18, 19, 20, 21, 22 over the whole line, each with its place.
@@ -187,7 +213,7 @@ fn what_is_wrong_with_a_line() {
     first("S|F|6|2010000|10|2010000|C\n", 20, 26);
     // 21, then the leftmost 22.
     first(&A1.replace("A1", "").replace("|1|", "|+1|"), 21, 2);
-    first(&A1.replace("|6|", "|06|").replace("2000000", "-0"), 22, 7);
+    first(&A1.replace("|6|", "|06|").replace("2000000", "-0"), 22, 9);
     first(&B.replace("-1350", "-01350"), 22, B.len() - 6);
     first(&B.replace("|1|0|", "||0|"), 22, 4);
 }

@@ -23,13 +23,13 @@ both false b e = absurd (never e)
     never : false ≡ true → ⊥
     never e = let z : _≡_ {A = ℕ} 0 1 = cc in omega arith
 
--- a point and the room for one have six numbers
+-- a point and the room for one have seven numbers
 module _ (chain point out : ℕ) (sized : wholeSteps chain point out ≡ true) where
-  pub six : (point ≡ 6) × (out ≡ 6)
+  pub sizes : (point ≡ 7) × (out ≡ 7)
   unfolding wholeSteps
-  six =
-      let all = both (eqb (chain % 13) 0 && eqb point 6) (eqb out 6) sized in
-      (eqb-true point 6 (both (eqb (chain % 13) 0) (eqb point 6) (all .0) .1), eqb-true out 6 (all .1))
+  sizes =
+      let all = both (eqb (chain % 13) 0 && eqb point 7) (eqb out 7) sized in
+      (eqb-true point 7 (both (eqb (chain % 13) 0) (eqb point 7) (all .0) .1), eqb-true out 7 (all .1))
 
 module _ (convert : Chain → Point → Answer) (chain point out : List ℤ) where
   pub unsized : wholeSteps (length chain) (length point) (length out) ≡ false → Answered (conversionCall convert chain point out) out out (pos 255)

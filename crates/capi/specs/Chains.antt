@@ -27,17 +27,18 @@ letter (negsuc n) l = false
 abbrev pub realization : ℤ → ℤ → Realization
 realization datum epoch = record { datum = datum; epoch = epoch }
 
--- ---- a point: issue, datum, epoch, X, Y, Z. Its id stays with the caller
+-- ---- a point: issue, order, datum, epoch, X, Y, Z. Its id stays with the caller
 unfoldable pub pointFrom : List ℤ → Point
 pointFrom ns = record {
-  label = record { id = record { high = 0; low = 0 }; issue = number ns 0 };
-  realization = realization (number ns 1) (number ns 2);
-  position = record { x = number ns 3; y = number ns 4; z = number ns 5 };
+  label = record { id = record { high = 0; low = 0 }; issue = number ns 0; order = number ns 1 };
+  realization = realization (number ns 2) (number ns 3);
+  position = record { x = number ns 4; y = number ns 5; z = number ns 6 };
 }
 
 unfoldable pub pointNumbers : Point → List ℤ
 pointNumbers p =
     p .label .issue
+    ∷ p .label .order
     ∷ p .realization .datum
     ∷ p .realization .epoch
     ∷ p .position .x
@@ -115,4 +116,4 @@ chainFrom ns = record {
 
 -- whole steps, a whole point, and room for a point
 unfoldable pub wholeSteps : ℕ → ℕ → ℕ → Bool
-wholeSteps chain point out = eqb (chain % 13) 0 && eqb point 6 && eqb out 6
+wholeSteps chain point out = eqb (chain % 13) 0 && eqb point 7 && eqb out 7

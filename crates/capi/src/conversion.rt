@@ -14,55 +14,58 @@ use chain::Point;
 use chain::Position;
 use chain::Realization;
 
-// Whether the chain has whole steps, the point its six numbers, and the output room for six.
+// Whether the chain has whole steps, the point its seven numbers, and the output room for seven.
 fn are_sized(chain: usize, point: usize, out: usize) -> bool
     ensures { λ r. ⌜ r ≡ wholeSteps chain point out ⌝ }
 {
-    (chain % 13 == 0) & (point == 6) & (out == 6)
+    (chain % 13 == 0) & (point == 7) & (out == 7)
 }
 
-// A point of six numbers: issue, datum, epoch, X, Y, Z. Its id stays with the caller.
+// A point of seven numbers: issue, order, datum, epoch, X, Y, Z. Its id stays with the caller.
 fn point_from(n: &[i64]) -> Point
-    requires { ⌜ length (now n) ≡ 6 ⌝ }
+    requires { ⌜ length (now n) ≡ 7 ⌝ }
     ensures { λ r. ⌜ r ≡ pointFrom (now (n .entry)) ⌝ }
 {
     Point {
         label: Label {
             id: Id { high: 0, low: 0 },
             issue: n[0],
+            order: n[1],
         },
         realization: Realization {
-            datum: n[1],
-            epoch: n[2],
+            datum: n[2],
+            epoch: n[3],
         },
         position: Position {
-            x: n[3],
-            y: n[4],
-            z: n[5],
+            x: n[4],
+            y: n[5],
+            z: n[6],
         },
     }
 }
 
 // Writes a converted point, or answers the refusal.
 fn give(answer: Answer, out: &mut [i64]) -> i64
-    requires { ⌜ length (now out) ≡ 6 ⌝ }
+    requires { ⌜ length (now out) ≡ 7 ⌝ }
     ensures { λ r. ⌜ Answered (ofAnswer answer) (now (out .entry)) (now (out .exit)) r ⌝ }
 {
     match answer {
         Answer::Refused(n) => status(n),
         Answer::Converted(p) => {
             let issue = p.label.issue;
+            let order = p.label.order;
             let datum = p.realization.datum;
             let epoch = p.realization.epoch;
             let x = p.position.x;
             let y = p.position.y;
             let z = p.position.z;
             out[0] = issue;
-            out[1] = datum;
-            out[2] = epoch;
-            out[3] = x;
-            out[4] = y;
-            out[5] = z;
+            out[1] = order;
+            out[2] = datum;
+            out[3] = epoch;
+            out[4] = x;
+            out[5] = y;
+            out[6] = z;
             0
         }
     }

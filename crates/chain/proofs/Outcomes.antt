@@ -16,8 +16,7 @@ use Rattle.chain.specs.declared.Step.{Step}
 use Rattle.chain.specs.declared.Chain.{Chain}
 use Rattle.chain.specs.declared.Answer.{Answer}
 use Rattle.chain.specs.declared.Answer.the-variants.{Converted, Refused}
-use Rattle.ranges.specs.Ranges.{issueRange}
-use Rattle.chain.specs.Faults.{realizationRange, agrees, givenPosition, inArea, pointRange, pointTests, pointFault, laterTests, stepsTests, chainTests, stepsOf}
+use Rattle.chain.specs.Faults.{realizationRange, agrees, givenPosition, inArea, labelRange, pointRange, pointTests, pointFault, laterTests, stepsTests, chainTests, stepsOf}
 use Rattle.chain.specs.Axes.{onX, onY, onZ}
 use Rattle.chain.specs.Convert.{Walk, at, left, walk, forwardStep, startOf, endOf, placeTests, conversionTests, movedTo, answerOf, convert, forwardOf}
 use Rattle.ranges.proofs.Ranges.{all, up-to-holds}
@@ -42,7 +41,7 @@ area-given : (p : Position) → inArea p ≡ true → givenPosition p ≡ true
 unfolding givenPosition
 area-given p h = let s = area-small p h in rw (up-to-holds 640000000000 (p .x) (s .on onX), up-to-holds 640000000000 (p .y) (s .on onY), up-to-holds 640000000000 (p .z) (s .on onZ))
 
-faultless : (p : Point) → issueRange (p .label .issue) ≡ true → Dated (p .realization) → givenPosition (p .position) ≡ true → pointFault p ≡ 0
+faultless : (p : Point) → labelRange (p .label) ≡ true → Dated (p .realization) → givenPosition (p .position) ≡ true → pointFault p ≡ 0
 unfolding pointFault pointRange
 faultless p i d g = rw (i, d .range, g, d .agree)
 
@@ -53,7 +52,7 @@ module _ (c : Chain) (p : Point) where
       let ss = stepsOf c in
       let a = converted c p (startOf (p .realization) ss) (endOf (p .realization) ss) (walk forwardStep ss (p .position)) q e in
       let h = head-holds (pointRange p) 1 _ f in
-      let r = all (issueRange (p .label .issue)) (realizationRange (p .realization)) (givenPosition (p .position)) (h .0) in
+      let r = all (labelRange (p .label)) (realizationRange (p .realization)) (givenPosition (p .position)) (h .0) in
       let d : Dated (p .realization) = record { range = r .1; agree = head-holds (agrees (p .realization)) 2 0 (h .1) .0 } in
       let i = walk-area forwardStep ss (p .position) (q .position) (a .accept .area) (a .ended) in
       ap pointFault (a .is) ∙ faultless (movedTo p (endOf (p .realization) ss) (q .position)) (r .0) (end-dated (p .realization) ss (a .accept .sound) d) (area-given (q .position) i)

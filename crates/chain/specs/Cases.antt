@@ -27,9 +27,9 @@ on datum epoch = record { datum = pos datum; epoch = pos epoch }
 abbrev pub xyz : ℤ → ℤ → ℤ → Position
 xyz x y z = record { x = x; y = y; z = z }
 
--- A1, issue 1
+-- A1, issue 1, order 1
 abbrev pub point : Realization → Position → Point
-point r p = record { label = record { id = record { high = 0x4131_0000_0000_0000; low = 0 }; issue = pos 1 }; realization = r; position = p }
+point r p = record { label = record { id = record { high = 0x4131_0000_0000_0000; low = 0 }; issue = pos 1; order = pos 1 }; realization = r; position = p }
 
 -- a chain of one step; the places past its length are not examined
 abbrev pub chain : Kind → Realization → Realization → Chain

@@ -63,7 +63,7 @@ placeTests p wanted = (not (sameRealization (p .realization) wanted) gives refus
 abbrev pub conversionTests : Chain → Point → Realization → List Test
 conversionTests c p wanted = chainTests c ++ (pointTests p ++ placeTests p wanted)
 
--- the point at another position: its label (id and issue) passes through
+-- the point at another position: its label (id, issue and order) passes through
 abbrev pub movedTo : Point → Realization → Position → Point
 movedTo p r q = record { label = p .label; realization = r; position = q }
 

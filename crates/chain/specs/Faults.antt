@@ -10,12 +10,13 @@ use Rattle.refusal.specs.Numbers as refusal
 use Rattle.refusal.specs.Order.{Test, _gives_, first}
 use Rattle.chain.specs.declared.Position.{Position}
 use Rattle.chain.specs.declared.Realization.{Realization}
+use Rattle.chain.specs.declared.Label.{Label}
 use Rattle.chain.specs.declared.Point.{Point}
 use Rattle.chain.specs.declared.Kind.{Kind}
 use Rattle.chain.specs.declared.Kind.the-variants.{Shift, Velocity, BursaWolf, Frame}
 use Rattle.chain.specs.declared.Step.{Step}
 use Rattle.chain.specs.declared.Chain.{Chain}
-use Rattle.ranges.specs.Ranges.{within, equal, givenRange, area, shiftRange, rotationRange, scaleRange, velocityRange, datumRange, issueRange, epochRange}
+use Rattle.ranges.specs.Ranges.{within, equal, givenRange, area, shiftRange, rotationRange, scaleRange, velocityRange, datumRange, issueRange, orderRange, epochRange}
 
 -- ---- a datum at an epoch
 unfoldable pub realizationRange : Realization → Bool
@@ -36,8 +37,11 @@ unfoldable pub inArea : Position → Bool
 inArea p = area (p .x) (p .y) (p .z)
 
 -- ---- a point, by its numbers alone. The id is not examined
+unfoldable pub labelRange : Label → Bool
+labelRange l = issueRange (l .issue) && orderRange (l .order)
+
 unfoldable pub pointRange : Point → Bool
-pointRange p = issueRange (p .label .issue) && realizationRange (p .realization) && givenPosition (p .position)
+pointRange p = labelRange (p .label) && realizationRange (p .realization) && givenPosition (p .position)
 
 abbrev pub pointTests : Point → List Test
 pointTests p = (not (pointRange p) gives refusal.range) ∷ (not (agrees (p .realization)) gives refusal.epoch) ∷ []

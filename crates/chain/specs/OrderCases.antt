@@ -20,7 +20,7 @@ abbrev step : Kind → Realization → Realization → Step
 step kind r a = record { kind = kind; before = r; after = a }
 
 abbrev point : ℤ → Realization → Position → Point
-point issue r p = record { label = record { id = record { high = 0x4131_0000_0000_0000; low = 0 }; issue = issue }; realization = r; position = p }
+point issue r p = record { label = record { id = record { high = 0x4131_0000_0000_0000; low = 0 }; issue = issue; order = pos 1 }; realization = r; position = p }
 
 -- ---- steps: one that is refused for nothing, and velocities with ever fewer faults
 abbrev good : Step

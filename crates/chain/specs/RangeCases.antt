@@ -24,9 +24,15 @@ by f w = record { found = f; wanted = w }
 abbrev fine : ℕ
 fine = 0
 
--- ---- a point: issue, datum, epoch, coordinates
+-- ---- a point: issue, order, datum, epoch, coordinates
+abbrev labelled : ℤ → ℤ → Point
+labelled issue order = record { label = record { id = record { high = 0x4131_0000_0000_0000; low = 0 }; issue = issue; order = order }; realization = on 8 2010000; position = a1 }
+
 abbrev issued : ℤ → Point
-issued n = record { label = record { id = record { high = 0x4131_0000_0000_0000; low = 0 }; issue = n }; realization = on 8 2010000; position = a1 }
+issued n = labelled n (pos 1)
+
+abbrev ordered : ℤ → Point
+ordered n = labelled (pos 1) n
 
 abbrev at : Realization → ℕ → Fault
 at r w = by (pointFault (point r a1)) w
@@ -45,6 +51,9 @@ pointCases =
     ∷ by (pointFault (issued (pos 1))) fine
     ∷ by (pointFault (issued (pos 65535))) fine
     ∷ by (pointFault (issued (pos 65536))) refusal.range
+    ∷ by (pointFault (ordered (pos 0))) refusal.range
+    ∷ by (pointFault (ordered (pos 4))) fine
+    ∷ by (pointFault (ordered (pos 5))) refusal.range
     ∷ at (on 0 2010000) refusal.range
     ∷ at (on 1 0) fine
     ∷ at (on 2 0) fine

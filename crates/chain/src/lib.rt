@@ -33,10 +33,11 @@ pub struct Id {
     pub low: u64,
 }
 
-// What a point is labelled with: its name, and the issue of its coordinates (1 to 65,535). A conversion hands it on as it is.
+// What a point is labelled with: its name, the issue of its coordinates (1 to 65,535), and its order of control (1 to 4). A conversion hands it on as it is.
 pub struct Label {
     pub id: Id,
     pub issue: i64,
+    pub order: i64,
 }
 
 // A control point.

@@ -1,7 +1,8 @@
 // Whether the numbers of points and of what they hold lie in their ranges. Tests are joined by `&` and `|`, so that each function is one expression with no
 // branch.
 ghost use mathlib.Core.Path.{_≡_};
-ghost use Rattle.chain.specs.Faults.{realizationRange, agrees, sameRealization, givenPosition, inArea, pointRange};
+ghost use Rattle.chain.specs.Faults.{realizationRange, agrees, sameRealization, givenPosition, inArea, labelRange, pointRange};
+use crate::Label;
 use crate::Point;
 use crate::Position;
 use crate::Realization;
@@ -43,12 +44,19 @@ pub(crate) fn in_area(p: Position) -> bool
     ranges::in_area(p.x, p.y, p.z)
 }
 
-// Whether a point's numbers are in their ranges. The id is not looked at.
+// Whether issue and order are in their ranges. The id is not looked at.
+fn label_in_range(label: Label) -> bool
+    ensures { λ t. ⌜ t ≡ labelRange label ⌝ }
+{
+    within(1, label.issue, 65535) & within(1, label.order, 4)
+}
+
+// Whether a point's numbers are in their ranges.
 pub(crate) fn point_in_range(point: Point) -> bool
     ensures { λ t. ⌜ t ≡ pointRange point ⌝ }
 {
     let label = point.label;
     let r = point.realization;
     let p = point.position;
-    within(1, label.issue, 65535) & realization_in_range(r) & given(p)
+    label_in_range(label) & realization_in_range(r) & given(p)
 }

@@ -62,6 +62,7 @@ module _ (p : Point) (none-found : pointFault p ≡ 0) (named : Named (p .label 
   after-letter =
       nameText (p .label .id)
       ∷ integer (p .label .issue)
+      ∷ integer (p .label .order)
       ∷ integer (p .realization .datum)
       ∷ integer (p .realization .epoch)
       ∷ integer (p .position .x)
@@ -76,8 +77,11 @@ module _ (p : Point) (none-found : pointFault p ≡ 0) (named : Named (p .label 
     (
       clean-integer (p .label .issue),
       (
-        clean-integer (p .realization .datum),
-        (clean-integer (p .realization .epoch), (clean-integer (p .position .x), (clean-integer (p .position .y), (clean-integer (p .position .z), tt)))),
+        clean-integer (p .label .order),
+        (
+          clean-integer (p .realization .datum),
+          (clean-integer (p .realization .epoch), (clean-integer (p .position .x), (clean-integer (p .position .y), (clean-integer (p .position .z), tt)))),
+        ),
       ),
     ),
   )
@@ -85,7 +89,7 @@ module _ (p : Point) (none-found : pointFault p ≡ 0) (named : Named (p .label 
   filled-point : filled pointForm ((80 ∷ []) ∷ after-letter) ≡ some p
   unfolding filled pointForm
   filled-point =
-      rw (name-back (p .label .id) named, number-back (p .label .issue), number-back (p .realization .datum), number-back (p .realization .epoch), number-back (p .position .x), number-back (p .position .y), number-back (p .position .z))
+      rw (name-back (p .label .id) named, number-back (p .label .issue), number-back (p .label .order), number-back (p .realization .datum), number-back (p .realization .epoch), number-back (p .position .x), number-back (p .position .y), number-back (p .position .z))
 
   clean-letter : Clean (80 ∷ [])
   unfolding Clean

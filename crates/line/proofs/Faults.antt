@@ -11,11 +11,11 @@ use Rattle.refusal.specs.Numbers as refusal
 use Rattle.chain.specs.declared.Kind.{Kind}
 use Rattle.chain.specs.declared.Kind.the-variants.{Shift, Velocity, BursaWolf, Frame}
 use Rattle.refusal.proofs.Orders as orders
-use Rattle.ranges.specs.Ranges.{upTo, datumRange, epochRange, issueRange, givenRange, shiftRange, velocityRange, rotationRange, scaleRange, ellipsoidRange, offsetRange, latitudeRange, longitudeRange}
-use Rattle.chain.specs.Faults.{realizationRange, agrees, givenPosition, pointRange, pointFault, kindRange, kindRule, stepRange, stepFault}
+use Rattle.ranges.specs.Ranges.{upTo, datumRange, epochRange, issueRange, orderRange, givenRange, shiftRange, velocityRange, rotationRange, scaleRange, ellipsoidRange, offsetRange, latitudeRange, longitudeRange}
+use Rattle.chain.specs.Faults.{realizationRange, agrees, givenPosition, labelRange, pointRange, pointFault, kindRange, kindRule, stepRange, stepFault}
 use Rattle.angle.specs.Ranges.{angleTests, originTests, anglesFault, originFault}
 use Rattle.line.specs.Readers.{geodeticFault}
-use Rattle.line.specs.Reading.{cap, cappedZ, cappedRealization, cappedPosition, cappedPoint, cappedKind, cappedStep, cappedOrigin, cappedGeodetic}
+use Rattle.line.specs.Reading.{cap, cappedZ, cappedLabel, cappedRealization, cappedPosition, cappedPoint, cappedKind, cappedStep, cappedOrigin, cappedGeodetic}
 use Rattle.line.proofs.Answers.{Careful}
 use Rattle.line.proofs.Capped.{Sure, sure-within, sure-either, both, halves, careful-first}
 
@@ -35,6 +35,9 @@ sure-epoch = sure-either (sure-within (pos 0) (pos 0) (omega arith) (omega arith
 
 sure-issue : Sure cappedZ issueRange
 sure-issue = sure-within (pos 1) (pos 65535) (omega arith) (omega arith)
+
+sure-order : Sure cappedZ orderRange
+sure-order = sure-within (pos 1) (pos 4) (omega arith) (omega arith)
 
 sure-given : Sure cappedZ givenRange
 sure-given = sure-up 640000000000 (omega arith)
@@ -63,6 +66,14 @@ module _ {test : ℤ → Bool} (p : Sure cappedZ test) where
       (p .kept x (t .0), p .kept y (t .1), p .kept z (s .1))
 
 -- ---- points
+sure-label : Sure cappedLabel labelRange
+unfolding labelRange
+sure-label =
+    record {
+      same = λ l. both (sure-issue .same (l .issue)) (sure-order .same (l .order));
+      kept = λ l e. let s = halves (issueRange (l .issue)) (orderRange (l .order)) e in rw (sure-issue .kept (l .issue) (s .0), sure-order .kept (l .order) (s .1));
+    }
+
 sure-realization : Sure cappedRealization realizationRange
 unfolding realizationRange
 sure-realization =
@@ -83,12 +94,12 @@ sure-point : Sure cappedPoint pointRange
 unfolding pointRange
 sure-point =
     record {
-      same = λ p. both (both (sure-issue .same (p .label .issue)) (sure-realization .same (p .realization))) (sure-position .same (p .position));
+      same = λ p. both (both (sure-label .same (p .label)) (sure-realization .same (p .realization))) (sure-position .same (p .position));
       kept =
           λ p e.
-          let s = halves (issueRange (p .label .issue) && realizationRange (p .realization)) (givenPosition (p .position)) e in
-          let t = halves (issueRange (p .label .issue)) (realizationRange (p .realization)) (s .0) in
-          rw (sure-issue .kept (p .label .issue) (t .0), sure-realization .kept (p .realization) (t .1), sure-position .kept (p .position) (s .1));
+          let s = halves (labelRange (p .label) && realizationRange (p .realization)) (givenPosition (p .position)) e in
+          let t = halves (labelRange (p .label)) (realizationRange (p .realization)) (s .0) in
+          rw (sure-label .kept (p .label) (t .0), sure-realization .kept (p .realization) (t .1), sure-position .kept (p .position) (s .1));
     }
 
 pub careful-point : Careful pointFault cappedPoint

@@ -177,7 +177,7 @@ a-number f = read-good refusal.plain (numberOf f) (omega arith)
 
 point-like : (fs : List (List ℕ)) → Like pointForm (pointShape fs)
 unfolding Like pointForm
-point-like fs = (a-letter _, λ _. (an-id, λ _. (a-number, λ _. (a-number, λ _. (a-number, λ _. (a-number, λ _. (a-number, λ _. (a-number, λ _. tt))))))))
+point-like fs = (a-letter _, λ _. (an-id, λ _. (a-number, λ _. (a-number, λ _. (a-number, λ _. (a-number, λ _. (a-number, λ _. (a-number, λ _. (a-number, λ _. tt)))))))))
 
 origin-like : (fs : List (List ℕ)) → Like originForm (originShape fs)
 unfolding Like originForm

@@ -14,8 +14,8 @@ use Rattle.refusal.specs.Numbers as refusal
 use Rattle.chain.specs.declared.Id.{Id}
 use Rattle.chain.specs.declared.Point.{Point}
 use Rattle.ranges.proofs.Ranges.{natural, up-to}
-use Rattle.ranges.specs.Ranges.{within, issueRange, datumRange, epochRange, givenRange}
-use Rattle.chain.specs.Faults.{realizationRange, agrees, givenPosition, pointRange, pointFault}
+use Rattle.ranges.specs.Ranges.{within, issueRange, orderRange, datumRange, epochRange, givenRange}
+use Rattle.chain.specs.Faults.{realizationRange, agrees, givenPosition, labelRange, pointRange, pointFault}
 use Rattle.line.specs.Text.{decimal, integer, highest, letters, nameText, pointText, projectedText, refusalText}
 use Rattle.line.proofs.Capped.{never, halves, passed}
 use Rattle.line.proofs.Texts as T
@@ -69,12 +69,16 @@ module _ (p : Point) (none : pointFault p ≡ 0) where
       go true e = refl
       go false e = absurd (never (sym e))
 
-  parts : (issueRange (p .label .issue) ≡ true) × (realizationRange (p .realization) ≡ true) × (givenPosition (p .position) ≡ true)
+  parts : (labelRange (p .label) ≡ true) × (realizationRange (p .realization) ≡ true) × (givenPosition (p .position) ≡ true)
   unfolding pointRange
   parts =
-      let s = halves (issueRange (p .label .issue) && realizationRange (p .realization)) (givenPosition (p .position)) in-range in
-      let t = halves (issueRange (p .label .issue)) (realizationRange (p .realization)) (s .0) in
+      let s = halves (labelRange (p .label) && realizationRange (p .realization)) (givenPosition (p .position)) in-range in
+      let t = halves (labelRange (p .label)) (realizationRange (p .realization)) (s .0) in
       (t .0, t .1, s .1)
+
+  labelled : (issueRange (p .label .issue) ≡ true) × (orderRange (p .label .order) ≡ true)
+  unfolding labelRange
+  labelled = halves (issueRange (p .label .issue)) (orderRange (p .label .order)) (parts .0)
 
   times : (datumRange (p .realization .datum) ≡ true) × (epochRange (p .realization .epoch) ≡ true)
   unfolding realizationRange
@@ -97,12 +101,12 @@ module _ (p : Point) (none : pointFault p ≡ 0) where
   length-coordinate : (z : ℤ) → givenRange z ≡ true → length (integer z) ≤ 13
   length-coordinate z e = length-integer 11 z (omega (arith, up-to 640000000000 z e))
 
-  -- a point line, written for a point with no fault: at most 78 bytes
-  pub length-point : length (pointText p) ≤ 78
+  -- a point line, written for a point with no fault: at most 80 bytes
+  pub length-point : length (pointText p) ≤ 80
   length-point =
       rw (sym (T.point-is p))
       (simp length-append
-      (omega (arith, length-name (p .label .id), length-plus 4 1 65535 (p .label .issue) (omega arith) (parts .0), length-plus 1 1 10 (p .realization .datum) (omega arith) (times .0), length-epoch, length-coordinate (p .position .x) (places .0), length-coordinate (p .position .y) (places .1), length-coordinate (p .position .z) (places .2))))
+      (omega (arith, length-name (p .label .id), length-plus 4 1 65535 (p .label .issue) (omega arith) (labelled .0), length-plus 0 1 4 (p .label .order) (omega arith) (labelled .1), length-plus 1 1 10 (p .realization .datum) (omega arith) (times .0), length-epoch, length-coordinate (p .position .x) (places .0), length-coordinate (p .position .y) (places .1), length-coordinate (p .position .z) (places .2))))
 
 -- a projected line of numbers below 10^18 in size: at most 60 bytes
 pub length-projected : (id : Id) (e n : ℤ) → natAbs e < 10 ^ 18 → natAbs n < 10 ^ 18 → length (projectedText id e n) ≤ 60

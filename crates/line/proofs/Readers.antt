@@ -63,10 +63,10 @@ said-long n form h line a e = go (body line) refl e
     go none q e = absurd (nothing e)
     go (some s) q e = omega (arith, filled-long n form h (fields s) a e, fields-spread s, body-length line s q .0)
 
--- a point line has eight fields, a position line four
-point-long : (line : List ℕ) (p : Point) → said pointForm line ≡ some p → 16 ≤ length line
+-- a point line has nine fields, a position line four
+point-long : (line : List ℕ) (p : Point) → said pointForm line ≡ some p → 18 ≤ length line
 unfolding Asks pointForm nameOf numberOf
-point-long line p e = said-long 8 pointForm (refl, λ _. (refl, λ _. (refl, λ _. (refl, λ _. (refl, λ _. (refl, λ _. (refl, λ _. (refl, λ _. tt)))))))) line p e
+point-long line p e = said-long 9 pointForm (refl, λ _. (refl, λ _. (refl, λ _. (refl, λ _. (refl, λ _. (refl, λ _. (refl, λ _. (refl, λ _. (refl, λ _. tt))))))))) line p e
 
 geodetic-long : (line : List ℕ) (g : Geodetic) → said geodeticForm line ≡ some g → 8 ≤ length line
 unfolding Asks geodeticForm nameOf numberOf
@@ -113,7 +113,7 @@ fault-small shape line = record { number = fault-short shape line; inside = faul
 pub strange-small : (line : List ℕ) → Small line (strangeFault line)
 strange-small line = fault-small unknownShape line
 
-pub point-outcome : (P : PointLine → Type 0) (line : List ℕ) → ((p : Point) → pointFault p ≡ 0 → 16 ≤ length line → P (point-line.Point p)) → ((f : Fault) → Small line f → P (point-line.Malformed f)) → ((n : ℕ) → n < 100 → P (point-line.Refused n)) → P (readPoint line)
+pub point-outcome : (P : PointLine → Type 0) (line : List ℕ) → ((p : Point) → pointFault p ≡ 0 → 18 ≤ length line → P (point-line.Point p)) → ((f : Fault) → Small line f → P (point-line.Malformed f)) → ((n : ℕ) → n < 100 → P (point-line.Refused n)) → P (readPoint line)
 unfolding readPoint
 point-outcome P line G M B = outcome pointFault point-fault-short point-line.Point point-line.Refused _ P (said pointForm line) (λ p e f. G p f (point-long line p e)) (M _ (fault-small _ line)) B
 

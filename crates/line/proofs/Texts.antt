@@ -284,11 +284,12 @@ pub point-is : (p : Point)
     → (80 ∷ 9 ∷ [])
     ++ ((nameText (p .label .id) ++ (9 ∷ []))
     ++ ((integer (p .label .issue) ++ (9 ∷ []))
+    ++ ((integer (p .label .order) ++ (9 ∷ []))
     ++ ((integer (p .realization .datum) ++ (9 ∷ []))
     ++ ((integer (p .realization .epoch) ++ (9 ∷ []))
     ++ ((integer (p .position .x) ++ (9 ∷ []))
     ++ ((integer (p .position .y) ++ (9 ∷ []))
-    ++ (integer (p .position .z) ++ (10 ∷ []))))))))
+    ++ (integer (p .position .z) ++ (10 ∷ [])))))))))
     ≡ pointText p
 unfolding pointText lineText
 point-is p = simp tabbed

@@ -18,18 +18,20 @@ use Rattle.line.specs.Fields.{Form, ends, field, either, into, letter, l
 use Rattle.line.specs.Name.{nameOf}
 use Rattle.line.specs.Number.{numberOf}
 
--- P, id, issue, datum, epoch, X, Y, Z
+-- P, id, issue, order, datum, epoch, X, Y, Z
 unfoldable pub pointForm : Form Point
 pointForm =
     field (letter letterP) λ _.
     field nameOf λ id.
     field numberOf λ issue.
+    field numberOf λ order.
     field numberOf λ datum.
     field numberOf λ epoch.
     field numberOf λ x.
     field numberOf λ y.
     field numberOf λ z.
-    ends (record { label = record { id = id; issue = issue }; realization = record { datum = datum; epoch = epoch }; position = record { x = x; y = y; z = z } })
+    ends
+    (record { label = record { id = id; issue = issue; order = order }; realization = record { datum = datum; epoch = epoch }; position = record { x = x; y = y; z = z } })
 
 abbrev pub stepOf : Realization → Realization → Kind → Step
 stepOf before after kind = record { kind = kind; before = before; after = after }

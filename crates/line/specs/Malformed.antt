@@ -27,9 +27,9 @@ Shape = List (List ℕ) → List Class
 abbrev pub numbers : ℕ → List Class
 numbers n = replicate n number
 
--- P, id, issue, datum, epoch, X, Y, Z
+-- P, id, issue, order, datum, epoch, X, Y, Z
 abbrev pub pointShape : Shape
-pointShape fs = letters (letterP ∷ []) ∷ identifier ∷ numbers 6
+pointShape fs = letters (letterP ∷ []) ∷ identifier ∷ numbers 7
 
 -- O, ellipsoid, latitude, longitude, FE, FN
 abbrev pub originShape : Shape

@@ -41,7 +41,7 @@ expected t = fault (t .number) (t .place)
 -- lines with nothing wrong
 abbrev good : List Trial
 good =
-    trial pointShape (line "P|A1|1|6|2000000|-113105165410|623631179950|71174811140") 0 0
+    trial pointShape (line "P|A1|1|1|6|2000000|-113105165410|623631179950|71174811140") 0 0
     ∷ trial stepShape (line "S|T|6|2000000|6|2006586|-15832|-4363|-9706") 0 0
     ∷ trial stepShape (line "S|B|1|0|5|2000000|C|1|2|3|4|5|6|7") 0 0
     ∷ trial stepShape (line "S|F|9|2010000|10|2010000") 0 0
@@ -66,7 +66,7 @@ abbrev letterCases : List Trial
 letterCases =
     trial unknownShape (line "") refusal.letter 0
     ∷ trial pointShape (line "") refusal.letter 0
-    ∷ trial pointShape (line "PP|A1|1|6|2000000|1|2|3") refusal.letter 0
+    ∷ trial pointShape (line "PP|A1|1|1|6|2000000|1|2|3") refusal.letter 0
     ∷ trial stepShape (line "S|X|6") refusal.letter 2
     ∷ trial stepShape (line "S||6|2000000|6|2006586|1|2|3") refusal.letter 2
     ∷ trial stepShape (line "S|B|1|0|5|2000000|X|1|2|3|4|5|6|7") refusal.letter 18
@@ -74,21 +74,22 @@ letterCases =
     ∷ trial stepShape (line "S|B|01|0|5|2000000|PC|1|2|3|4|5|6|7") refusal.letter 19
     ∷ []
 
--- a missing kind or convention, a tab at the end, and seven fields with a bad id and a bad number
+-- a missing kind or convention, a tab at the end, and a field too few with a bad id and a bad number; a point line without its order
 abbrev counts : List Trial
 counts =
     trial stepShape (line "S") refusal.count 1
     ∷ trial stepShape (line "S|B|1|0|5|2000000") refusal.count 17
     ∷ trial stepShape (line "S|F|9|2010000|10|2010000|") refusal.count 25
-    ∷ trial pointShape (line "P|a1|01|6|2000000|1|2") refusal.count 21
+    ∷ trial pointShape (line "P|a1|01|1|6|2000000|1|2") refusal.count 23
+    ∷ trial pointShape (line "P|A1|1|6|2000000|1|2|3") refusal.count 22
     ∷ []
 
 -- an id, also where a number is bad; and numbers: the leftmost, document 01's line 4, and a line feed more at the end, which is a byte of the last field
 abbrev fieldCases : List Trial
 fieldCases =
-    trial pointShape (line "P|a1|1|6|2000000|1|2|3") refusal.id 2
+    trial pointShape (line "P|a1|1|1|6|2000000|1|2|3") refusal.id 2
     ∷ trial geodeticShape (line "G||01|36720000000") refusal.id 2
-    ∷ trial pointShape (line "P|A3|01|6|2000000|-113105165410|623631179950|71174811140") refusal.plain 5
+    ∷ trial pointShape (line "P|A3|01|1|6|2000000|-113105165410|623631179950|71174811140") refusal.plain 5
     ∷ trial originShape (line "O|3|-0|+2|0|0") refusal.plain 4
     ∷ trial geodeticShape (line "G|A1|1440000000|36720000000" ++ (lineFeed ∷ [])) refusal.plain 16
     ∷ []

@@ -10,6 +10,7 @@ use lib.ListN.{length, getD, take, drop}
 use Rattle.refusal.specs.Order.{pick}
 use Rattle.chain.specs.declared.Realization.{Realization}
 use Rattle.chain.specs.declared.Position.{Position}
+use Rattle.chain.specs.declared.Label.{Label}
 use Rattle.chain.specs.declared.Point.{Point}
 use Rattle.chain.specs.declared.Kind.{Kind}
 use Rattle.chain.specs.declared.Kind.the-variants.{Shift, Velocity, BursaWolf, Frame}
@@ -117,10 +118,13 @@ cappedRealization r = record { datum = cappedZ (r .datum); epoch = cappedZ (r .e
 abbrev pub cappedPosition : Position → Position
 cappedPosition p = record { x = cappedZ (p .x); y = cappedZ (p .y); z = cappedZ (p .z) }
 
+abbrev pub cappedLabel : Label → Label
+cappedLabel l = record { id = l .id; issue = cappedZ (l .issue); order = cappedZ (l .order) }
+
 abbrev pub cappedPoint : Point → Point
 cappedPoint p =
     record {
-      label = record { id = p .label .id; issue = cappedZ (p .label .issue) };
+      label = cappedLabel (p .label);
       realization = cappedRealization (p .realization);
       position = cappedPosition (p .position);
     }

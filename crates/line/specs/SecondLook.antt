@@ -20,7 +20,7 @@ stepRest kind = letters (letterT ∷ letterV ∷ letterB ∷ letterF ∷ []) ∷
 
 abbrev pub restOf : ℕ → ℕ → List Class
 restOf first kind =
-    pick (eqb first letterP) (identifier ∷ numbers 6)
+    pick (eqb first letterP) (identifier ∷ numbers 7)
     (pick (eqb first letterS) (stepRest kind)
     (pick (eqb first letterO) (numbers 5)
     (pick (eqb first letterG) (identifier ∷ numbers 2) [])))

@@ -43,13 +43,14 @@ lineText [] = lineFeed ∷ []
 lineText (f ∷ []) = f ++ (lineFeed ∷ [])
 lineText (f ∷ g ∷ fs) = f ++ (tab ∷ lineText (g ∷ fs))
 
--- P, id, issue, datum, epoch, X, Y, Z
+-- P, id, issue, order, datum, epoch, X, Y, Z
 unfoldable pub pointText : Point → List ℕ
 pointText p =
     lineText
     ((letterP ∷ [])
     ∷ nameText (p .label .id)
     ∷ integer (p .label .issue)
+    ∷ integer (p .label .order)
     ∷ integer (p .realization .datum)
     ∷ integer (p .realization .epoch)
     ∷ integer (p .position .x)

@@ -79,7 +79,7 @@ pub fn class_at(first: u8, kind: u8, index: usize) -> Awaited
     }
     let i = index - 1;
     if first == b'P' {
-        return named_at(i, 6);
+        return named_at(i, 7);
     }
     if first == b'S' {
         return step_at(kind, i);
@@ -111,7 +111,7 @@ pub fn count_of(first: u8, kind: u8) -> usize
     ensures { λ r. ⌜ r ≡ length (classesOf first kind) ⌝ }
 {
     if first == b'P' {
-        return 8;
+        return 9;
     }
     if first == b'S' {
         return step_count(kind);

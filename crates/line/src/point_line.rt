@@ -1,4 +1,4 @@
-// P, id, issue, datum, epoch, X, Y, Z.
+// P, id, issue, order, datum, epoch, X, Y, Z.
 use crate::PointLine;
 use crate::field::body_end;
 use crate::field::letter;
@@ -25,7 +25,8 @@ fn point_fields(s: &[u8]) -> PointFields
     let named = name(s, at);
     let id = named.id;
     let issue = number(s, named.next);
-    let datum = number(s, issue.next);
+    let order = number(s, issue.next);
+    let datum = number(s, order.next);
     let epoch = number(s, datum.next);
     let x = number(s, epoch.next);
     let y = number(s, x.next);
@@ -35,6 +36,7 @@ fn point_fields(s: &[u8]) -> PointFields
             label: chain::Label {
                 id,
                 issue: issue.value,
+                order: order.value,
             },
             realization: chain::Realization {
                 datum: datum.value,

@@ -146,18 +146,19 @@ fn letter(out: &mut [u8], at: usize, l: u8) -> usize
     byte(out, a, TAB)
 }
 
-// P, id, issue, datum, epoch, X, Y, Z.
+// P, id, issue, order, datum, epoch, X, Y, Z.
 pub fn write_point(out: &mut [u8], at: usize, p: chain::Point) -> usize
     ensures { λ r. ⌜ Wrote (now (out .entry)) at (pointText p) (now (out .exit)) r ⌝ }
 {
     let a = letter(out, at, b'P');
     let b = name(out, a, p.label.id);
     let c = whole(out, b, p.label.issue, TAB);
-    let d = whole(out, c, p.realization.datum, TAB);
-    let e = whole(out, d, p.realization.epoch, TAB);
-    let f = whole(out, e, p.position.x, TAB);
-    let g = whole(out, f, p.position.y, TAB);
-    whole(out, g, p.position.z, LINE_FEED)
+    let d = whole(out, c, p.label.order, TAB);
+    let e = whole(out, d, p.realization.datum, TAB);
+    let f = whole(out, e, p.realization.epoch, TAB);
+    let g = whole(out, f, p.position.x, TAB);
+    let h = whole(out, g, p.position.y, TAB);
+    whole(out, h, p.position.z, LINE_FEED)
 }
 
 // C, id, E, N; millimetres.

@@ -9,69 +9,69 @@ use crate::show::point;
 use crate::show::step;
 
 fn good_points() {
-    point(b"P\tA1\t1\t6\t2000000\t-113105165410\t623631179950\t71174811140\n");
-    point(b"P\tSIXTEEN-BYTES-16\t65535\t10\t2100000\t-640000000000\t640000000000\t0\n");
-    point(b"P\t-\t1\t1\t0\t0\t0\t-1\n");
-    point(b"P\t0\t1\t5\t1980000\t9\t-9\t10\n");
+    point(b"P\tA1\t1\t1\t6\t2000000\t-113105165410\t623631179950\t71174811140\n");
+    point(b"P\tSIXTEEN-BYTES-16\t65535\t1\t10\t2100000\t-640000000000\t640000000000\t0\n");
+    point(b"P\t-\t1\t1\t1\t0\t0\t0\t-1\n");
+    point(b"P\t0\t1\t1\t5\t1980000\t9\t-9\t10\n");
 }
 
 fn points_of_bad_form() {
-    point(b"P\tA3\t01\t6\t2000000\t-113105165410\t623631179950\t71174811140\n");
-    point(b"P\tA1\t1\t6\t2000000\t1\t2\t-0\n");
-    point(b"P\tA1\t+1\t6\t2000000\t1\t2\t3\n");
-    point(b"P\tA1\t00\t6\t2000000\t1\t2\t3\n");
-    point(b"P\tA1\t-\t6\t2000000\t1\t2\t3\n");
-    point(b"P\tA1\t--1\t6\t2000000\t1\t2\t3\n");
-    point(b"P\tA1\t1.0\t6\t2000000\t1\t2\t3\n");
-    point(b"P\tA1\t1 \t6\t2000000\t1\t2\t3\n");
-    point(b"P\tSEVENTEEN-BYTES-17\t1\t6\t2000000\t1\t2\t3\n");
-    point(b"P\ta1\t1\t6\t2000000\t1\t2\t3\n");
-    point(b"P\tA_1\t1\t6\t2000000\t1\t2\t3\n");
-    point(b"P\t\t1\t6\t2000000\t1\t2\t3\n");
-    point(b"P\tA1\t\t6\t2000000\t1\t2\t3\n");
-    point(b"P\tA1\t1\t6\t2000000\t1\t2\t\n");
+    point(b"P\tA3\t01\t1\t6\t2000000\t-113105165410\t623631179950\t71174811140\n");
+    point(b"P\tA1\t1\t1\t6\t2000000\t1\t2\t-0\n");
+    point(b"P\tA1\t+1\t1\t6\t2000000\t1\t2\t3\n");
+    point(b"P\tA1\t00\t1\t6\t2000000\t1\t2\t3\n");
+    point(b"P\tA1\t-\t1\t6\t2000000\t1\t2\t3\n");
+    point(b"P\tA1\t--1\t1\t6\t2000000\t1\t2\t3\n");
+    point(b"P\tA1\t1.0\t1\t6\t2000000\t1\t2\t3\n");
+    point(b"P\tA1\t1 \t1\t6\t2000000\t1\t2\t3\n");
+    point(b"P\tSEVENTEEN-BYTES-17\t1\t1\t6\t2000000\t1\t2\t3\n");
+    point(b"P\ta1\t1\t1\t6\t2000000\t1\t2\t3\n");
+    point(b"P\tA_1\t1\t1\t6\t2000000\t1\t2\t3\n");
+    point(b"P\t\t1\t1\t6\t2000000\t1\t2\t3\n");
+    point(b"P\tA1\t\t1\t6\t2000000\t1\t2\t3\n");
+    point(b"P\tA1\t1\t1\t6\t2000000\t1\t2\t\n");
 }
 
 fn points_with_wrong_fields() {
-    point(b"P\tA1\t1\t6\t2000000\t1\t2\t3");
-    point(b"P\tA1\t1\t6\t2000000\t1\t2\t3\t\n");
-    point(b"P\tA1\t1\t6\t2000000\t1\t2\n");
-    point(b"P\tA1\t1\t6\t2000000\t1\t2\t3\t4\n");
-    point(b"P\tA1\t1\t6\t2000000\t1\n\t2\t3\n");
-    point(b"P\tA1\t1\t6\t2000000\t1\t2\t3\r\n");
-    point(b"P\tA1\t1\t6\t2000000\t1\t2\t3\n\n");
+    point(b"P\tA1\t1\t1\t6\t2000000\t1\t2\t3");
+    point(b"P\tA1\t1\t1\t6\t2000000\t1\t2\t3\t\n");
+    point(b"P\tA1\t1\t1\t6\t2000000\t1\t2\n");
+    point(b"P\tA1\t1\t1\t6\t2000000\t1\t2\t3\t4\n");
+    point(b"P\tA1\t1\t1\t6\t2000000\t1\n\t2\t3\n");
+    point(b"P\tA1\t1\t1\t6\t2000000\t1\t2\t3\r\n");
+    point(b"P\tA1\t1\t1\t6\t2000000\t1\t2\t3\n\n");
     point(b"P A1 1 6 2000000 1 2 3\n");
-    point(b"p\tA1\t1\t6\t2000000\t1\t2\t3\n");
-    point(b"PP\tA1\t1\t6\t2000000\t1\t2\t3\n");
-    point(b"\tA1\t1\t6\t2000000\t1\t2\t3\n");
+    point(b"p\tA1\t1\t1\t6\t2000000\t1\t2\t3\n");
+    point(b"PP\tA1\t1\t1\t6\t2000000\t1\t2\t3\n");
+    point(b"\tA1\t1\t1\t6\t2000000\t1\t2\t3\n");
     point(b"P\n");
     point(b"P");
     point(b"\n");
     point(b"");
     point(b"S\tT\t6\t2000000\t6\t2006586\t-15832\t-4363\t-9706\n");
-    point(b"P\tA1\t0\t6\t2000000\t1\t2\tx\n");
+    point(b"P\tA1\t0\t1\t6\t2000000\t1\t2\tx\n");
 }
 
 fn points_out_of_range() {
-    point(b"P\tA1\t0\t6\t2000000\t1\t2\t3\n");
-    point(b"P\tA1\t65536\t6\t2000000\t1\t2\t3\n");
-    point(b"P\tA1\t-1\t6\t2000000\t1\t2\t3\n");
-    point(b"P\tA1\t18446744073709551617\t6\t2000000\t1\t2\t3\n");
-    point(b"P\tA1\t1\t0\t2000000\t1\t2\t3\n");
-    point(b"P\tA1\t1\t11\t2000000\t1\t2\t3\n");
-    point(b"P\tA1\t1\t6\t1979999\t1\t2\t3\n");
-    point(b"P\tA1\t1\t6\t2100001\t1\t2\t3\n");
-    point(b"P\tA1\t1\t6\t2000000\t-640000000001\t2\t3\n");
-    point(b"P\tA1\t1\t6\t2000000\t1\t640000000001\t3\n");
-    point(b"P\tA1\t1\t6\t0\t1\t2\t10000000000000\n");
-    point(b"P\tA1\t1\t6\t0\t1\t2\t3\n");
-    point(b"P\tA1\t1\t1\t2000000\t1\t2\t3\n");
-    point(b"P\tA1\t1\t2\t1980000\t1\t2\t3\n");
+    point(b"P\tA1\t0\t1\t6\t2000000\t1\t2\t3\n");
+    point(b"P\tA1\t65536\t1\t6\t2000000\t1\t2\t3\n");
+    point(b"P\tA1\t-1\t1\t6\t2000000\t1\t2\t3\n");
+    point(b"P\tA1\t18446744073709551617\t1\t6\t2000000\t1\t2\t3\n");
+    point(b"P\tA1\t1\t1\t0\t2000000\t1\t2\t3\n");
+    point(b"P\tA1\t1\t1\t11\t2000000\t1\t2\t3\n");
+    point(b"P\tA1\t1\t1\t6\t1979999\t1\t2\t3\n");
+    point(b"P\tA1\t1\t1\t6\t2100001\t1\t2\t3\n");
+    point(b"P\tA1\t1\t1\t6\t2000000\t-640000000001\t2\t3\n");
+    point(b"P\tA1\t1\t1\t6\t2000000\t1\t640000000001\t3\n");
+    point(b"P\tA1\t1\t1\t6\t0\t1\t2\t10000000000000\n");
+    point(b"P\tA1\t1\t1\t6\t0\t1\t2\t3\n");
+    point(b"P\tA1\t1\t1\t1\t2000000\t1\t2\t3\n");
+    point(b"P\tA1\t1\t1\t2\t1980000\t1\t2\t3\n");
     point(
-        b"P\tA1\t1\t6\t2000000\t0\t0\t1111111111111111111111111111111111111111111111111111111111111111111111111111111111111111111111111111111111111111111111111111111111111111111111111111111111111111111111111111111111\n",
+        b"P\tA1\t1\t1\t6\t2000000\t0\t0\t11111111111111111111111111111111111111111111111111111111111111111111111111111111111111111111111111111111111111111111111111111111111111111111111111111111111111111111111111111111\n",
     );
     point(
-        b"P\tA1\t1\t6\t2000000\t0\t0\t11111111111111111111111111111111111111111111111111111111111111111111111111111111111111111111111111111111111111111111111111111111111111111111111111111111111111111111111111111111111\n",
+        b"P\tA1\t1\t1\t6\t2000000\t0\t0\t111111111111111111111111111111111111111111111111111111111111111111111111111111111111111111111111111111111111111111111111111111111111111111111111111111111111111111111111111111111\n",
     );
 }
 
@@ -99,7 +99,7 @@ fn steps_of_bad_form() {
     step(b"S\tF\t9\t2010000\t10\n");
     step(b"S\n");
     step(b"S\tF\t9\t2010000\t10\t2010000");
-    step(b"P\tA1\t1\t6\t2000000\t1\t2\t3\n");
+    step(b"P\tA1\t1\t1\t6\t2000000\t1\t2\t3\n");
 }
 
 fn steps_out_of_range() {
@@ -148,53 +148,53 @@ fn positions() {
 
 fn later_lines() {
     later(
-        b"P\tA1\t10\t6\t2000000\t1\t2\t3\n",
-        b"P\tA1\t9\t6\t2000000\t1\t2\t3\n",
+        b"P\tA1\t10\t1\t6\t2000000\t1\t2\t3\n",
+        b"P\tA1\t9\t1\t6\t2000000\t1\t2\t3\n",
     );
     later(
-        b"P\tA1\t9\t6\t2000000\t1\t2\t3\n",
-        b"P\tA1\t10\t6\t2000000\t1\t2\t3\n",
+        b"P\tA1\t9\t1\t6\t2000000\t1\t2\t3\n",
+        b"P\tA1\t10\t1\t6\t2000000\t1\t2\t3\n",
     );
     later(
-        b"P\tA1\t9\t6\t2000000\t1\t2\t3\n",
-        b"P\tA1\t9\t6\t2000000\t1\t2\t3\n",
+        b"P\tA1\t9\t1\t6\t2000000\t1\t2\t3\n",
+        b"P\tA1\t9\t1\t6\t2000000\t1\t2\t3\n",
     );
     later(
-        b"P\tA1\t9\t6\t2000000\t1\t2\t3\n",
-        b"P\tA1\t9\t6\t2000000\t1\t2\t4\n",
+        b"P\tA1\t9\t1\t6\t2000000\t1\t2\t3\n",
+        b"P\tA1\t9\t1\t6\t2000000\t1\t2\t4\n",
     );
     later(
-        b"P\tA1\t9\t6\t2000000\t1\t2\t3\n",
-        b"P\tA2\t10\t6\t2000000\t1\t2\t3\n",
+        b"P\tA1\t9\t1\t6\t2000000\t1\t2\t3\n",
+        b"P\tA2\t10\t1\t6\t2000000\t1\t2\t3\n",
     );
     later(
-        b"P\tA1\t9\t6\t0\t1\t2\t3\n",
-        b"P\tA1\tx\t6\t2000000\t1\t2\t3\n",
+        b"P\tA1\t9\t1\t6\t0\t1\t2\t3\n",
+        b"P\tA1\tx\t1\t6\t2000000\t1\t2\t3\n",
     );
     later(
-        b"P\tA1\t0\t6\t2000000\t1\t2\t3\n",
-        b"P\tA1\tx\t6\t2000000\t1\t2\t3\n",
+        b"P\tA1\t0\t1\t6\t2000000\t1\t2\t3\n",
+        b"P\tA1\tx\t1\t6\t2000000\t1\t2\t3\n",
     );
     later(
-        b"P\tA1\t01\t6\t2000000\t1\t2\t3\n",
-        b"P\tA1\t0\t6\t2000000\t1\t2\t3\n",
+        b"P\tA1\t01\t1\t6\t2000000\t1\t2\t3\n",
+        b"P\tA1\t0\t1\t6\t2000000\t1\t2\t3\n",
     );
     later(
-        b"P\tA1\t9\t6\t2000000\t1\t2\t3\n",
-        b"P\tA1\t0\t6\t2000000\t1\t2\t3\n",
+        b"P\tA1\t9\t1\t6\t2000000\t1\t2\t3\n",
+        b"P\tA1\t0\t1\t6\t2000000\t1\t2\t3\n",
     );
     later(
-        b"P\tA1\t9\t6\t2000000\t1\t2\t3\n",
-        b"P\tA2\t9\t6\t0\t1\t2\t3\n",
+        b"P\tA1\t9\t1\t6\t2000000\t1\t2\t3\n",
+        b"P\tA2\t9\t1\t6\t0\t1\t2\t3\n",
     );
     later(b"", b"");
     later(
-        b"P\tA1\t9\t6\t2000000\t1\t2\t3\n",
-        b"P\tA1\t10\t6\t2000000\t1\tx\t3\n",
+        b"P\tA1\t9\t1\t6\t2000000\t1\t2\t3\n",
+        b"P\tA1\t10\t1\t6\t2000000\t1\tx\t3\n",
     );
     later(
-        b"P\tA1\t9\t6\t2000000\t1\t2\t3\n",
-        b"P\tA1\t10\t6\t2000000\t1\t2\t3",
+        b"P\tA1\t9\t1\t6\t2000000\t1\t2\t3\n",
+        b"P\tA1\t10\t1\t6\t2000000\t1\t2\t3",
     );
 }
 
@@ -206,9 +206,9 @@ fn faults_in_order() {
     step(b"S\tB\t01\n");
     step(b"S\tT\t01\t2000000\t6\t2006586\t1\t2\n");
     step(b"T\tX\t01");
-    point(b"P\ta1\t1\t6\t2000000\t1\t2\n");
-    point(b"P\ta1\t01\t6\t2000000\t1\t2\t3\n");
-    point(b"P\tA1\t1\t06\t2000000\t1\t2\tx\n");
+    point(b"P\ta1\t1\t1\t6\t2000000\t1\t2\n");
+    point(b"P\ta1\t01\t1\t6\t2000000\t1\t2\t3\n");
+    point(b"P\tA1\t1\t1\t06\t2000000\t1\t2\tx\n");
     point(b"p\ta1\t01\n");
     point(b"p\ta1\t01");
     origin(b"O\t1\t0\t036720000000\t0\n");
@@ -216,23 +216,23 @@ fn faults_in_order() {
 }
 
 fn numbers_and_names() {
-    point(b"P\tA1\t1\t6\t2000000\t0\t2\t3\n");
-    point(b"P\tA1\t1\t6\t2000000\t-5\t2\t3\n");
-    point(b"P\tA1\t1\t6\t2000000\t9999999999999\t2\t3\n");
-    point(b"P\tA1\t1\t6\t2000000\t-9999999999999\t2\t3\n");
-    point(b"P\tA1\t1\t6\t2000000\t10000000000000\t2\t3\n");
-    point(b"P\tA1\t1\t6\t2000000\t-10000000000000\t2\t3\n");
-    point(b"P\tA1\t1\t6\t2000000\t18446744073709551616\t2\t3\n");
-    point(b"P\tA1\t1\t6\t2000000\t-123456789012345678901234567890\t2\t3\n");
-    point(b"P\tA1\t1\t6\t2000000\t\t2\t3\n");
-    point(b"P\tA1\t1\t6\t2000000\t-\t2\t3\n");
-    point(b"P\tA1\t1\t6\t2000000\t00\t2\t3\n");
-    point(b"P\tA1\t1\t6\t2000000\t-0\t2\t3\n");
-    point(b"P\tA1\t1\t6\t2000000\t+1\t2\t3\n");
-    point(b"P\tA1\t1\t6\t2000000\t1\t\t2\t3\n");
-    point(b"P\tA1\t1\t6\t2000000\t1\n\t2\t3\n");
-    point(b"P\tA1\t1\t6\t2000000\t12a\t2\t3\n");
-    point(b"P\tA1\t1\t6\t2000000\t123456789012345678901234567890x\t2\t3\n");
+    point(b"P\tA1\t1\t1\t6\t2000000\t0\t2\t3\n");
+    point(b"P\tA1\t1\t1\t6\t2000000\t-5\t2\t3\n");
+    point(b"P\tA1\t1\t1\t6\t2000000\t9999999999999\t2\t3\n");
+    point(b"P\tA1\t1\t1\t6\t2000000\t-9999999999999\t2\t3\n");
+    point(b"P\tA1\t1\t1\t6\t2000000\t10000000000000\t2\t3\n");
+    point(b"P\tA1\t1\t1\t6\t2000000\t-10000000000000\t2\t3\n");
+    point(b"P\tA1\t1\t1\t6\t2000000\t18446744073709551616\t2\t3\n");
+    point(b"P\tA1\t1\t1\t6\t2000000\t-123456789012345678901234567890\t2\t3\n");
+    point(b"P\tA1\t1\t1\t6\t2000000\t\t2\t3\n");
+    point(b"P\tA1\t1\t1\t6\t2000000\t-\t2\t3\n");
+    point(b"P\tA1\t1\t1\t6\t2000000\t00\t2\t3\n");
+    point(b"P\tA1\t1\t1\t6\t2000000\t-0\t2\t3\n");
+    point(b"P\tA1\t1\t1\t6\t2000000\t+1\t2\t3\n");
+    point(b"P\tA1\t1\t1\t6\t2000000\t1\t\t2\t3\n");
+    point(b"P\tA1\t1\t1\t6\t2000000\t1\n\t2\t3\n");
+    point(b"P\tA1\t1\t1\t6\t2000000\t12a\t2\t3\n");
+    point(b"P\tA1\t1\t1\t6\t2000000\t123456789012345678901234567890x\t2\t3\n");
     geodetic(b"G\tA\t0\t36720000000\n");
     geodetic(b"G\tEIGHT-88\t0\t36720000000\n");
     geodetic(b"G\tNINE-NINE\t0\t36720000000\n");
@@ -242,6 +242,31 @@ fn numbers_and_names() {
     geodetic(b"G\ta\t0\t36720000000\n");
     geodetic(b"G\tA\t\t0\t36720000000\n");
     geodetic(b"G\tA B\t0\t36720000000\n");
+}
+
+// Orders of control: 1 to 4, after the issue; lines of eight fields have none. They don't decide the later of two.
+fn orders() {
+    point(b"P\tA1\t1\t4\t6\t2000000\t1\t2\t3\n");
+    point(b"P\tA1\t1\t0\t6\t2000000\t1\t2\t3\n");
+    point(b"P\tA1\t1\t5\t6\t2000000\t1\t2\t3\n");
+    point(b"P\tA1\t1\t6\t2000000\t1\t2\t3\n");
+    point(b"P\tA1\t1\t04\t6\t2000000\t1\t2\t3\n");
+    later(
+        b"P\tA1\t9\t1\t6\t2000000\t1\t2\t3\n",
+        b"P\tA1\t9\t2\t6\t2000000\t1\t2\t3\n",
+    );
+    later(
+        b"P\tA1\t9\t1\t6\t2000000\t1\t2\t3\n",
+        b"P\tA1\t10\t4\t6\t2000000\t1\t2\t3\n",
+    );
+    later(
+        b"P\tA1\t10\t4\t6\t2000000\t1\t2\t3\n",
+        b"P\tA1\t9\t1\t6\t2000000\t1\t2\t3\n",
+    );
+    later(
+        b"P\tA1\t9\t5\t6\t2000000\t1\t2\t3\n",
+        b"P\tA1\t9\t1\t6\t0\t1\t2\t3\n",
+    );
 }
 
 fn main() {
@@ -257,4 +282,5 @@ fn main() {
     later_lines();
     numbers_and_names();
     faults_in_order();
+    orders();
 }

@@ -49,11 +49,11 @@ module _ (s : Sheet) (l : List ℕ) (some : 0 < length l) (few : s .line < 10000
       good zero h = omega arith
       good (suc n) h = refused (suc n) h
 
-  -- a good point line has 16 bytes or more, and the point's new line at most 78
+  -- a good point line has 18 bytes or more, and the point's new line at most 80
   point : Fits (length l) (pointReply s (readPoint l))
   point = point-outcome (λ (r : PointLine). Fits (length l) (pointReply s r)) l good bad-form refused
     where
-      good : (p : Point) → pointFault p ≡ 0 → 16 ≤ length l → Fits (length l) (pointReply s (point-line.Point p))
+      good : (p : Point) → pointFault p ≡ 0 → 18 ≤ length l → Fits (length l) (pointReply s (point-line.Point p))
       good p f h = go (s .refused)
         where
           go : (b : Bool) → Fits (length l) (pick b (refuse s refusal.earlier) (conversionReply s (forwardOf (chainOf (s .steps)) p)))

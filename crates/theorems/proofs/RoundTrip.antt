@@ -13,6 +13,7 @@ use Rattle.rounding.proofs.Machine.{of₃}
 use Rattle.chain.specs.declared.Position.{Position}
 use Rattle.chain.specs.declared.Realization.{Realization}
 use Rattle.chain.specs.declared.Id.{Id}
+use Rattle.chain.specs.declared.Label.{Label}
 use Rattle.chain.specs.declared.Point.{Point}
 use Rattle.chain.specs.declared.Kind.{Kind}
 use Rattle.chain.specs.declared.Kind.the-variants.{Shift, Velocity, BursaWolf, Frame}
@@ -106,6 +107,7 @@ returned :
 returned n p q r there home e f d o = record {
   id = ap (λ (t : Point). t .label .id) f ∙ ap (λ (t : Point). t .label .id) e;
   issue = ap (λ (t : Point). t .label .issue) f ∙ ap (λ (t : Point). t .label .issue) e;
+  order = ap (λ (t : Point). t .label .order) f ∙ ap (λ (t : Point). t .label .order) e;
   datum = ap (λ (t : Point). t .realization .datum) f ∙ d .0;
   epoch = ap (λ (t : Point). t .realization .epoch) f ∙ d .1;
   x = NatL.le-trans (o .on onX) (omega arith);
@@ -139,7 +141,9 @@ same-number x y h = let f = unabs 0 h (v x ⊖ v y) in eq (v x) (v y) (omega ari
 
 exactly : Exactly
 exactly p r h =
-    ap₂ (λ (i : Id) (n : ℤ). record { label = record { id = i; issue = n }; realization = r .realization; position = r .position }) (h .id) (h .issue)
+    ap (λ (l : Label). record { label = l; realization = r .realization; position = r .position })
+    (ap (λ (i : Id). record { id = i; issue = r .label .issue; order = r .label .order }) (h .id)
+    ∙ ap₂ (λ (n o : ℤ). record { id = p .label .id; issue = n; order = o }) (h .issue) (h .order))
     ∙ ap₂ (movedTo p) (ap₂ (λ (d e : ℤ). record { datum = d; epoch = e }) (h .datum) (h .epoch))
     (of₃ (λ (x y z : ℤ). record { x = x; y = y; z = z }) (same-number _ _ (h .x)) (same-number _ _ (h .y)) (same-number _ _ (h .z)))
 

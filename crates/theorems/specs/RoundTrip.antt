@@ -24,10 +24,11 @@ abbrev pub inexactSteps : List Step → ℕ
 inexactSteps [] = 0
 inexactSteps (s ∷ ss) = inexact (s .kind) + inexactSteps ss
 
--- r is p come back: id, issue, datum and epoch equal, and no coordinate more than n units off
+-- r is p come back: id, issue, order, datum and epoch equal, and no coordinate more than n units off
 pub record Returned (n : ℕ) (p r : Point) : Type 0 where
   pub id : r .label .id ≡ p .label .id
   pub issue : r .label .issue ≡ p .label .issue
+  pub order : r .label .order ≡ p .label .order
   pub datum : r .realization .datum ≡ p .realization .datum
   pub epoch : r .realization .epoch ≡ p .realization .epoch
   pub x : natAbs (r .position .x -ℤ p .position .x) ≤ n

@@ -28,7 +28,7 @@ PointBack = (p : Point) (name : List ℕ) → nameOf name ≡ some (p .label .id
 
 -- ---- how long a written line is, its line feed counted
 pub record Lengths : Type 0 where
-  pub point : (p : Point) → pointFault p ≡ 0 → length (pointText p) ≤ 78
+  pub point : (p : Point) → pointFault p ≡ 0 → length (pointText p) ≤ 80
   pub projected : (id : Id) (e n : ℤ) → natAbs e < 10 ^ 18 → natAbs n < 10 ^ 18 → length (projectedText id e n) ≤ 60
   pub refusal : (line number place k : ℕ) → line < 100000 → number < 100 → place < 10 ^ suc k → length (refusalText line number place) ≤ 12 + suc k
 

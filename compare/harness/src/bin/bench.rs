@@ -9,6 +9,7 @@ use harness::programs::Programs;
 use harness::rng::Rng;
 use harness::{arguments, product};
 use paper::library::radians;
+use paper::numbers::PointRow;
 use paper::oblique::Oblique;
 use paper::rso::Parameters;
 use std::hint::black_box;
@@ -147,12 +148,12 @@ fn calls<T>(report: &mut Report, name: &str, items: &[T], mut ours: impl FnMut(&
 fn conversions(report: &mut Report, rng: &mut Rng, chains: &Chains) {
     let rows = full::rows(rng, chains, "BBBBBBBB");
     let chain: Vec<i64> = rows.concat();
-    let mut points = |datum: i64, epoch: i64| -> Vec<[i64; 6]> {
-        let point = |[x, y, z]: [i64; 3]| [1, datum, epoch, x, y, z];
+    let mut points = |datum: i64, epoch: i64| -> Vec<PointRow> {
+        let point = |[x, y, z]: [i64; 3]| [1, 1, datum, epoch, x, y, z];
         (0..CALLS).map(|_| point(full::inside(rng))).collect()
     };
     let (start, end) = (points(rows[0][2], rows[0][3]), points(rows[7][4], rows[7][5]));
-    let mut out = [0; 6];
+    let mut out = [0; 7];
     calls(
         report,
         "forward, eight B steps",

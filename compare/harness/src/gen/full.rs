@@ -51,10 +51,10 @@ pub fn refusals(rng: &mut Rng, chains: &Chains, size: usize) -> Vec<u8> {
         let position = inside(rng);
         let mut point = points::point(rng, place, position);
         match count % 5 {
-            0 => point[2] = 0,
-            1 => point[3] = 700_000_000_000,
-            2 => point[5] = -1,
-            3 => point[1] = 3 + (point[1] - 2) % 8,
+            0 => point[3] = 0,
+            1 => point[4] = 700_000_000_000,
+            2 => point[6] = -1,
+            3 => point[2] = 3 + (point[2] - 2) % 8,
             _ => return lines::point(b"a1", &point),
         }
         lines::point(&lines::id(rng), &point)

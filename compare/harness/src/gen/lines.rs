@@ -3,6 +3,7 @@
 use super::chains::Row;
 use super::numbers::{damaged, within, GIVEN};
 use crate::rng::Rng;
+use paper::numbers::PointRow;
 
 pub fn id(rng: &mut Rng) -> Vec<u8> {
     let length = rng.pick(&[1, 2, 3, 8, 15, 16]);
@@ -19,7 +20,7 @@ fn texts(numbers: &[i64]) -> impl Iterator<Item = Vec<u8>> + '_ {
     numbers.iter().map(|number| number.to_string().into_bytes())
 }
 
-pub fn point(id: &[u8], point: &[i64; 6]) -> Vec<u8> {
+pub fn point(id: &[u8], point: &PointRow) -> Vec<u8> {
     let mut fields = vec![b"P".to_vec(), id.to_vec()];
     fields.extend(texts(point));
     joined(&fields)

@@ -1,9 +1,10 @@
 //! Pairs of point lines for the later of two.
 
-use super::numbers::{realization, within, ISSUE};
+use super::numbers::{realization, within, ISSUE, ORDER};
 use super::sheets::spoiled;
 use super::{lines, points};
 use crate::rng::Rng;
+use paper::numbers::PointRow;
 
 pub fn pair(rng: &mut Rng) -> [Vec<u8>; 2] {
     let name = lines::id(rng);
@@ -11,6 +12,9 @@ pub fn pair(rng: &mut Rng) -> [Vec<u8>; 2] {
     let mut second = if rng.once_in(2) { first } else { point(rng) };
     if rng.once_in(2) {
         second[0] = issue(rng, first[0]);
+    }
+    if rng.once_in(4) {
+        second[1] = rng.between(ORDER.0, ORDER.1);
     }
     let other_name = if rng.once_in(8) { other_id(rng, &name) } else { name.clone() };
     let pair = [lines::point(&name, &first), lines::point(&other_name, &second)];
@@ -31,7 +35,7 @@ fn with_a_line_feed(rng: &mut Rng, mut line: Vec<u8>) -> Vec<u8> {
     line
 }
 
-fn point(rng: &mut Rng) -> [i64; 6] {
+fn point(rng: &mut Rng) -> PointRow {
     let position = points::position(rng);
     let place = realization(rng);
     let mut point = points::point(rng, place, position);

@@ -1,8 +1,8 @@
 -- `capi::conversion::give` meets its contract: a refusal writes nothing, and what is given is stored from the first element on. Assumes nothing.
 use borrow.Author.Needs.{needs}
-use mathlib.Core.Path.{_∙_, ap}
+use mathlib.Core.Path.{_≡_, _∙_, ap}
 use native.Mathlib.Omega.{arith}
-use lib.ListN.{length-set}
+use lib.ListN.{length, length-set}
 use Rattle.rounding.proofs.Machine.{told}
 use Rattle.capi.specs.Calls.{ofAnswer}
 use Rattle.capi.proofs.Laws.{declined, numbers}
@@ -19,23 +19,30 @@ status-requires c κs = search needs
 enum-known-answer-2 : tie.Need-enum-known-answer-2
 enum-known-answer-2 c = search needs
 
+-- the room there is
+room : (c : tie.After-struct-told7) → length (c .before .before .before .before .before .before .before .before .before .before .args .out .now) ≡ 7
+room c = c .before .before .before .before .before .before .before .before .before .before .pre
+
 slice-set-from-issue : tie.Need-slice-set-from-issue
-slice-set-from-issue c = search needs
+slice-set-from-issue c = omega (arith, room c)
+
+slice-set-from-order : tie.Need-slice-set-from-order
+slice-set-from-order c = simp length-set (omega (arith, room c))
 
 slice-set-from-datum : tie.Need-slice-set-from-datum
-slice-set-from-datum c = search needs
+slice-set-from-datum c = simp length-set (omega (arith, room c))
 
 slice-set-from-epoch : tie.Need-slice-set-from-epoch
-slice-set-from-epoch c = search needs
+slice-set-from-epoch c = simp length-set (omega (arith, room c))
 
 slice-set-from-x : tie.Need-slice-set-from-x
-slice-set-from-x c = search needs
+slice-set-from-x c = simp length-set (omega (arith, room c))
 
 slice-set-from-y : tie.Need-slice-set-from-y
-slice-set-from-y c = simp length-set (omega arith)
+slice-set-from-y c = simp length-set (omega (arith, room c))
 
 slice-set-from-z : tie.Need-slice-set-from-z
-slice-set-from-z c = simp length-set (omega arith)
+slice-set-from-z c = simp length-set (omega (arith, room c))
 
 returns : tie.Need-returns
 returns c = declined (ap ofAnswer (c .before .before .answer .given .1)) (told (c .status .ok) ∙ c .status .ensures)
@@ -46,12 +53,12 @@ same-length c = simp length-set
 returns-2 : tie.Need-returns-2
 unfolding pointNumbers
 returns-2 c =
-    let c7 = c .before .before .before .before .before .before .before in
-    let c9 = c7 .before .before in
-    let p = c .struct-told6 .given in
+    let p = c .struct-told7 .given in
+    let l = p .0 .1 .1 .1 in
     let r = p .1 .0 .1 .1 in
     let x = p .1 .1 .0 .1 .1 in
-    numbers (ap ofAnswer (c7 .answer2 .given .1)) (p .0 .1 .1 .1 .0 .1, (r .0 .1, (r .1 .0 .1, (x .0 .1, (x .1 .0 .1, (x .1 .1 .0 .1, tt)))))) (c9 .pre)
+    numbers (ap ofAnswer (c .before .before .before .before .before .before .before .before .answer2 .given .1))
+    (l .0 .1, (l .1 .0 .1, (r .0 .1, (r .1 .0 .1, (x .0 .1, (x .1 .0 .1, (x .1 .1 .0 .1, tt))))))) (room c)
 
 pub give-spec : {M : Type 1} → statement M
 give-spec =
@@ -61,6 +68,7 @@ give-spec =
     status-requires
     enum-known-answer-2
     slice-set-from-issue
+    slice-set-from-order
     slice-set-from-datum
     slice-set-from-epoch
     slice-set-from-x

@@ -8,20 +8,23 @@ use Rattle.capi.proofs.conversion.point_from.Tie as tie
 shared-slice-copy-out-t4 : tie.Need-shared-slice-copy-out-t4
 shared-slice-copy-out-t4 c = search needs
 
-shared-slice-copy-out-t7 : tie.Need-shared-slice-copy-out-t7
-shared-slice-copy-out-t7 c = search needs
+shared-slice-copy-out-t6 : tie.Need-shared-slice-copy-out-t6
+shared-slice-copy-out-t6 c = search needs
 
 shared-slice-copy-out-t9 : tie.Need-shared-slice-copy-out-t9
 shared-slice-copy-out-t9 c = search needs
 
-shared-slice-copy-out-t12 : tie.Need-shared-slice-copy-out-t12
-shared-slice-copy-out-t12 c = search needs
+shared-slice-copy-out-t11 : tie.Need-shared-slice-copy-out-t11
+shared-slice-copy-out-t11 c = search needs
 
 shared-slice-copy-out-t14 : tie.Need-shared-slice-copy-out-t14
 shared-slice-copy-out-t14 c = search needs
 
 shared-slice-copy-out-t16 : tie.Need-shared-slice-copy-out-t16
 shared-slice-copy-out-t16 c = search needs
+
+shared-slice-copy-out-t18 : tie.Need-shared-slice-copy-out-t18
+shared-slice-copy-out-t18 c = search needs
 
 returns : tie.Need-returns
 unfolding pointFrom
@@ -30,16 +33,17 @@ returns c =
     let c3 = c2 .before in
     let c4 = c3 .before in
     let c5 = c4 .before in
-    rw (told (c5 .t4 .given), told (c4 .t7 .given), told (c3 .t9 .given), told (c2 .t12 .given), told (c .before .t14 .given), told (c .t16 .given))
+    rw (told (c5 .before .t4 .given), told (c5 .t6 .given), told (c4 .t9 .given), told (c3 .t11 .given), told (c2 .t14 .given), told (c .before .t16 .given), told (c .t18 .given))
 
 pub point-from-spec : {M : Type 1} → statement M
 point-from-spec =
     tie.close
     (tie.spec
     shared-slice-copy-out-t4
-    shared-slice-copy-out-t7
+    shared-slice-copy-out-t6
     shared-slice-copy-out-t9
-    shared-slice-copy-out-t12
+    shared-slice-copy-out-t11
     shared-slice-copy-out-t14
     shared-slice-copy-out-t16
+    shared-slice-copy-out-t18
     returns)

@@ -1,15 +1,12 @@
 -- `chain::points::point_in_range` meets its contract. Assumes nothing.
-use mathlib.Core.Path.{_∙_, ap, ap₂}
+use mathlib.Core.Path.{ap₂}
 use mathlib.Core.Bool.{_&&_}
-use lib.IntN.{ℤ, pos}
-use Rattle.rounding.proofs.Machine.{told}
-use Rattle.ranges.specs.Ranges.{within}
 use Rattle.chain.specs.Faults.{pointRange}
 use Rattle.chain.proofs.points.point_in_range.Statement.{statement}
 use Rattle.chain.proofs.points.point_in_range.Tie as tie
 
-within-requires : tie.Need-within-requires
-within-requires c κs = tt
+label-in-range-requires : tie.Need-label-in-range-requires
+label-in-range-requires c κs = tt
 
 realization-in-range-requires : tie.Need-realization-in-range-requires
 realization-in-range-requires c κs = tt
@@ -19,9 +16,7 @@ given-requires c κs = tt
 
 returns : tie.Need-returns
 unfolding pointRange
-returns c =
-    let p = c .before .before .before .struct-told .given in
-    ap₂ _&&_ (ap₂ _&&_ (c .before .before .within .ensures ∙ ap (λ (z : ℤ). within (pos 1) z (pos 65535)) (told (p .1 .0 .1))) (c .before .realization-in-range .ensures)) (c .given .ensures)
+returns c = ap₂ _&&_ (ap₂ _&&_ (c .before .before .label-in-range .ensures) (c .before .realization-in-range .ensures)) (c .given .ensures)
 
 pub point-in-range-spec : {M : Type 1} → statement M
-point-in-range-spec = tie.close (tie.spec within-requires realization-in-range-requires given-requires returns)
+point-in-range-spec = tie.close (tie.spec label-in-range-requires realization-in-range-requires given-requires returns)

@@ -27,7 +27,7 @@ named-at-requires c κs = search needs
 returns-2 : tie.Need-returns-2
 returns-2 c =
     let g = c .before .before .before .args in
-    c .named-at .ensures ∙ rest (g .first) (g .kind) (g .index) (identifier ∷ numbers 6)
+    c .named-at .ensures ∙ rest (g .first) (g .kind) (g .index) (identifier ∷ numbers 7)
     (rw (eq-eqb _ _ (c .before .if2 .taken))) (omega arith)
 
 step-at-requires : tie.Need-step-at-requires

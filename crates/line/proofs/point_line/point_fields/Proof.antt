@@ -1,7 +1,11 @@
 -- `line::point_line::point_fields` meets its contract. Assumes nothing.
 use mathlib.Core.Path.{_≡_, _∙_}
+use Prim.Native.Nat.{_<_}
+use lib.IntN.{ℤ}
+use lib.Signed.{mag}
 use mir.Syntax.{w64}
 use mir.Val.{toZ, ofZ}
+use mir.Facts.{toZ-ofZ}
 use Rattle.line.proofs.Walk as W
 use Rattle.line.specs.Forms.{pointForm}
 use borrow.Author.Needs.{needs}
@@ -32,38 +36,51 @@ number-requires-5 c κs = search needs
 number-requires-6 : tie.Need-number-requires-6
 number-requires-6 c κs = search needs
 
+number-requires-7 : tie.Need-number-requires-7
+number-requires-7 c κs = search needs
+
+-- a number, as the machine reads it
+told : {z : ℤ} → mag z < 9223372036854775808 → toZ w64 (ofZ w64 z) ≡ z
+told h = toZ-ofZ (record { sfits = h })
+
 returns : tie.Need-returns
 unfolding pointForm
 returns c =
-    let n1 = c .before .before .before .before .before .before .before .before .before .before .before .before .before .name in
-    let n2 = c .before .before .before .before .before .before .before .before .before .before .before .number in
-    let n3 = c .before .before .before .before .before .before .before .before .before .before .number2 in
-    let n4 = c .before .before .before .before .before .before .before .before .before .number3 in
-    let n5 = c .before .before .before .before .before .before .before .before .number4 in
-    let n6 = c .before .before .before .before .before .before .before .number5 in
-    let n7 = c .before .before .before .before .before .before .number6 in
-    let e2 : toZ w64 (ofZ w64 (n2 .result .value)) ≡ n2 .result .value = search needs in
-    let e3 : toZ w64 (ofZ w64 (n3 .result .value)) ≡ n3 .result .value = search needs in
-    let e4 : toZ w64 (ofZ w64 (n4 .result .value)) ≡ n4 .result .value = search needs in
-    let e5 : toZ w64 (ofZ w64 (n5 .result .value)) ≡ n5 .result .value = search needs in
-    let e6 : toZ w64 (ofZ w64 (n6 .result .value)) ≡ n6 .result .value = search needs in
-    let e7 : toZ w64 (ofZ w64 (n7 .result .value)) ≡ n7 .result .value = search needs in
-    let l6 = W.lost (n7 .ensures) in
+    let c7 = c .before .before .before .before .before .before .before in
+    let c12 = c7 .before .before .before .before .before in
+    let n1 = c12 .before .before .before .name in
+    let n2 = c12 .before .number in
+    let n3 = c12 .number2 in
+    let n4 = c7 .before .before .before .before .number3 in
+    let n5 = c7 .before .before .before .number4 in
+    let n6 = c7 .before .before .number5 in
+    let n7 = c7 .before .number6 in
+    let n8 = c7 .number7 in
+    let e2 = told (n2 .ok .1 .1 .0 .1) in
+    let e3 = told (n3 .ok .1 .1 .0 .1) in
+    let e4 = told (n4 .ok .1 .1 .0 .1) in
+    let e5 = told (n5 .ok .1 .1 .0 .1) in
+    let e6 = told (n6 .ok .1 .1 .0 .1) in
+    let e7 = told (n7 .ok .1 .1 .0 .1) in
+    let e8 = told (n8 .ok .1 .1 .0 .1) in
+    let l7 = W.lost (n8 .ensures) in
+    let l6 = W.lost-on (n7 .ensures) l7 in
     let l5 = W.lost-on (n6 .ensures) l6 in
     let l4 = W.lost-on (n5 .ensures) l5 in
     let l3 = W.lost-on (n4 .ensures) l4 in
     let l2 = W.lost-on (n3 .ensures) l3 in
     let l1 = W.lost-on (n2 .ensures) l2 in
     let l0 = W.lost-on (n1 .ensures) l1 in
-    W.more (c .before .before .before .before .before .before .before .before .before .before .before .before .before .before .letter .ensures) l0 λ _ _ _.
+    W.more (c12 .before .before .before .before .letter .ensures) l0 λ _ _ _.
     W.more (n1 .ensures) l1 λ z1 q1 _.
     W.more (n2 .ensures) l2 λ z2 q2 _.
     W.more (n3 .ensures) l3 λ z3 q3 _.
     W.more (n4 .ensures) l4 λ z4 q4 _.
     W.more (n5 .ensures) l5 λ z5 q5 _.
     W.more (n6 .ensures) l6 λ z6 q6 _.
-    W.more (n7 .ensures) (λ h. h) λ z7 q7 b.
-    W.done (rw (q1, e2 ∙ q2, e3 ∙ q3, e4 ∙ q4, e5 ∙ q5, e6 ∙ q6, e7 ∙ q7)) b
+    W.more (n7 .ensures) l7 λ z7 q7 _.
+    W.more (n8 .ensures) (λ h. h) λ z8 q8 b.
+    W.done (rw (q1, e2 ∙ q2, e3 ∙ q3, e4 ∙ q4, e5 ∙ q5, e6 ∙ q6, e7 ∙ q7, e8 ∙ q8)) b
 
 pub point-fields-spec : {M : Type 1} → statement M
 point-fields-spec =
@@ -77,4 +94,5 @@ point-fields-spec =
     number-requires-4
     number-requires-5
     number-requires-6
+    number-requires-7
     returns)

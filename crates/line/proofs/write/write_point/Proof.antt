@@ -32,6 +32,9 @@ whole-requires-5 c κs = search needs
 whole-requires-6 : tie.Need-whole-requires-6
 whole-requires-6 c κs = search needs
 
+whole-requires-7 : tie.Need-whole-requires-7
+whole-requires-7 c κs = search needs
+
 same-length : tie.Need-same-length
 same-length c =
     let c2 = c .before .before in
@@ -41,8 +44,9 @@ same-length c =
     let c22 = c17 .before .before .before .before .before in
     let c27 = c22 .before .before .before .before .before in
     let c32 = c27 .before .before .before .before .before in
-    let c36 = c32 .before .before .before .before in
-    c2 .whole6 .kept .0 ∙ c7 .whole5 .kept .0 ∙ c12 .whole4 .kept .0 ∙ c17 .whole3 .kept .0 ∙ c22 .whole2 .kept .0 ∙ c27 .whole .kept .0 ∙ c32 .name .kept .0 ∙ c36 .letter .kept .0
+    let c37 = c32 .before .before .before .before .before in
+    let c41 = c37 .before .before .before .before in
+    c2 .whole7 .kept .0 ∙ c7 .whole6 .kept .0 ∙ c12 .whole5 .kept .0 ∙ c17 .whole4 .kept .0 ∙ c22 .whole3 .kept .0 ∙ c27 .whole2 .kept .0 ∙ c32 .whole .kept .0 ∙ c37 .name .kept .0 ∙ c41 .letter .kept .0
 
 -- the point's numbers, as the machine reads them
 module _ (s : tie.Start) where
@@ -51,6 +55,9 @@ module _ (s : tie.Start) where
 
   issue : toZ w64 (ofZ w64 (p .label .issue)) ≡ p .label .issue
   issue = search needs
+
+  order : toZ w64 (ofZ w64 (p .label .order)) ≡ p .label .order
+  order = search needs
 
   datum : toZ w64 (ofZ w64 (p .realization .datum)) ≡ p .realization .datum
   datum = search needs
@@ -76,15 +83,17 @@ returns c =
     let c22 = c17 .before .before .before .before .before in
     let c27 = c22 .before .before .before .before .before in
     let c32 = c27 .before .before .before .before .before in
-    let c36 = c32 .before .before .before .before in
-    let s = c36 .before .before .before in
+    let c37 = c32 .before .before .before .before .before in
+    let c41 = c37 .before .before .before .before in
+    let s = c41 .before .before .before in
     T.says
-    (T.«then» (c36 .letter .ensures)
-    (T.«then» (c32 .name .ensures)
-    (T.«then» (c27 .whole .ensures)
-    (T.«then» (c22 .whole2 .ensures)
-    (T.«then» (c17 .whole3 .ensures) (T.«then» (c12 .whole4 .ensures) (T.«then» (c7 .whole5 .ensures) (c2 .whole6 .ensures))))))))
-    (rw (issue s, datum s, epoch s, x s, y s, z s) (T.point-is (p s)))
+    (T.«then» (c41 .letter .ensures)
+    (T.«then» (c37 .name .ensures)
+    (T.«then» (c32 .whole .ensures)
+    (T.«then» (c27 .whole2 .ensures)
+    (T.«then» (c22 .whole3 .ensures)
+    (T.«then» (c17 .whole4 .ensures) (T.«then» (c12 .whole5 .ensures) (T.«then» (c7 .whole6 .ensures) (c2 .whole7 .ensures)))))))))
+    (rw (issue s, order s, datum s, epoch s, x s, y s, z s) (T.point-is (p s)))
 
 pub write-point-spec : {M : Type 1} → statement M
 write-point-spec =
@@ -98,5 +107,6 @@ write-point-spec =
     whole-requires-4
     whole-requires-5
     whole-requires-6
+    whole-requires-7
     same-length
     returns)

@@ -10,6 +10,7 @@ use Rattle.refusal.specs.Numbers as refusal
 use Rattle.refusal.specs.Order.{pick, Test, first, _gives_, unless}
 use Rattle.chain.specs.declared.Id.{Id}
 use Rattle.chain.specs.declared.Point.{Point}
+use Rattle.chain.specs.Faults.{latest}
 use Rattle.line.specs.declared.PointLine.{PointLine}
 use Rattle.line.specs.declared.PointLine.the-variants as P
 use Rattle.line.specs.declared.Verdict.{Verdict}
@@ -37,7 +38,7 @@ weighTests p q equal = (not (sameName (p .label .id) (q .label .id)) gives refus
 abbrev pub weighed : Point → Point → Bool → Verdict
 weighed p q equal = unless (first (weighTests p q equal)) Refused (pick (ltZ (p .label .issue) (q .label .issue)) Second First)
 
--- 1, 2, 3 of the first line, then of the second
+-- 1, 2, 3 of the first line, then of the second; there is no profile here, and the latest has every datum
 abbrev pub compared : PointLine → PointLine → Bool → Verdict
 compared (P.Malformed f) b equal = Refused (f .number)
 compared (P.Refused n) b equal = Refused n
@@ -46,7 +47,7 @@ compared (P.Point p) (P.Refused n) equal = Refused n
 compared (P.Point p) (P.Point q) equal = weighed p q equal
 
 unfoldable pub laterOf : List ℕ → List ℕ → Verdict
-laterOf s t = compared (readPoint s) (readPoint t) (sameBytes s t)
+laterOf s t = compared (readPoint latest s) (readPoint latest t) (sameBytes s t)
 
 -- the refusal number, 0 for none
 abbrev pub refusalOf : Verdict → ℕ

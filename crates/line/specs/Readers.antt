@@ -4,6 +4,7 @@ use Prim.Native.Nat.{ℕ}
 use mathlib.Core.List.{List}
 use mathlib.Core.Option.{Option, none, some}
 use lib.Dec.{eqb}
+use lib.IntN.{ℤ}
 use Rattle.refusal.specs.Numbers as refusal
 use Rattle.refusal.specs.Order.{pick}
 use Rattle.chain.specs.Faults.{pointFault, stepFault}
@@ -33,13 +34,13 @@ abbrev pub readAs : {A R : Type 0} → (A → ℕ) → (A → R) → (ℕ → R)
 readAs faultOf good refused malformed none = malformed
 readAs faultOf good refused malformed (some a) = judged faultOf good refused a
 
--- 1, 2, 3
-unfoldable pub readPoint : List ℕ → PointLine
-readPoint line = readAs pointFault P.Point P.Refused (P.Malformed (fault refusal.form)) (said pointForm line)
+-- under a profile: 1, 2, 3, 25
+unfoldable pub readPoint : ℤ → List ℕ → PointLine
+readPoint y line = readAs (pointFault y) P.Point P.Refused (P.Malformed (fault refusal.form)) (said pointForm line)
 
--- 1, 2, 3, 4
-unfoldable pub readStep : List ℕ → StepLine
-readStep line = readAs stepFault S.Step S.Refused (S.Malformed (fault refusal.form)) (said stepForm line)
+-- under a profile: 1, 2, 3, 25, 4
+unfoldable pub readStep : ℤ → List ℕ → StepLine
+readStep y line = readAs (stepFault y) S.Step S.Refused (S.Malformed (fault refusal.form)) (said stepForm line)
 
 -- 1, 2, 12
 unfoldable pub readOrigin : List ℕ → OriginLine

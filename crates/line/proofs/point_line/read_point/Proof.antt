@@ -1,8 +1,12 @@
 -- `line::point_line::read_point` meets its contract. Assumes nothing.
-use mathlib.Core.Path.{sym}
+use mathlib.Core.Path.{sym, _∙_, ap}
+use lib.IntN.{ℤ}
+use mir.Facts.{toZ-ofZ}
 use native.Mathlib.Omega.{arith}
 use lib.Seq.{length-take-le}
-use Rattle.line.specs.Readers.{readPoint}
+use Rattle.chain.specs.Faults.{pointFault}
+use Rattle.line.specs.declared.PointLine.the-variants as line
+use Rattle.line.specs.Readers.{judged, readPoint}
 use Rattle.line.proofs.Answers as A
 use Rattle.line.proofs.Faults as F
 use borrow.Author.Needs.{needs}
@@ -30,15 +34,16 @@ returns c =
     let c2 = c .before .before in
     let c4 = c2 .before .before in
     let c7 = c4 .before .before .before in
-    A.good-form _ _ _ F.careful-point _ _ _ _ (c7 .body-end .ensures) (omega arith) (c4 .point-fields .ensures) _ (c2 .if2 .taken) (c .judge-point .ensures)
+    A.good-form _ _ _ (F.careful-point (c7 .before .before .args .profile)) _ _ _ _ (c7 .body-end .ensures) (omega arith) (c4 .point-fields .ensures) _ (c2 .if2 .taken)
+    (c .judge-point .ensures ∙ ap (λ (y : ℤ). judged (pointFault y) line.Point line.Refused (c4 .point-fields .result .point)) (toZ-ofZ (c7 .before .before .fits .profile)))
 
 returns-2 : tie.Need-returns-2
 unfolding readPoint
-returns-2 c = A.bad-form _ _ _ F.careful-point _ _ _ _ (c .before .before .before .before .before .body-end .ensures) (omega arith) (c .before .before .point-fields .ensures) (c .if2 .left)
+returns-2 c = A.bad-form _ _ _ (F.careful-point (c .before .before .before .before .before .before .before .args .profile)) _ _ _ _ (c .before .before .before .before .before .body-end .ensures) (omega arith) (c .before .before .point-fields .ensures) (c .if2 .left)
 
 returns-3 : tie.Need-returns-3
 unfolding readPoint
-returns-3 c = A.bad-frame _ _ _ F.careful-point _ _ _ _ (c .before .body-end .ensures) (omega arith)
+returns-3 c = A.bad-frame _ _ _ (F.careful-point (c .before .before .before .args .profile)) _ _ _ _ (c .before .body-end .ensures) (omega arith)
 
 pub read-point-spec : {M : Type 1} → statement M
 read-point-spec =

@@ -3,13 +3,16 @@
 use crate::check::{self, Kind, Place, Point, Step, JOIN, NINTH};
 use crate::steps::Chain;
 
+/// Issue, order, datum, epoch, X, Y, Z.
+pub type PointRow = [i64; 7];
+
 const WRONG_LENGTH: u8 = 255;
 
-pub fn forward(rows: &[i64], point: &[i64]) -> Result<[i64; 6], u8> {
+pub fn forward(rows: &[i64], point: &[i64]) -> Result<PointRow, u8> {
     convert(rows, point, Chain::forward)
 }
 
-pub fn inverse(rows: &[i64], point: &[i64]) -> Result<[i64; 6], u8> {
+pub fn inverse(rows: &[i64], point: &[i64]) -> Result<PointRow, u8> {
     convert(rows, point, Chain::inverse)
 }
 
@@ -18,19 +21,19 @@ fn convert(
     rows: &[i64],
     point: &[i64],
     way: impl Fn(&Chain, Point) -> Result<Point, u8>,
-) -> Result<[i64; 6], u8> {
-    let &[issue, datum, epoch, x, y, z] = point else { return Err(WRONG_LENGTH) };
+) -> Result<PointRow, u8> {
+    let &[issue, order, datum, epoch, x, y, z] = point else { return Err(WRONG_LENGTH) };
     if !rows.len().is_multiple_of(13) {
         return Err(WRONG_LENGTH);
     }
     let chain = chain(rows)?;
-    let point = Point { issue, place: Place { datum, epoch }, xyz: [x, y, z] };
+    let point = Point { issue, order, place: Place { datum, epoch }, xyz: [x, y, z] };
     let fault = check::point(&point);
     if fault != 0 {
         return Err(fault);
     }
-    let Point { issue, place, xyz: [x, y, z] } = way(&chain, point)?;
-    Ok([issue, place.datum, place.epoch, x, y, z])
+    let Point { issue, order, place, xyz: [x, y, z] } = way(&chain, point)?;
+    Ok([issue, order, place.datum, place.epoch, x, y, z])
 }
 
 fn chain(rows: &[i64]) -> Result<Chain, u8> {

@@ -2,6 +2,7 @@
 //! refusal nothing may be written, and never anything past the lent slice.
 
 use crate::subject::{Answer, Subject, STRANGE, WROTE};
+use paper::numbers::PointRow;
 #[cfg(feature = "standin")]
 use standin as _;
 
@@ -94,6 +95,14 @@ mod c {
             which: *mut i64,
             which_len: usize,
         ) -> i64;
+        pub fn swivelcrane_later_fault(
+            first: *const u8,
+            first_len: usize,
+            second: *const u8,
+            second_len: usize,
+            out: *mut i64,
+            out_len: usize,
+        ) -> i64;
         pub fn swivelcrane_sheet(input: *const u8, input_len: usize, out: *mut u8, out_len: usize) -> i64;
         pub fn swivelcrane_plan(input: *const u8, input_len: usize, out: *mut u8, out_len: usize) -> i64;
     }
@@ -175,6 +184,19 @@ pub fn later(first: &[u8], second: &[u8], which: &mut [i64]) -> i64 {
     }
 }
 
+pub fn later_fault(first: &[u8], second: &[u8], out: &mut [i64]) -> i64 {
+    unsafe {
+        c::swivelcrane_later_fault(
+            first.as_ptr(),
+            first.len(),
+            second.as_ptr(),
+            second.len(),
+            out.as_mut_ptr(),
+            out.len(),
+        )
+    }
+}
+
 pub fn sheet(input: &[u8], out: &mut [u8]) -> i64 {
     unsafe { c::swivelcrane_sheet(input.as_ptr(), input.len(), out.as_mut_ptr(), out.len()) }
 }
@@ -185,15 +207,15 @@ pub fn plan(input: &[u8], out: &mut [u8]) -> i64 {
 
 /// The room that a sheet or plan asks for.
 pub fn room(input: &[u8]) -> usize {
-    11 * input.len().min(65_536) + 7
+    13 * input.len().min(65_536) + 9
 }
 
 pub const MARK: i64 = 0x5a5a_a5a5_1234_4321;
 pub const FLOAT_MARK: f64 = -1.25e300;
 
-/// Lends N places in the midst of eight marked ones.
+/// Lends N places in the midst of sixteen marked ones.
 fn lend<T: Copy + PartialEq, const N: usize>(mark: T, call: impl FnOnce(&mut [T]) -> i64) -> Answer<[T; N]> {
-    let mut places = [mark; 8];
+    let mut places = [mark; 16];
     let number = call(&mut places[1..=N]);
     let touched = |part: &[T]| part.iter().any(|place| *place != mark);
     if touched(&places[..1]) || touched(&places[N + 1..]) {
@@ -202,7 +224,7 @@ fn lend<T: Copy + PartialEq, const N: usize>(mark: T, call: impl FnOnce(&mut [T]
     match number {
         0 => Ok(std::array::from_fn(|i| places[1 + i])),
         _ if touched(&places) => Err(WROTE),
-        1..=23 | 255 => Err(number as u8),
+        2..=23 | 255 => Err(number as u8),
         _ => Err(STRANGE),
     }
 }
@@ -230,10 +252,10 @@ impl Subject for Product {
     fn name(&self) -> &'static str {
         "product"
     }
-    fn forward(&self, chain: &[i64], point: &[i64; 6]) -> Answer<[i64; 6]> {
+    fn forward(&self, chain: &[i64], point: &PointRow) -> Answer<PointRow> {
         lend(MARK, |out| forward(chain, point, out))
     }
-    fn inverse(&self, chain: &[i64], point: &[i64; 6]) -> Answer<[i64; 6]> {
+    fn inverse(&self, chain: &[i64], point: &PointRow) -> Answer<PointRow> {
         lend(MARK, |out| inverse(chain, point, out))
     }
     fn cartesian(&self, n: &[i64; 4]) -> Answer<[f64; 3]> {
@@ -262,6 +284,9 @@ impl Subject for Product {
     }
     fn later(&self, first: &[u8], second: &[u8]) -> Answer<i64> {
         lend(MARK, |which| later(first, second, which)).map(|[which]| which)
+    }
+    fn later_fault(&self, first: &[u8], second: &[u8]) -> Answer<[i64; 3]> {
+        lend(MARK, |out| later_fault(first, second, out))
     }
     fn sheet(&self, input: &[u8]) -> Vec<u8> {
         print(input, sheet)

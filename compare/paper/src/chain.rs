@@ -10,6 +10,8 @@ pub const MOST_STEPS: usize = 8;
 #[derive(Clone, Copy, Debug, PartialEq, Eq)]
 pub struct Point {
     pub issue: i64,
+    /// The order of control: 1 to 4 (request A6).
+    pub order: i64,
     pub at: Realization,
     pub position: ranges::Position,
 }
@@ -44,6 +46,7 @@ pub fn joins(earlier: &[Step], next: &Step) -> bool {
 /// What a point alone decides: 2, 3.
 pub fn point_faults(point: &Point) -> Result<(), Refusal> {
     let in_range = ranges::issue(point.issue)
+        && ranges::order(point.order)
         && step::realization_in_range(point.at)
         && ranges::as_given(&point.position);
     unless(in_range, RANGE)?;

@@ -1,34 +1,35 @@
-//! The rules behind the calls on numbers: 13 numbers a step, 6 a point.
+//! The rules behind the calls on numbers: 13 numbers a step, 7 a point.
 //!
 //! Step: kind and convention as ASCII, datum and epoch before, datum and epoch after, seven numbers.
-//! Point: issue, datum, epoch, X, Y, Z.
+//! Point: issue, order, datum, epoch, X, Y, Z.
 
 use crate::chain::{self, Point};
 use crate::refusal::Refusal;
 use crate::step::{Convention, Kind, Realization, Step};
 
 pub const STEP: usize = 13;
-pub const POINT: usize = 6;
+pub const POINT: usize = 7;
+pub type PointRow = [i64; POINT];
 /// Not a refusal: a slice of the wrong length.
 pub const WRONG_LENGTH: Refusal = 255;
 
-pub fn forward(chain: &[i64], point: &[i64]) -> Result<[i64; POINT], Refusal> {
+pub fn forward(chain: &[i64], point: &[i64]) -> Result<PointRow, Refusal> {
     convert(chain::forward, chain, point)
 }
 
-pub fn inverse(chain: &[i64], point: &[i64]) -> Result<[i64; POINT], Refusal> {
+pub fn inverse(chain: &[i64], point: &[i64]) -> Result<PointRow, Refusal> {
     convert(chain::inverse, chain, point)
 }
 
 type Conversion = fn(&[Step], Point) -> Result<Point, Refusal>;
 
-fn convert(conversion: Conversion, chain: &[i64], point: &[i64]) -> Result<[i64; POINT], Refusal> {
+fn convert(conversion: Conversion, chain: &[i64], point: &[i64]) -> Result<PointRow, Refusal> {
     let steps = steps(chain).ok_or(WRONG_LENGTH)?;
-    let [issue, datum, epoch, x, y, z] = point.try_into().map_err(|_| WRONG_LENGTH)?;
-    let from = Point { issue, at: Realization { datum, epoch }, position: [x, y, z] };
+    let [issue, order, datum, epoch, x, y, z] = point.try_into().map_err(|_| WRONG_LENGTH)?;
+    let from = Point { issue, order, at: Realization { datum, epoch }, position: [x, y, z] };
     let to = conversion(&steps, from)?;
     let [x, y, z] = to.position;
-    Ok([to.issue, to.at.datum, to.at.epoch, x, y, z])
+    Ok([to.issue, to.order, to.at.datum, to.at.epoch, x, y, z])
 }
 
 pub fn steps(chain: &[i64]) -> Option<Vec<Step>> {

@@ -56,6 +56,11 @@ pub fn issue(value: i64) -> bool {
     between(value, 1, 65_535)
 }
 
+/// Request A6: the order of control.
+pub fn order(value: i64) -> bool {
+    between(value, 1, 4)
+}
+
 /// Units of 0.00001".
 pub fn latitude(value: i64) -> bool {
     between(value, 0, 2_880_000_000)

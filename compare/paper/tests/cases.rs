@@ -4,6 +4,9 @@ use paper::angle::cartesian;
 use paper::numbers::{forward, inverse};
 use paper::step::scaled_rotation;
 
+/// Carried through by every conversion.
+const ORDER: i64 = 1;
+
 /// A step of 13 numbers from its letter, its convention and the rest.
 fn step(kind: char, convention: char, places: [i64; 4], numbers: &[i64]) -> Vec<i64> {
     let mut row = vec![kind as i64, convention as i64];
@@ -13,29 +16,29 @@ fn step(kind: char, convention: char, places: [i64; 4], numbers: &[i64]) -> Vec<
     row
 }
 
-fn shown(answer: Result<[i64; 6], u8>) -> [i64; 3] {
-    let [_, _, _, x, y, z] = answer.expect("not refused");
+fn shown(answer: Result<[i64; 7], u8>) -> [i64; 3] {
+    let [_, _, _, _, x, y, z] = answer.expect("not refused");
     [x, y, z]
 }
 
 fn velocity(v: i64, thousandths: i64) -> i64 {
     let chain = step('V', ' ', [6, 2_000_000, 6, 2_000_000 + thousandths], &[v, 0, 0]);
     let x = -200_000_000_000;
-    shown(forward(&chain, &[1, 6, 2_000_000, x, 600_000_000_000, 50_000_000_000]))[0] - x
+    shown(forward(&chain, &[1, ORDER, 6, 2_000_000, x, 600_000_000_000, 50_000_000_000]))[0] - x
 }
 
 #[test]
 fn case_1_shift() {
     let chain = step('T', ' ', [6, 2_000_000, 6, 2_006_586], &[-15832, -4363, -9706]);
-    let answer = forward(&chain, &[1, 6, 2_000_000, -113105165410, 623631179950, 71174811140]);
-    assert_eq!(answer, Ok([1, 6, 2_006_586, -113105181242, 623631175587, 71174801434]));
+    let answer = forward(&chain, &[1, ORDER, 6, 2_000_000, -113105165410, 623631179950, 71174811140]);
+    assert_eq!(answer, Ok([1, ORDER, 6, 2_006_586, -113105181242, 623631175587, 71174801434]));
 }
 
 #[test]
 fn case_2_velocity() {
     let chain = step('V', ' ', [7, 2_010_000, 7, 2_020_000], &[-1874, -169, -502]);
-    let answer = forward(&chain, &[3, 7, 2_010_000, -113105187354, 623631174081, 71174801667]);
-    assert_eq!(answer, Ok([3, 7, 2_020_000, -113105206094, 623631172391, 71174796647]));
+    let answer = forward(&chain, &[3, ORDER, 7, 2_010_000, -113105187354, 623631174081, 71174801667]);
+    assert_eq!(answer, Ok([3, ORDER, 7, 2_020_000, -113105206094, 623631172391, 71174796647]));
 }
 
 /// As request A11 has them: 3 and 4 become 0, and V 3 over 500 thousandths gives 2.
@@ -57,7 +60,7 @@ fn halves_going_back() {
     for (v, gain) in [(1, 0), (3, 2), (-3, -2), (5, 2), (-7, -4)] {
         let chain = step('V', ' ', [6, 2_000_000, 6, 2_000_500], &[v, 0, 0]);
         let x = -200_000_000_000;
-        let there = [1, 6, 2_000_500, x, 600_000_000_000, 50_000_000_000];
+        let there = [1, ORDER, 6, 2_000_500, x, 600_000_000_000, 50_000_000_000];
         assert_eq!(shown(inverse(&chain, &there))[0], x - gain);
     }
 }
@@ -65,19 +68,19 @@ fn halves_going_back() {
 #[test]
 fn cases_6_and_7_frame() {
     let chain = step('F', ' ', [9, 2_010_000, 10, 2_010_000], &[]);
-    let from = [1, 9, 2_010_000, -113105187200, 623631173600, 71174802510];
+    let from = [1, ORDER, 9, 2_010_000, -113105187200, 623631173600, 71174802510];
     let to = forward(&chain, &from).expect("not refused");
-    assert_eq!(to, [1, 10, 2_010_000, -113105187362, 623631173422, 71174802271]);
+    assert_eq!(to, [1, ORDER, 10, 2_010_000, -113105187362, 623631173422, 71174802271]);
     assert_eq!(inverse(&chain, &to), Ok(from));
 }
 
 #[test]
 fn cases_8_to_10_bursa_wolf() {
-    let from = [1, 3, 2_000_000, -200000000000, 600000000000, 50000000000];
+    let from = [1, ORDER, 3, 2_000_000, -200000000000, 600000000000, 50000000000];
     let numbers = [0, 0, 0, 0, 0, 100_000, 0];
     let chain = step('B', 'P', [3, 2_000_000, 4, 2_000_000], &numbers);
     let to = forward(&chain, &from).expect("not refused");
-    assert_eq!(to[3..], [-200002908884, 599999030372, 50000000000]);
+    assert_eq!(to[4..], [-200002908884, 599999030372, 50000000000]);
     assert_eq!(inverse(&chain, &to), Ok(from));
     let chain = step('B', 'C', [3, 2_000_000, 4, 2_000_000], &numbers);
     assert_eq!(shown(forward(&chain, &from)), [-199997091116, 600000969628, 50000000000]);
@@ -87,11 +90,11 @@ fn cases_8_to_10_bursa_wolf() {
 /// Cases 8 to 10 have s = 0 and keep their numbers.
 #[test]
 fn the_scale_goes_onto_the_rotations() {
-    let from = [1, 3, 2_000_000, -200000000000, 600000000000, 50000000000];
+    let from = [1, ORDER, 3, 2_000_000, -200000000000, 600000000000, 50000000000];
     let numbers = [0, 0, 0, 0, 0, 100_000, 1_000_000];
     let chain = step('B', 'P', [3, 2_000_000, 4, 2_000_000], &numbers);
     let to = forward(&chain, &from).expect("not refused");
-    assert_eq!(to[3..], [-200004908914, 600005030362, 50000500000]);
+    assert_eq!(to[4..], [-200004908914, 600005030362, 50000500000]);
     assert_eq!(inverse(&chain, &to), Ok(from));
     let chain = step('B', 'C', [3, 2_000_000, 4, 2_000_000], &numbers);
     assert_eq!(shown(forward(&chain, &from)), [-199999091086, 600006969638, 50000500000]);
@@ -115,7 +118,7 @@ fn a_half_of_the_second_rounding() {
 /// 1 + round(5.5) would be 7.
 #[test]
 fn the_whole_part_is_rounded_once() {
-    let from = [1, 3, 2_000_000, -110_000_000_000, 600_000_000_000, 0];
+    let from = [1, ORDER, 3, 2_000_000, -110_000_000_000, 600_000_000_000, 0];
     for (dx, gain) in [(0, 6), (1, 6), (2, 8), (-5, 0), (-6, 0), (-7, -2)] {
         let chain = step('B', 'P', [3, 2_000_000, 4, 2_000_000], &[dx, 0, 0, 0, 0, 0, -5]);
         assert_eq!(shown(forward(&chain, &from)), [-110_000_000_000 + gain, 599_999_999_970, 0]);
@@ -134,10 +137,10 @@ fn the_run_at_arau() {
 /// 6 before everything; then the first bad step's first fault; 9 not for the empty chain.
 #[test]
 fn orders_by_value() {
-    let point = [1, 6, 2_000_000, -200_000_000_000, 600_000_000_000, 0];
+    let point = [1, ORDER, 6, 2_000_000, -200_000_000_000, 600_000_000_000, 0];
     let bad = step('?', ' ', [0, 5, 3, 0], &[]);
     assert_eq!(forward(&bad.repeat(9), &point), Err(6));
-    assert_eq!(forward(&bad, &[0; 6]), Err(2));
+    assert_eq!(forward(&bad, &[0; 7]), Err(2));
     let three = step('T', ' ', [6, 0, 6, 2_000_000], &[]);
     let two = step('T', ' ', [6, 2_000_000, 6, 2_000_000], &[100_000_001]);
     assert_eq!(forward(&[three.clone(), two.clone()].concat(), &point), Err(3));
@@ -148,18 +151,34 @@ fn orders_by_value() {
     assert_eq!(forward(&away, &point), Err(9));
     assert_eq!(inverse(&away, &point), Err(9));
     assert_eq!(forward(&[], &point), Ok(point));
-    assert_eq!(forward(&[], &[1, 6, 2_000_000, -200_000_000_000, 600_000_000_000, -1]), Err(10));
-    assert_eq!(forward(&[], &[1, 6, 2_000_000, 0, 640_000_000_001, 0]), Err(2));
-    assert_eq!(forward(&[], &[1, 6, 0, 0, 0, 0]), Err(3));
+    assert_eq!(forward(&[], &[1, ORDER, 6, 2_000_000, -200_000_000_000, 600_000_000_000, -1]), Err(10));
+    assert_eq!(forward(&[], &[1, ORDER, 6, 2_000_000, 0, 640_000_000_001, 0]), Err(2));
+    assert_eq!(forward(&[], &[1, ORDER, 6, 0, 0, 0, 0]), Err(3));
     assert_eq!(forward(&[1; 12], &point), Err(255));
-    assert_eq!(forward(&[], &[1; 5]), Err(255));
+    assert_eq!(forward(&[], &[1; 6]), Err(255));
+}
+
+/// Request A6: 1 to 4, with the other ranges, and it comes through both ways.
+#[test]
+fn the_order_goes_through() {
+    let chain = step('T', ' ', [6, 2_000_000, 7, 2_000_000], &[1, 2, 3]);
+    let point = |order: i64, datum: i64| [9, order, datum, 2_000_000, -200_000_000_000, 600_000_000_000, 5];
+    for order in 1..=4 {
+        assert_eq!(forward(&chain, &point(order, 6)).expect("accepted")[..3], [9, order, 7]);
+        assert_eq!(inverse(&chain, &point(order, 7)).expect("accepted")[..3], [9, order, 6]);
+    }
+    for order in [0, 5, -1, i64::MIN, i64::MAX] {
+        assert_eq!(forward(&chain, &point(order, 6)), Err(2));
+        assert_eq!(inverse(&chain, &point(order, 7)), Err(2));
+    }
+    assert_eq!(forward(&chain, &point(5, 8)), Err(2));
 }
 
 #[test]
 fn left_the_area_after_a_step() {
     let out = step('T', ' ', [6, 2_000_000, 6, 2_000_000], &[0, 0, -1]);
     let home = step('T', ' ', [6, 2_000_000, 6, 2_000_000], &[0, 0, 1]);
-    let point = [1, 6, 2_000_000, -200_000_000_000, 600_000_000_000, 0];
+    let point = [1, ORDER, 6, 2_000_000, -200_000_000_000, 600_000_000_000, 0];
     assert_eq!(forward(&[out.clone(), home.clone()].concat(), &point), Err(11));
     assert_eq!(forward(&[home, out].concat(), &point), Ok(point));
 }

@@ -4,8 +4,8 @@ use paper::numbers::{forward, inverse};
 
 const PLACE: [i64; 2] = [5, 2_000_000];
 
-fn point([x, y, z]: [i64; 3]) -> [i64; 6] {
-    [1, PLACE[0], PLACE[1], x, y, z]
+fn point([x, y, z]: [i64; 3]) -> [i64; 7] {
+    [1, 1, PLACE[0], PLACE[1], x, y, z]
 }
 
 /// A chain of B steps on one datum and epoch, from the convention and the seven numbers of each.
@@ -23,8 +23,7 @@ fn chain(steps: &[(char, [i64; 7])]) -> Vec<i64> {
 #[test]
 fn two_marks_a_unit_apart() {
     let shrink = chain(&[('P', [0, 0, 0, 0, 0, 0, -2_000_000])]);
-    let along =
-        |x: i64| forward(&shrink, &point([x, 600_000_000_000, 50_000_000_000])).expect("accepted")[3];
+    let along = |x: i64| forward(&shrink, &point([x, 600_000_000_000, 50_000_000_000])).expect("accepted")[4];
     assert_eq!(along(-199_999_975_000), -199_995_975_000);
     assert_eq!(along(-199_999_974_999), -199_995_975_000);
     assert_eq!(along(-199_999_974_998), -199_995_974_999);

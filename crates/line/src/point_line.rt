@@ -1,10 +1,10 @@
 // P, id, issue, order, datum, epoch, X, Y, Z.
-use crate::Fault;
 use crate::PointLine;
 use crate::field::body_end;
 use crate::field::letter;
 use crate::name::name;
 use crate::number::number;
+use crate::second_look::fault_of;
 ghost use mathlib.Core.Path.{_≡_};
 ghost use Rattle.line.specs.Forms.{pointForm};
 ghost use Rattle.line.specs.Readers.{readPoint, judged};
@@ -63,7 +63,7 @@ fn judge_point(profile: i64, p: chain::Point) -> PointLine
     }
 }
 
-// A point line under a profile (2009 or 2021): its point, or FORM, RANGE, EPOCH, PROFILE.
+// A point line under a profile (2009 or 2021): its point; malformed (LENGTH, LETTER, COUNT, ID, PLAIN); or RANGE, EPOCH, PROFILE.
 pub fn read_point(profile: i64, line: &[u8]) -> PointLine
     ensures { λ r. ⌜ r ≡ readPoint profile (now (line .entry)) ⌝ }
 {
@@ -76,7 +76,6 @@ pub fn read_point(profile: i64, line: &[u8]) -> PointLine
             return judge_point(profile, p);
         }
     }
-    PointLine::Malformed(Fault {
-        number: refusal::FORM,
-    })
+    let fault = fault_of(line, b'P');
+    PointLine::Malformed(fault)
 }

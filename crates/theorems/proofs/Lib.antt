@@ -7,3 +7,4 @@ pub mod Texts
 pub mod Apart
 pub mod MarksApart
 pub mod MarksMeet
+pub mod Orders

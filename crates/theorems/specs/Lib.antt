@@ -6,3 +6,4 @@ pub mod Geodetic
 pub mod Texts
 pub mod MarksApart
 pub mod MarksMeet
+pub mod Orders

@@ -9,6 +9,7 @@ use harness::programs::Programs;
 use harness::rng::Rng;
 use harness::{arguments, product};
 use paper::library::radians;
+use paper::numbers::PointRow;
 use paper::oblique::Oblique;
 use paper::rso::Parameters;
 use std::hint::black_box;
@@ -97,6 +98,7 @@ fn sheets(report: &mut Report, rng: &mut Rng, chains: &Chains) {
     sheet("F and B in turn", full::sheet(rng, chains, "FBFBFBFB", FULL));
     sheet("one B step", full::sheet(rng, chains, "B", FULL));
     sheet("refusals", full::refusals(rng, chains, FULL));
+    sheet("bad forms", full::malformed(rng, chains, FULL));
     sheet("bare line feeds", vec![b'\n'; FULL]);
     sheet("no line feed", vec![b'S'; FULL]);
 }
@@ -116,7 +118,7 @@ fn linear(rng: &mut Rng, chains: &Chains) {
         (0..count).map(|_| full::sheet(rng, chains, "BBBBBBBB", FULL / count)).collect()
     };
     let inputs = [sheets(1), sheets(2), sheets(4)];
-    let mut out = vec![0; 11 * FULL + 7];
+    let mut out = vec![0; product::room(&inputs[0][0])];
     let mut other = Vec::with_capacity(out.len());
     let mut ours = |inputs: &[Vec<u8>]| {
         for input in inputs {
@@ -146,12 +148,12 @@ fn calls<T>(report: &mut Report, name: &str, items: &[T], mut ours: impl FnMut(&
 fn conversions(report: &mut Report, rng: &mut Rng, chains: &Chains) {
     let rows = full::rows(rng, chains, "BBBBBBBB");
     let chain: Vec<i64> = rows.concat();
-    let mut points = |datum: i64, epoch: i64| -> Vec<[i64; 6]> {
-        let point = |[x, y, z]: [i64; 3]| [1, datum, epoch, x, y, z];
+    let mut points = |datum: i64, epoch: i64| -> Vec<PointRow> {
+        let point = |[x, y, z]: [i64; 3]| [1, 1, datum, epoch, x, y, z];
         (0..CALLS).map(|_| point(full::inside(rng))).collect()
     };
     let (start, end) = (points(rows[0][2], rows[0][3]), points(rows[7][4], rows[7][5]));
-    let mut out = [0; 6];
+    let mut out = [0; 7];
     calls(
         report,
         "forward, eight B steps",
@@ -209,8 +211,9 @@ fn from_cartesian(report: &mut Report, rng: &mut Rng) {
     report.aside("the same formulas over the C library", &pair);
 }
 
-/// The C interface makes the projection at each call, and so does the baseline here; what making alone and points on a
-/// made projection cost is the baseline's.
+/// The C interface makes the projection at each call, and so does the baseline here. Making alone is timed by a latitude
+/// out of its range, which is looked at after the projection has been made; what points on a made projection cost is the
+/// baseline's.
 fn oblique_mercator(report: &mut Report, rng: &mut Rng) {
     let points: Vec<([i64; 8], [i64; 2])> = (0..CALLS).map(|_| full::rso(rng)).collect();
     let on_the_map = |(parameters, [latitude, longitude]): &([i64; 8], [i64; 2])| {
@@ -220,13 +223,20 @@ fn oblique_mercator(report: &mut Report, rng: &mut Rng) {
         )
     };
     let metres: Vec<([i64; 8], [f64; 2])> = points.iter().map(on_the_map).collect();
-    let (mut out, mut home) = ([0.0; 2], [0; 2]);
+    let (mut out, mut nothing, mut home) = ([0.0; 2], [0.0; 2], [0; 2]);
     let mut forward = |(parameters, at): &([i64; 8], [i64; 2])| {
         _ = black_box(product::rso_forward(parameters, *at, &mut out));
     };
     calls(report, "RSO forward, projection made each time", &points, &mut forward, |(parameters, [a, b])| {
         _ = black_box(baseline::rso::forward(parameters, *a, *b));
     });
+    calls(
+        report,
+        "RSO, a projection made and no point",
+        &points,
+        |(parameters, _)| _ = black_box(product::rso_forward(parameters, [-1, 0], &mut nothing)),
+        |(parameters, _)| _ = black_box(baseline::rso::forward(parameters, -1, 0)),
+    );
     let mut reverse = |(parameters, at): &([i64; 8], [f64; 2])| {
         _ = black_box(product::rso_reverse(parameters, *at, &mut home));
     };

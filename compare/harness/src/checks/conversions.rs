@@ -4,7 +4,7 @@ use crate::compare::{Comparison, Outcome};
 use crate::gen::chains::Chain;
 use crate::gen::points;
 use crate::tally::Function;
-use paper::numbers::steps;
+use paper::numbers::{steps, PointRow};
 
 pub fn run(c: &mut Comparison, count: u64) -> Outcome {
     for _ in 0..count {
@@ -46,7 +46,7 @@ fn chain(c: &mut Comparison) -> Chain {
 }
 
 /// On the chain's start (its end, going back), over the area, led to a face or beside a half; one in eight damaged.
-fn point(c: &mut Comparison, chain: &Chain, back: bool) -> [i64; 6] {
+fn point(c: &mut Comparison, chain: &Chain, back: bool) -> PointRow {
     let rng = &mut c.rng;
     let steps = steps(&chain.numbers()).expect("whole rows");
     let walkable = paper::chain::chain_faults(&steps).is_ok();

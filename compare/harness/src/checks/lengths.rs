@@ -30,9 +30,9 @@ fn conversions(c: &mut Comparison) -> Outcome {
         chain.truncate(c.rng.index(chain.len() + 1));
     }
     let mut length = |right: usize| if c.rng.once_in(2) { right } else { c.rng.index(right + 3) };
-    let point = vec![1; length(6)];
-    let mut out = vec![MARK; length(6)];
-    let wrong = !chain.len().is_multiple_of(13) || point.len() != 6 || out.len() != 6;
+    let point = vec![1; length(7)];
+    let mut out = vec![MARK; length(7)];
+    let wrong = !chain.len().is_multiple_of(13) || point.len() != 7 || out.len() != 7;
     let what = format!("lengths {} {} {}", chain.len(), point.len(), out.len());
     let number = product::forward(&chain, &point, &mut out);
     decide(&format!("forward {what}"), number, wrong, &out, MARK)?;
@@ -67,9 +67,12 @@ fn others(c: &mut Comparison) -> Outcome {
     let number = product::round(1.5, c.rng.pick(&[0, 6]), &mut whole);
     decide(&what("round"), number, length != 1, &whole, MARK)?;
     let mut whole = vec![MARK; length];
-    let line: &[u8] = c.rng.pick(&[b"P\tA\t1\t6\t2000000\t0\t0\t0\n", b""]);
+    let line: &[u8] = c.rng.pick(&[b"P\tA\t1\t1\t6\t2000000\t0\t0\t0\n", b""]);
     let number = product::later(line, line, &mut whole);
-    decide(&what("later"), number, length != 1, &whole, MARK)
+    decide(&what("later"), number, length != 1, &whole, MARK)?;
+    let mut whole = vec![MARK; length];
+    let number = product::later_fault(line, line, &mut whole);
+    decide(&what("fault of the later"), number, length != 3, &whole, MARK)
 }
 
 /// Parameters and room of any length; the length comes before what the call itself would refuse.

@@ -4,7 +4,7 @@ use crate::compare::{Comparison, Mismatch};
 use crate::gen::chains::Chain;
 use crate::gen::points;
 use crate::subject::Subject;
-use paper::numbers::steps;
+use paper::numbers::{steps, PointRow};
 
 /// The largest difference seen, by the number of Bursa-Wolf and frame steps.
 #[derive(Default, Debug)]
@@ -38,7 +38,7 @@ pub fn run(c: &mut Comparison, count: u64) -> Result<Trips, Mismatch> {
     Ok(trips)
 }
 
-fn input(c: &mut Comparison, back_first: bool) -> (Chain, [i64; 6]) {
+fn input(c: &mut Comparison, back_first: bool) -> (Chain, PointRow) {
     let length = c.rng.index(9);
     let chain = c.chains.good(&mut c.rng, length);
     let steps = steps(&chain.numbers()).expect("whole rows");
@@ -56,7 +56,7 @@ fn input(c: &mut Comparison, back_first: bool) -> (Chain, [i64; 6]) {
 fn trip(
     subject: &dyn Subject,
     rows: &[i64],
-    point: &[i64; 6],
+    point: &PointRow,
     back_first: bool,
     allowed: i64,
 ) -> Result<Option<i64>, Mismatch> {
@@ -66,8 +66,8 @@ fn trip(
         subject.forward(rows, point).and_then(|away| subject.inverse(rows, &away))
     };
     let Ok(home) = home else { return Ok(None) };
-    let off = (3..6).map(|i| (home[i] - point[i]).abs()).max().unwrap_or(0);
-    if home[..3] == point[..3] && off <= allowed {
+    let off = (4..7).map(|i| (home[i] - point[i]).abs()).max().unwrap_or(0);
+    if home[..4] == point[..4] && off <= allowed {
         return Ok(Some(off));
     }
     let order = if back_first { "back first" } else { "along first" };

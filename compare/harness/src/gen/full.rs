@@ -51,13 +51,34 @@ pub fn refusals(rng: &mut Rng, chains: &Chains, size: usize) -> Vec<u8> {
         let position = inside(rng);
         let mut point = points::point(rng, place, position);
         match count % 5 {
-            0 => point[2] = 0,
-            1 => point[3] = 700_000_000_000,
-            2 => point[5] = -1,
-            3 => point[1] = 3 + (point[1] - 2) % 8,
+            0 => point[3] = 0,
+            1 => point[4] = 700_000_000_000,
+            2 => point[6] = -1,
+            3 => point[2] = 3 + (point[2] - 2) % 8,
             _ => return lines::point(b"a1", &point),
         }
         lines::point(&lines::id(rng), &point)
+    })
+}
+
+/// Lines of bad form alone: too long, an unknown convention, a field too many, a bad id, a number not plain.
+pub fn malformed(rng: &mut Rng, chains: &Chains, size: usize) -> Vec<u8> {
+    let mut row = rows(rng, chains, "B")[0];
+    row[1] = i64::from(b'X');
+    let mut count = 0;
+    filled(Vec::new(), size, || {
+        count += 1;
+        let position = inside(rng);
+        let point = points::point(rng, [row[2], row[3]], position);
+        let mut line = lines::point(b"A1", &point);
+        match count % 5 {
+            0 => line.splice(2..2, [b'A'; 150]).for_each(drop),
+            1 => return lines::step(&row),
+            2 => line.insert(1, b'\t'),
+            3 => line[2] = b'a',
+            _ => line.insert(5, b'+'),
+        }
+        line
     })
 }
 

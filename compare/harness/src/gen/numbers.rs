@@ -38,6 +38,7 @@ pub fn damaged(rng: &mut Rng, low: i64, high: i64) -> i64 {
 pub const DATUM: (i64, i64) = (1, 10);
 pub const EPOCH: (i64, i64) = (1_980_000, 2_100_000);
 pub const ISSUE: (i64, i64) = (1, 65_535);
+pub const ORDER: (i64, i64) = (1, 4);
 pub const SHIFT: (i64, i64) = (-100_000_000, 100_000_000);
 pub const ROTATION: (i64, i64) = (-1_000_000, 1_000_000);
 pub const SCALE: (i64, i64) = (-2_000_000, 2_000_000);

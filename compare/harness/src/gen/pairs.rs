@@ -1,9 +1,10 @@
 //! Pairs of point lines for the later of two.
 
-use super::numbers::{realization, within, ISSUE};
+use super::numbers::{realization, within, ISSUE, ORDER};
 use super::sheets::spoiled;
 use super::{lines, points};
 use crate::rng::Rng;
+use paper::numbers::PointRow;
 
 pub fn pair(rng: &mut Rng) -> [Vec<u8>; 2] {
     let name = lines::id(rng);
@@ -12,12 +13,29 @@ pub fn pair(rng: &mut Rng) -> [Vec<u8>; 2] {
     if rng.once_in(2) {
         second[0] = issue(rng, first[0]);
     }
+    if rng.once_in(4) {
+        second[1] = rng.between(ORDER.0, ORDER.1);
+    }
     let other_name = if rng.once_in(8) { other_id(rng, &name) } else { name.clone() };
     let pair = [lines::point(&name, &first), lines::point(&other_name, &second)];
-    pair.map(|line| if rng.once_in(8) { spoiled(rng, &line) } else { line })
+    pair.map(|line| match rng.below(32) {
+        0..=3 => spoiled(rng, &line),
+        4 => with_a_line_feed(rng, line),
+        _ => line,
+    })
 }
 
-fn point(rng: &mut Rng) -> [i64; 6] {
+/// A line feed more, at the end or anywhere; or the line twice. What is lent is one line all the same.
+fn with_a_line_feed(rng: &mut Rng, mut line: Vec<u8>) -> Vec<u8> {
+    match rng.below(3) {
+        0 => line.push(b'\n'),
+        1 => line.insert(rng.index(line.len()), b'\n'),
+        _ => line.extend(line.clone()),
+    }
+    line
+}
+
+fn point(rng: &mut Rng) -> PointRow {
     let position = points::position(rng);
     let place = realization(rng);
     let mut point = points::point(rng, place, position);

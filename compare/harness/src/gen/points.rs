@@ -2,8 +2,9 @@
 
 use super::chains::Chain;
 use super::halves;
-use super::numbers::{damaged, within, AREA, EPOCH, GIVEN, ISSUE};
+use super::numbers::{damaged, within, AREA, EPOCH, GIVEN, ISSUE, ORDER};
 use crate::rng::Rng;
+use paper::numbers::PointRow;
 use paper::ranges::Position;
 use paper::step::{self, Step};
 
@@ -53,25 +54,26 @@ pub fn led_back(rng: &mut Rng, chain: &Chain, steps: &[Step]) -> Position {
     steps[place..].iter().fold(position, |at, each| step::forward(each, at))
 }
 
-pub fn point(rng: &mut Rng, [datum, epoch]: [i64; 2], position: Position) -> [i64; 6] {
+pub fn point(rng: &mut Rng, [datum, epoch]: [i64; 2], position: Position) -> PointRow {
     let [x, y, z] = position;
-    [within(rng, ISSUE.0, ISSUE.1), datum, epoch, x, y, z]
+    [within(rng, ISSUE.0, ISSUE.1), rng.between(ORDER.0, ORDER.1), datum, epoch, x, y, z]
 }
 
 /// One number of the point out of its range, or datum and epoch at odds, or outside the area.
-pub fn damage(rng: &mut Rng, point: &mut [i64; 6]) {
-    match rng.below(8) {
+pub fn damage(rng: &mut Rng, point: &mut PointRow) {
+    match rng.below(9) {
         0 => point[0] = damaged(rng, ISSUE.0, ISSUE.1),
-        1 => point[1] = damaged(rng, 1, 10),
-        2 => point[2] = damaged(rng, EPOCH.0, EPOCH.1),
-        3 => point[1] = rng.between(1, 10),
-        4 => point[2] = 0,
-        5 => point[3 + rng.index(3)] = damaged(rng, GIVEN.0, GIVEN.1),
-        6 => point[3 + rng.index(3)] = within(rng, GIVEN.0, GIVEN.1),
+        1 => point[1] = damaged(rng, ORDER.0, ORDER.1),
+        2 => point[2] = damaged(rng, 1, 10),
+        3 => point[3] = damaged(rng, EPOCH.0, EPOCH.1),
+        4 => point[2] = rng.between(1, 10),
+        5 => point[3] = 0,
+        6 => point[4 + rng.index(3)] = damaged(rng, GIVEN.0, GIVEN.1),
+        7 => point[4 + rng.index(3)] = within(rng, GIVEN.0, GIVEN.1),
         _ => {
             let axis = rng.index(3);
             let (low, high) = AREA[axis];
-            point[3 + axis] = rng.pick(&[low - 1, high + 1]);
+            point[4 + axis] = rng.pick(&[low - 1, high + 1]);
         }
     }
 }

@@ -4,6 +4,7 @@ use Prim.Native.Nat.{ℕ}
 use mathlib.Core.List.{List}
 use mathlib.Core.Option.{Option, none, some}
 use lib.Dec.{eqb}
+use lib.IntN.{ℤ}
 use Rattle.refusal.specs.Order.{pick}
 use Rattle.chain.specs.Faults.{pointFault, stepFault}
 use Rattle.angle.specs.Ranges.{originFault, anglesFault}
@@ -34,13 +35,13 @@ abbrev pub readAs : {A R : Type 0} → (A → ℕ) → (A → R) → (ℕ → R)
 readAs wrong good refused malformed none = malformed
 readAs wrong good refused malformed (some a) = judged wrong good refused a
 
--- 18 to 22, 2, 3
-unfoldable pub readPoint : List ℕ → PointLine
-readPoint line = readAs pointFault P.Point P.Refused (P.Malformed (faultOf pointShape line)) (said pointForm line)
+-- under a profile: 18 to 22, 2, 3, 25
+unfoldable pub readPoint : ℤ → List ℕ → PointLine
+readPoint y line = readAs (pointFault y) P.Point P.Refused (P.Malformed (faultOf pointShape line)) (said pointForm line)
 
--- 18 to 22, 2, 3, 4
-unfoldable pub readStep : List ℕ → StepLine
-readStep line = readAs stepFault S.Step S.Refused (S.Malformed (faultOf stepShape line)) (said stepForm line)
+-- under a profile: 18 to 22, 2, 3, 25, 4
+unfoldable pub readStep : ℤ → List ℕ → StepLine
+readStep y line = readAs (stepFault y) S.Step S.Refused (S.Malformed (faultOf stepShape line)) (said stepForm line)
 
 -- 18 to 22, 2, 12
 unfoldable pub readOrigin : List ℕ → OriginLine

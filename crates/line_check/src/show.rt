@@ -47,7 +47,7 @@ fn projected(id: chain::Id, a: i64, b: i64) {
 }
 
 pub(crate) fn point(l: &[u8]) {
-    match line::read_point(l) {
+    match line::read_point(chain::LATEST, l) {
         PointLine::Malformed(f) => malformed(f),
         PointLine::Refused(n) => number(n),
         PointLine::Point(p) => {
@@ -94,7 +94,7 @@ fn bursa_wolf(t: chain::BursaWolf) {
 }
 
 pub(crate) fn step(l: &[u8]) {
-    match line::read_step(l) {
+    match line::read_step(chain::LATEST, l) {
         StepLine::Malformed(f) => malformed(f),
         StepLine::Refused(n) => number(n),
         StepLine::Step(s) => {

@@ -12,7 +12,7 @@ use Rattle.refusal.proofs.Orders.{unless-none, unless-some}
 use Rattle.chain.specs.declared.Step.{Step}
 use Rattle.chain.specs.declared.Point.{Point}
 use Rattle.chain.specs.declared.Answer.{Answer}
-use Rattle.chain.specs.Faults.{pointFault, stepFault}
+use Rattle.chain.specs.Faults.{latest, pointFault, stepFault}
 use Rattle.chain.specs.Convert.{moreTests, forwardOf}
 use Rattle.chain.specs.Prepared.{extendFault, extendedBy, forwardPrepared, chainOf}
 use Rattle.chain.proofs.Keeping.{holds-none, extend-joins, extend-holds, refused-is, prepared-forward}
@@ -63,27 +63,27 @@ module _ {st : State} {l : List ℤ} {s : Sheet} (h : Holds st l s) (t : Step) w
         let c : s .closed ≡ true = sym (h .closed) ∙ e in
         refused-step refusal.misplaced true (rw (q, c)) (λ z. no-number z) (sym c) r er
 
-    module _ (unclosed : st .closed ≡ false) (good : stepFault t ≡ 0) where
-      tests : extendFault l t ≡ first (stepTests s t)
+    module _ (unclosed : st .closed ≡ false) (good : stepFault latest t ≡ 0) where
+      tests : extendFault latest l t ≡ first (stepTests s t)
       tests =
           let q : s .refused ≡ false = sym (h .refused) ∙ unrefused in
           let c : s .closed ≡ false = sym (h .closed) ∙ unclosed in
-          extend-joins l (s .steps) t (h .chain) good ∙ sym (rw (q, c))
+          extend-joins latest l (s .steps) t (h .chain) good ∙ sym (rw (q, c))
 
       -- refused by the chain, which stays as it was
-      pub gave-no-step : (n : ℕ) → n ≡ extendFault l t → (n ≡ 0 → ⊥) → (m : List ℤ) → m ≡ extendedBy l t → (r : Decided) → r ≡ refusedIn st n 0 true false → Gave (stepReply s (step-line.Step t)) (afterStep s (step-line.Step t)) m r
+      pub gave-no-step : (n : ℕ) → n ≡ extendFault latest l t → (n ≡ 0 → ⊥) → (m : List ℤ) → m ≡ extendedBy latest l t → (r : Decided) → r ≡ refusedIn st n 0 true false → Gave (stepReply s (step-line.Step t)) (afterStep s (step-line.Step t)) m r
       gave-no-step n e z m i r er =
-          rw (i, refused-is l t (λ q. z (e ∙ q))) (refused-step n false (sym (e ∙ tests)) z (sym (sym (h .closed) ∙ unclosed)) r er)
+          rw (i, refused-is latest l t (λ q. z (e ∙ q))) (refused-step n false (sym (e ∙ tests)) z (sym (sym (h .closed) ∙ unclosed)) r er)
 
       -- an accepted step
-      pub gave-step : extendFault l t ≡ 0 → (m : List ℤ) → m ≡ extendedBy l t → (r : Decided) → r .reply ≡ reply.Nothing → r .state ≡ afterIn st false false → Gave (stepReply s (step-line.Step t)) (afterStep s (step-line.Step t)) m r
+      pub gave-step : extendFault latest l t ≡ 0 → (m : List ℤ) → m ≡ extendedBy latest l t → (r : Decided) → r .reply ≡ reply.Nothing → r .state ≡ afterIn st false false → Gave (stepReply s (step-line.Step t)) (afterStep s (step-line.Step t)) m r
       unfolding afterIn
       gave-step z m i r ea er =
           let q = sym tests ∙ z in
           record {
             reply = ea ∙ sym (unless-none (first (stepTests s t)) (refuse s) reply.Nothing q);
             holds = rw (unless-none (first (stepTests s t)) (λ (_ : ℕ). withoutStep s) (withStep s t) q, er, i)
-                (record { line = ap (λ (n : ℕ). n + 1) (h .line); refused = sym unrefused ∙ h .refused; closed = sym unclosed ∙ h .closed; chain = extend-holds l (s .steps) t (h .chain) z });
+                (record { line = ap (λ (n : ℕ). n + 1) (h .line); refused = sym unrefused ∙ h .refused; closed = sym unclosed ∙ h .closed; chain = extend-holds latest l (s .steps) t (h .chain) z });
           }
 
 module _ {st : State} {l : List ℤ} {s : Sheet} (h : Holds st l s) (a b c d : Bool) (e : a ≡ c) (f : b ≡ d) where
@@ -102,11 +102,11 @@ module _ {st : State} {l : List ℤ} {s : Sheet} (h : Holds st l s) (a b c d : B
 
 -- ---- a point of a sheet that holds, and the sheet that nothing is read of
 -- what the prepared chain answered, the chain answers
-pub answered : {st : State} {l : List ℤ} {s : Sheet} → Holds st l s → (p : Point) → pointFault p ≡ 0 → {r a : Answer} → r ≡ forwardPrepared l p → r ≡ a → forwardOf (chainOf (s .steps)) p ≡ a
-answered {st} {l} {s} h p f e q = sym (prepared-forward l (s .steps) (h .chain) p f) ∙ sym e ∙ q
+pub answered : {st : State} {l : List ℤ} {s : Sheet} → Holds st l s → (p : Point) → pointFault latest p ≡ 0 → {r a : Answer} → r ≡ forwardPrepared l p → r ≡ a → forwardOf (chainOf latest (s .steps)) p ≡ a
+answered {st} {l} {s} h p f e q = sym (prepared-forward latest l (s .steps) (h .chain) p f) ∙ sym e ∙ q
 
 pub hold-fresh : Holds (record { line = 1; refused = false; closed = false }) (replicate 72 (pos 0)) fresh
-hold-fresh = record { line = refl; refused = refl; closed = refl; chain = holds-none (replicate 72 (pos 0)) refl refl }
+hold-fresh = record { line = refl; refused = refl; closed = refl; chain = holds-none latest (replicate 72 (pos 0)) refl refl refl }
 
 -- ---- each line is counted
 unless-line : (s a b : Sheet) (n : ℕ) → a .line ≡ s .line + 1 → b .line ≡ s .line + 1 → unless n (λ _. a) b .line ≡ s .line + 1
@@ -115,7 +115,7 @@ unless-line s a b (suc n) e f = e
 
 pub next-line : (s : Sheet) (line : List ℕ) → nextOf s line .line ≡ s .line + 1
 unfolding nextOf
-next-line s line = by-letter (λ (x : Sheet). x .line ≡ s .line + 1) letterS letterP line _ _ _ (step (readStep line)) refl refl
+next-line s line = by-letter (λ (x : Sheet). x .line ≡ s .line + 1) letterS letterP line _ _ _ (step (readStep latest line)) refl refl
   where
     step : (l : StepLine) → afterStep s l .line ≡ s .line + 1
     step (step-line.Malformed f) = refl

@@ -11,7 +11,7 @@ use Rattle.refusal.proofs.Orders.{first-short}
 use Rattle.chain.specs.declared.Point.{Point}
 use Rattle.chain.specs.declared.Step.{Step}
 use Rattle.chain.specs.declared.Answer.{Answer}
-use Rattle.chain.specs.Faults.{pointFault}
+use Rattle.chain.specs.Faults.{latest, pointFault}
 use Rattle.chain.specs.Convert.{forwardOf}
 use Rattle.chain.specs.Prepared.{chainOf}
 use Rattle.chain.proofs.Outcomes as conversion
@@ -42,24 +42,24 @@ module _ (s : Sheet) (l : List ℕ) (some : 0 < length l) (few : s .line < 10000
   bad-form : (f : Fault) → Small l f → Fits (length l) (malformed s f)
   bad-form f h = refusal-fits l (s .line) (f .number) (f .place) some few (h .number) (h .inside) (h .low)
 
-  step : Fits (length l) (stepReply s (readStep l))
-  step = step-outcome (λ (r : StepLine). Fits (length l) (stepReply s r)) l (λ t f. good (first (stepTests s t)) (first-short (stepTests s t) tt)) bad-form refused
+  step : Fits (length l) (stepReply s (readStep latest l))
+  step = step-outcome latest (λ (r : StepLine). Fits (length l) (stepReply s r)) l (λ t f. good (first (stepTests s t)) (first-short (stepTests s t) tt)) bad-form refused
     where
       good : (n : ℕ) → n < 100 → Fits (length l) (unless n (refuse s) reply.Nothing)
       good zero h = omega arith
       good (suc n) h = refused (suc n) h
 
   -- a good point line has 18 bytes or more, and the point's new line at most 80
-  point : Fits (length l) (pointReply s (readPoint l))
-  point = point-outcome (λ (r : PointLine). Fits (length l) (pointReply s r)) l good bad-form refused
+  point : Fits (length l) (pointReply s (readPoint latest l))
+  point = point-outcome latest (λ (r : PointLine). Fits (length l) (pointReply s r)) l good bad-form refused
     where
-      good : (p : Point) → pointFault p ≡ 0 → 18 ≤ length l → Fits (length l) (pointReply s (point-line.Point p))
+      good : (p : Point) → pointFault latest p ≡ 0 → 18 ≤ length l → Fits (length l) (pointReply s (point-line.Point p))
       good p f h = go (s .refused)
         where
-          go : (b : Bool) → Fits (length l) (pick b (refuse s refusal.earlier) (conversionReply s (forwardOf (chainOf (s .steps)) p)))
+          go : (b : Bool) → Fits (length l) (pick b (refuse s refusal.earlier) (conversionReply s (forwardOf (chainOf latest (s .steps)) p)))
           go true = refused refusal.earlier (omega arith)
           go false =
-              conversion.outcome (chainOf (s .steps)) p (λ (a : Answer). Fits (length l) (conversionReply s a)) f (λ q k. omega (arith, length-point q k)) refused
+              conversion.outcome (chainOf latest (s .steps)) p (λ (a : Answer). Fits (length l) (conversionReply s a)) f (λ q k. omega (arith, length-point latest q k)) refused
 
   short : Fits (length l) (replyOf s l)
   unfolding replyOf

@@ -8,6 +8,7 @@ use Rattle.chain.specs.declared.Step.{Step}
 use Rattle.chain.specs.declared.Point.{Point}
 use Rattle.chain.specs.declared.Answer.{Answer}
 use Rattle.chain.specs.declared.Answer.the-variants as answer
+use Rattle.chain.specs.Faults.{latest}
 use Rattle.chain.specs.Convert.{moreTests, forwardOf}
 use Rattle.chain.specs.Prepared.{chainOf}
 use Rattle.line.specs.declared.Fault.{Fault}
@@ -81,7 +82,7 @@ conversionReply s (answer.Refused n) = refuse s n
 abbrev pub pointReply : Sheet → PointLine → Reply
 pointReply s (point-line.Malformed f) = malformed s f
 pointReply s (point-line.Refused n) = refuse s n
-pointReply s (point-line.Point p) = pick (s .refused) (refuse s refusal.earlier) (conversionReply s (forwardOf (chainOf (s .steps)) p))
+pointReply s (point-line.Point p) = pick (s .refused) (refuse s refusal.earlier) (conversionReply s (forwardOf (chainOf latest (s .steps)) p))
 
 -- a point line of good form closes the chain, whatever it says
 abbrev pub closes : PointLine → Bool
@@ -94,10 +95,10 @@ afterPoint s l = record { line = s .line + 1; steps = s .steps; refused = s .ref
 
 -- ---- one line, by its first byte
 unfoldable pub replyOf : Sheet → List ℕ → Reply
-replyOf s line = byLetter letterS letterP line (stepReply s (readStep line)) (pointReply s (readPoint line)) (malformed s (strangeFault line))
+replyOf s line = byLetter letterS letterP line (stepReply s (readStep latest line)) (pointReply s (readPoint latest line)) (malformed s (strangeFault line))
 
 unfoldable pub nextOf : Sheet → List ℕ → Sheet
-nextOf s line = byLetter letterS letterP line (afterStep s (readStep line)) (afterPoint s (readPoint line)) (passed s)
+nextOf s line = byLetter letterS letterP line (afterStep s (readStep latest line)) (afterPoint s (readPoint latest line)) (passed s)
 
 abbrev pub rules : Rules Sheet Reply
 rules = record { reply = replyOf; next = nextOf; text = replyText }

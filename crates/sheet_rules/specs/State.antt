@@ -4,6 +4,7 @@ use mathlib.Core.Bool.{Bool}
 use mathlib.Core.List.{List}
 use Prim.Native.Nat.{ℕ, _+_}
 use lib.IntN.{ℤ}
+use Rattle.chain.specs.Faults.{latest}
 use Rattle.chain.specs.Prepared as prepared
 use Rattle.sheet_rules.specs.declared.State.{State}
 use Rattle.sheet_rules.specs.declared.Reply.{Reply}
@@ -16,7 +17,7 @@ pub record Holds (st : State) (numbers : List ℤ) (s : Sheet) : Type 0 where
   pub line : st .line ≡ s .line
   pub refused : st .refused ≡ s .refused
   pub closed : st .closed ≡ s .closed
-  pub chain : prepared.Holds numbers (s .steps)
+  pub chain : prepared.Holds latest numbers (s .steps)
 
 -- what was decided on a line: the reply to it, and the sheet after it held
 pub record Gave (answer : Reply) (next : Sheet) (numbers : List ℤ) (r : Decided) : Type 0 where

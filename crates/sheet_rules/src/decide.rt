@@ -2,7 +2,7 @@
 ghost use mathlib.Core.Path.{_≡_};
 ghost use Prim.Native.Nat.{_<_};
 ghost use lib.ListN.{length};
-ghost use Rattle.chain.specs.Faults.{pointFault, stepFault};
+ghost use Rattle.chain.specs.Faults.{latest, pointFault, stepFault};
 ghost use Rattle.line.specs.Readers.{readPoint, readStep};
 ghost use Rattle.line.specs.declared.StepLine.the-variants as step-line;
 ghost use Rattle.line.specs.declared.PointLine.the-variants as point-line;
@@ -59,7 +59,7 @@ fn malformed(state: State, fault: Fault, refused: bool, closed: bool) -> Decided
 
 // A step whose line is good by itself.
 fn take_step(state: State, step: Step, numbers: &mut Prepared) -> Decided
-    requires { ⌜ (state .line < 1000000) × (stepFault step ≡ 0) ⌝ }
+    requires { ⌜ (state .line < 1000000) × (stepFault latest step ≡ 0) ⌝ }
     ensures { λ r. ⌜ ((s : Sheet) → Holds state (now (numbers .entry)) s → Gave (stepReply s (step-line.Step step)) (afterStep s (step-line.Step step)) (now (numbers .exit)) r) ⌝ }
 {
     if state.refused {
@@ -68,7 +68,7 @@ fn take_step(state: State, step: Step, numbers: &mut Prepared) -> Decided
     if state.closed {
         return refuse(state, refusal::MISPLACED, true, true);
     }
-    let number = chain::extend(step, numbers);
+    let number = chain::extend(chain::LATEST, step, numbers);
     if number != 0 {
         return refuse(state, number, true, false);
     }
@@ -82,9 +82,9 @@ fn take_step(state: State, step: Step, numbers: &mut Prepared) -> Decided
 // A line that begins with S.
 fn decide_step(state: State, numbers: &mut Prepared, text: &[u8]) -> Decided
     requires { ⌜ state .line < 1000000 ⌝ }
-    ensures { λ r. ⌜ ((s : Sheet) → Holds state (now (numbers .entry)) s → Gave (stepReply s (readStep (now (text .entry)))) (afterStep s (readStep (now (text .entry)))) (now (numbers .exit)) r) ⌝ }
+    ensures { λ r. ⌜ ((s : Sheet) → Holds state (now (numbers .entry)) s → Gave (stepReply s (readStep latest (now (text .entry)))) (afterStep s (readStep latest (now (text .entry)))) (now (numbers .exit)) r) ⌝ }
 {
-    match line::read_step(text) {
+    match line::read_step(chain::LATEST, text) {
         StepLine::Malformed(fault) => malformed(state, fault, true, state.closed),
         StepLine::Refused(number) => refuse(state, number, true, state.closed),
         StepLine::Step(step) => take_step(state, step, numbers),
@@ -93,7 +93,7 @@ fn decide_step(state: State, numbers: &mut Prepared, text: &[u8]) -> Decided
 
 // A point whose line is good by itself.
 fn convert_point(state: State, numbers: &Prepared, point: Point) -> Decided
-    requires { ⌜ (state .line < 1000000) × (pointFault point ≡ 0) ⌝ }
+    requires { ⌜ (state .line < 1000000) × (pointFault latest point ≡ 0) ⌝ }
     ensures { λ r. ⌜ ((s : Sheet) → Holds state (now (numbers .entry)) s → Gave (pointReply s (point-line.Point point)) (afterPoint s (point-line.Point point)) (now (numbers .entry)) r) ⌝ }
 {
     if state.refused {
@@ -114,9 +114,9 @@ fn convert_point(state: State, numbers: &Prepared, point: Point) -> Decided
 // A line that begins with P. A malformed one leaves the chain open; refused for what it says, it closes it.
 fn decide_point(state: State, numbers: &Prepared, text: &[u8]) -> Decided
     requires { ⌜ state .line < 1000000 ⌝ }
-    ensures { λ r. ⌜ ((s : Sheet) → Holds state (now (numbers .entry)) s → Gave (pointReply s (readPoint (now (text .entry)))) (afterPoint s (readPoint (now (text .entry)))) (now (numbers .entry)) r) ⌝ }
+    ensures { λ r. ⌜ ((s : Sheet) → Holds state (now (numbers .entry)) s → Gave (pointReply s (readPoint latest (now (text .entry)))) (afterPoint s (readPoint latest (now (text .entry)))) (now (numbers .entry)) r) ⌝ }
 {
-    match line::read_point(text) {
+    match line::read_point(chain::LATEST, text) {
         PointLine::Malformed(fault) => malformed(state, fault, state.refused, state.closed),
         PointLine::Refused(number) => refuse(state, number, state.refused, true),
         PointLine::Point(point) => convert_point(state, numbers, point),

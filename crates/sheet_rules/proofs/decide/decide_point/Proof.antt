@@ -26,7 +26,7 @@ enum-known-point : tie.Need-enum-known-point
 enum-known-point c = search needs
 
 convert-point-requires : tie.Need-convert-point-requires
-convert-point-requires c κs = (c .before .before .before .before .before .pre, point-sound _ _ (sym (c .before .before .before .read-point .ensures) ∙ c .before .point .given .1))
+convert-point-requires c κs = (c .before .before .before .before .before .pre, point-sound _ _ _ (sym (c .before .before .before .read-point .ensures) ∙ c .before .point .given .1))
 
 returns : tie.Need-returns
 returns c = λ s h. let e = sym (c .before .before .before .before .read-point .ensures) ∙ c .before .before .fault .given .1 in rw e (gave-refusal h _ _ _ _ (h .refused) (h .closed ∙ sym (or-false (s .closed))) _ _ _ (c .malformed .ensures))

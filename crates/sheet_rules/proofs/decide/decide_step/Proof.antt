@@ -25,7 +25,7 @@ enum-known-step : tie.Need-enum-known-step
 enum-known-step c = search needs
 
 take-step-requires : tie.Need-take-step-requires
-take-step-requires c κs = (c .before .before .before .before .before .before .pre, step-sound _ _ (sym (c .before .before .before .before .read-step .ensures) ∙ c .before .before .step .given .1))
+take-step-requires c κs = (c .before .before .before .before .before .before .pre, step-sound _ _ _ (sym (c .before .before .before .before .read-step .ensures) ∙ c .before .before .step .given .1))
 
 returns : tie.Need-returns
 returns c = λ s h. let e = sym (c .before .before .before .before .read-step .ensures) ∙ c .before .before .fault .given .1 in rw e (gave-refusal h _ _ _ _ refl (h .closed) _ _ _ (c .malformed .ensures))

@@ -9,6 +9,7 @@ use lib.ListN.{replicate}
 use Rattle.refusal.specs.Numbers as refusal
 use Rattle.refusal.specs.Order.{first, unless}
 use Rattle.refusal.proofs.Orders.{unless-none, unless-some}
+use Rattle.ranges.specs.Ranges.{within}
 use Rattle.chain.specs.declared.Step.{Step}
 use Rattle.chain.specs.declared.Point.{Point}
 use Rattle.chain.specs.declared.Answer.{Answer}
@@ -106,6 +107,7 @@ pub answered : {st : State} {l : List ℤ} {s : Sheet} → Holds st l s → (p :
 answered {st} {l} {s} h p f e q = sym (prepared-forward latest l (s .steps) (h .chain) p f) ∙ sym e ∙ q
 
 pub hold-fresh : Holds (record { line = 1; refused = false; closed = false }) (replicate 72 (pos 0)) fresh
+unfolding within
 hold-fresh = record { line = refl; refused = refl; closed = refl; chain = holds-none latest (replicate 72 (pos 0)) refl refl refl }
 
 -- ---- each line is counted

@@ -22,7 +22,7 @@ extern "C" {
 #endif
 
 /* The version of this interface: a function or a number that is added raises the minor, any other change the major. */
-#define SWIVELCRANE_VERSION_MAJOR 3
+#define SWIVELCRANE_VERSION_MAJOR 4
 #define SWIVELCRANE_VERSION_MINOR 0
 
 /* The refusal numbers by name; README.md says of each what to do. 1 is not given. */
@@ -32,8 +32,8 @@ enum swivelcrane_refusal {
     SWIVELCRANE_REFUSAL_KIND = 4,      /* a velocity or a frame step that breaks the rule of its kind */
     SWIVELCRANE_REFUSAL_JOIN = 5,      /* a step that doesn't begin where the step before it ended */
     SWIVELCRANE_REFUSAL_NINTH = 6,     /* a ninth step */
-    SWIVELCRANE_REFUSAL_PLACE = 7,     /* a step after a point line; an origin line that is not the first line */
-    SWIVELCRANE_REFUSAL_EARLIER = 8,   /* an earlier step line was refused; no accepted origin */
+    SWIVELCRANE_REFUSAL_PLACE = 7,     /* a step after a point line; an edition or origin line that is not the first */
+    SWIVELCRANE_REFUSAL_EARLIER = 8,   /* an earlier step or edition line was refused; no accepted origin */
     SWIVELCRANE_REFUSAL_START = 9,     /* a point that is not at the chain's start (its end, for the inverse) */
     SWIVELCRANE_REFUSAL_AREA = 10,     /* a point outside the area */
     SWIVELCRANE_REFUSAL_LEFT = 11,     /* a position outside the area after some step */
@@ -48,7 +48,8 @@ enum swivelcrane_refusal {
     SWIVELCRANE_REFUSAL_COUNT = 20,    /* a line with the wrong number of fields */
     SWIVELCRANE_REFUSAL_ID = 21,       /* an id that is not 1 to 16 of A-Z, 0-9 and hyphen */
     SWIVELCRANE_REFUSAL_PLAIN = 22,    /* a number that is not in plain form */
-    SWIVELCRANE_REFUSAL_PLANE = 23     /* an easting or northing not finite, or 10,000,000 m or more in size */
+    SWIVELCRANE_REFUSAL_PLANE = 23,    /* an easting or northing not finite, or 10,000,000 m or more in size */
+    SWIVELCRANE_REFUSAL_PROFILE = 25   /* a step or a point that the chain's profile doesn't have */
 };
 
 /* An array has not the number of elements that its call asks for. It comes before every refusal. */
@@ -65,11 +66,13 @@ enum swivelcrane_refusal {
 /* Numbers to a point: issue, order of control (1 to 4), datum, epoch, X, Y, Z. The point's id stays with the caller. */
 #define SWIVELCRANE_POINT_NUMBERS 7
 
-/* Converts a point along a chain (forward) or back (inverse). The chain has 13 numbers a step; no step at all is a chain
- * too, and more than eight are refused with 6. Refusals: chain 6, then each step 2, 3, 4, 5; point 2, 3, 9, 10; then 11. */
-int64_t swivelcrane_forward(const int64_t *chain, size_t chain_length, const int64_t *point, size_t point_length,
+/* Converts a point along a chain (forward) or back (inverse). The profile is the edition of the circular that the chain is made
+ * under: 2021, or 2009, which has datums 1, 2, 3, 4, 5 and 7 and steps 'T' and 'B' alone. The chain has 13 numbers a step; no step
+ * at all is a chain too, and more than eight are refused with 6. Refusals: the profile's year 2; chain 6, then each step 2, 3, 25,
+ * 4, 5; point 2, 3, 25, 9, 10; then 11. */
+int64_t swivelcrane_forward(int64_t profile, const int64_t *chain, size_t chain_length, const int64_t *point, size_t point_length,
                             int64_t *out, size_t out_length);
-int64_t swivelcrane_inverse(const int64_t *chain, size_t chain_length, const int64_t *point, size_t point_length,
+int64_t swivelcrane_inverse(int64_t profile, const int64_t *chain, size_t chain_length, const int64_t *point, size_t point_length,
                             int64_t *out, size_t out_length);
 
 /* Geodetic to Cartesian on an ellipsoid (1 GRS80, 2 WGS84, 3 Everest 1830 Modified, 4 Everest 1967): X, Y, Z in metres,
@@ -128,7 +131,8 @@ int64_t swivelcrane_later_fault(const uint8_t *first, size_t first_length, const
 #define SWIVELCRANE_ROOM(n) (13 * ((n) < 65536 ? (size_t)(n) : (size_t)65536) + 9)
 
 /* A whole sheet, and a whole plan, from its bytes to what the program prints. The answer is the length of the text, whose
- * bytes stand at the start of out; the bytes past it are as they were. */
+ * bytes stand at the start of out; the bytes past it are as they were. A sheet is read under the profile that its first line
+ * names, `E`, tab, 2009 or 2021, and under 2021 where there is no such line. */
 int64_t swivelcrane_sheet(const uint8_t *input, size_t input_length, uint8_t *out, size_t out_length);
 int64_t swivelcrane_plan(const uint8_t *input, size_t input_length, uint8_t *out, size_t out_length);
 

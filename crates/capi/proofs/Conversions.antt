@@ -31,13 +31,13 @@ module _ (chain point out : ℕ) (sized : wholeSteps chain point out ≡ true) w
       let all = both (eqb (chain % 13) 0 && eqb point 7) (eqb out 7) sized in
       (eqb-true point 7 (both (eqb (chain % 13) 0) (eqb point 7) (all .0) .1), eqb-true out 7 (all .1))
 
-module _ (convert : Chain → Point → Answer) (chain point out : List ℤ) where
-  pub unsized : wholeSteps (length chain) (length point) (length out) ≡ false → Answered (conversionCall convert chain point out) out out (pos 255)
+module _ (convert : Chain → Point → Answer) (profile : ℤ) (chain point out : List ℤ) where
+  pub unsized : wholeSteps (length chain) (length point) (length out) ≡ false → Answered (conversionCall convert profile chain point out) out out (pos 255)
   unfolding conversionCall
   unsized e = wrong (rw e)
 
   pub converted : {c : Chain} {p : Point} {a : Answer} {after : List ℤ} {r s : ℤ}
-      → wholeSteps (length chain) (length point) (length out) ≡ true → c ≡ chainFrom chain → p ≡ pointFrom point → a ≡ convert c p
-      → Answered (ofAnswer a) out after r → s ≡ r → Answered (conversionCall convert chain point out) out after s
+      → wholeSteps (length chain) (length point) (length out) ≡ true → c ≡ chainFrom profile chain → p ≡ pointFrom point → a ≡ convert c p
+      → Answered (ofAnswer a) out after r → s ≡ r → Answered (conversionCall convert profile chain point out) out after s
   unfolding conversionCall
   converted e f g h answered t = by answered (rw e (ap ofAnswer (sym (h ∙ ap₂ convert f g)))) t

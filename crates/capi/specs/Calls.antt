@@ -35,19 +35,19 @@ use Rattle.line.specs.Later.{laterOf, laterFaultOf}
 use Rattle.capi.specs.Outcome.{Outcome, refused, gives, ifSized}
 use Rattle.capi.specs.Chains.{chainFrom, pointFrom, pointNumbers, wholeSteps}
 
--- ---- conversions, forward and inverse: a point
+-- ---- conversions under a profile, forward and inverse: a point
 abbrev pub ofAnswer : Answer → Outcome ℤ
 ofAnswer (answer.Converted p) = gives (pointNumbers p)
 ofAnswer (answer.Refused n) = refused n
 
-unfoldable pub conversionCall : (Chain → Point → Answer) → List ℤ → List ℤ → List ℤ → Outcome ℤ
-conversionCall convert chain point out =
-    ifSized (wholeSteps (length chain) (length point) (length out)) (ofAnswer (convert (chainFrom chain) (pointFrom point)))
+unfoldable pub conversionCall : (Chain → Point → Answer) → ℤ → List ℤ → List ℤ → List ℤ → Outcome ℤ
+conversionCall convert profile chain point out =
+    ifSized (wholeSteps (length chain) (length point) (length out)) (ofAnswer (convert (chainFrom profile chain) (pointFrom point)))
 
-abbrev pub forwardCall : List ℤ → List ℤ → List ℤ → Outcome ℤ
+abbrev pub forwardCall : ℤ → List ℤ → List ℤ → List ℤ → Outcome ℤ
 forwardCall = conversionCall forwardOf
 
-abbrev pub inverseCall : List ℤ → List ℤ → List ℤ → Outcome ℤ
+abbrev pub inverseCall : ℤ → List ℤ → List ℤ → List ℤ → Outcome ℤ
 inverseCall = conversionCall inverseOf
 
 -- ---- geodetic to Cartesian: X, Y, Z

@@ -91,7 +91,7 @@ stepFrom ns = record {
   after = realization (number ns 4) (number ns 5);
 }
 
--- ---- a chain: 13 numbers to a step, one step after the other
+-- ---- a chain: its profile, and 13 numbers to a step, one step after the other
 -- a place past the last step holds a step of no known kind: no chain looks at it
 unfoldable pub noStep : Step
 noStep = record { kind = unknown; before = realization (pos 0) (pos 0); after = realization (pos 0) (pos 0) }
@@ -99,8 +99,8 @@ noStep = record { kind = unknown; before = realization (pos 0) (pos 0); after = 
 unfoldable pub placeFrom : List ℤ → Step
 placeFrom ns = pick (leb 13 (length ns)) (stepFrom ns) noStep
 
-unfoldable pub chainFrom : List ℤ → Chain
-chainFrom ns = record {
+unfoldable pub chainFrom : ℤ → List ℤ → Chain
+chainFrom y ns = record {
   steps =
       placeFrom ns
       ∷ placeFrom (drop 13 ns)
@@ -112,6 +112,7 @@ chainFrom ns = record {
       ∷ placeFrom (drop 91 ns)
       ∷ [];
   length = length ns / 13;
+  profile = y;
 }
 
 -- whole steps, a whole point, and room for a point

@@ -71,24 +71,40 @@ fn give(answer: Answer, out: &mut [i64]) -> i64
     }
 }
 
-// A point forward by a chain (document 01: along).
+// A point forward by a chain of a profile, 2009 or 2021 (document 01: along).
 #[no_mangle]
-pub extern "C" fn swivelcrane_forward(chain: &[i64], point: &[i64], out: &mut [i64]) -> i64
-    ensures { λ r. ⌜ Answered (forwardCall (now (chain .entry)) (now (point .entry)) (now (out .entry))) (now (out .entry)) (now (out .exit)) r ⌝ }
+pub extern "C" fn swivelcrane_forward(
+    profile: i64,
+    chain: &[i64],
+    point: &[i64],
+    out: &mut [i64],
+) -> i64
+    ensures { λ r. ⌜ Answered (forwardCall profile (now (chain .entry)) (now (point .entry)) (now (out .entry))) (now (out .entry)) (now (out .exit)) r ⌝ }
 {
     if !are_sized(chain.len(), point.len(), out.len()) {
         return WRONG_LENGTH;
     }
-    give(chain::forward(chain_from(chain), point_from(point)), out)
+    give(
+        chain::forward(chain_from(profile, chain), point_from(point)),
+        out,
+    )
 }
 
-// A point inverse by a chain (document 01: back).
+// A point inverse by a chain of a profile, 2009 or 2021 (document 01: back).
 #[no_mangle]
-pub extern "C" fn swivelcrane_inverse(chain: &[i64], point: &[i64], out: &mut [i64]) -> i64
-    ensures { λ r. ⌜ Answered (inverseCall (now (chain .entry)) (now (point .entry)) (now (out .entry))) (now (out .entry)) (now (out .exit)) r ⌝ }
+pub extern "C" fn swivelcrane_inverse(
+    profile: i64,
+    chain: &[i64],
+    point: &[i64],
+    out: &mut [i64],
+) -> i64
+    ensures { λ r. ⌜ Answered (inverseCall profile (now (chain .entry)) (now (point .entry)) (now (out .entry))) (now (out .entry)) (now (out .exit)) r ⌝ }
 {
     if !are_sized(chain.len(), point.len(), out.len()) {
         return WRONG_LENGTH;
     }
-    give(chain::inverse(chain_from(chain), point_from(point)), out)
+    give(
+        chain::inverse(chain_from(profile, chain), point_from(point)),
+        out,
+    )
 }

@@ -155,9 +155,9 @@ fn place_from(n: &[i64], at: usize) -> Step
     no_step()
 }
 
-// A chain: its steps one after the other. Past the eighth they are counted and not read.
-pub(crate) fn chain_from(n: &[i64]) -> Chain
-    ensures { λ r. ⌜ r ≡ chainFrom (now (n .entry)) ⌝ }
+// A chain of a profile: its steps one after the other. Past the eighth they are counted and not read.
+pub(crate) fn chain_from(profile: i64, n: &[i64]) -> Chain
+    ensures { λ r. ⌜ r ≡ chainFrom profile (now (n .entry)) ⌝ }
 {
     let length = n.len() / STEP;
     Chain {
@@ -172,5 +172,6 @@ pub(crate) fn chain_from(n: &[i64]) -> Chain
             place_from(n, 91),
         ],
         length,
+        profile,
     }
 }

@@ -11,9 +11,9 @@ use lib.IntN.{ℤ, pos, natAbs, _+ℤ_}
 use lib.ListN.{length, getD, set, length-set, length-append}
 use lib.Seq.{sets, take-length, length-sets, getD-set-same, getD-set-other}
 use Rattle.refusal.specs.Numbers as refusal
-use Rattle.refusal.specs.Order.{_gives_, first, pick, unless}
+use Rattle.refusal.specs.Order.{Test, _gives_, first, pick, unless}
 use Rattle.refusal.proofs.Orders.{orElse, first-append, both-pass, head-holds, step-passed, unless-some, unless-none}
-use Rattle.ranges.specs.Ranges.{within, upTo, equal, shiftRange, scaleRange}
+use Rattle.ranges.specs.Ranges.{within, upTo, equal, shiftRange, scaleRange, profileRange}
 use Rattle.ranges.proofs.Ranges.{both, all, up-to, up-to-holds, equal-self}
 use Rattle.chain.specs.declared.Position.{Position}
 use Rattle.chain.specs.declared.Realization.{Realization}
@@ -187,12 +187,17 @@ pub same-self : (r : Realization) → sameRealization r r ≡ true
 unfolding sameRealization
 same-self r = rw (equal-self (r .datum), equal-self (r .epoch))
 
+-- what a chain is refused for
+abbrev ownTests : ℤ → ℕ → List Step → List Test
+ownTests y n ss = (not (profileRange y) gives refusal.range) ∷ (ltb 8 n gives refusal.ninth) ∷ stepsTests y ss
+
 -- what a prepared chain answers, of a point with no fault of its own, is what the conversion answers
-module _ (l : List ℤ) (ss : List Step) (holds : Holds l ss) where
+module _ (y : ℤ) (l : List ℤ) (ss : List Step) (holds : Holds y l ss) where
   short : length ss ≤ 8
   short =
       let g = rw (take-length ss) at (holds .sound) in
-      ltb-false 8 (length ss) (step-passed (ltb 8 (length ss)) 6 (first (stepsTests ss)) tt g .0)
+      let f = head-holds (profileRange y) _ _ g in
+      ltb-false 8 (length ss) (step-passed (ltb 8 (length ss)) 6 (first (stepsTests y ss)) tt (f .1) .0)
 
   module _ (p : Point) where
     tests : (n : ℕ) (given wanted : Realization) → n ≤ 8 → (equal (pos 0) (pos n) || sameRealization (p .realization) given) ≡ sameRealization (p .realization) wanted → first (preparedTests (pos n) given p) ≡ first (placeTests p wanted)
@@ -219,15 +224,15 @@ module _ (l : List ℤ) (ss : List Step) (holds : Holds l ss) where
     reached-start (s ∷ ts) e = rw (some-steps (length ts)) (e .starts)
 
     -- a sound chain and a point with no fault leave the tests of the place
-    placed : (n : ℕ) (wanted : Realization) → first ((ltb 8 n gives refusal.ninth) ∷ stepsTests ss) ≡ 0 → pointFault p ≡ 0 → first (((ltb 8 n gives refusal.ninth) ∷ stepsTests ss) ++ (pointTests p ++ placeTests p wanted)) ≡ first (placeTests p wanted)
+    placed : (n : ℕ) (wanted : Realization) → first (ownTests y n ss) ≡ 0 → pointFault y p ≡ 0 → first (ownTests y n ss ++ (pointTests y p ++ placeTests p wanted)) ≡ first (placeTests p wanted)
     unfolding pointFault
     placed n wanted good fault =
-        first-append ((ltb 8 n gives refusal.ninth) ∷ stepsTests ss) (pointTests p ++ placeTests p wanted) (numbered-steps ss)
-        ∙ ap (λ (m : ℕ). orElse m (first (pointTests p ++ placeTests p wanted))) good
-        ∙ first-append (pointTests p) (placeTests p wanted) tt
+        first-append (ownTests y n ss) (pointTests y p ++ placeTests p wanted) (numbered-steps y ss)
+        ∙ ap (λ (m : ℕ). orElse m (first (pointTests y p ++ placeTests p wanted))) good
+        ∙ first-append (pointTests y p) (placeTests p wanted) tt
         ∙ ap (λ (m : ℕ). orElse m (first (placeTests p wanted))) fault
 
-    pub prepared-forward : pointFault p ≡ 0 → forwardPrepared l p ≡ forwardOf (chainOf ss) p
+    pub prepared-forward : pointFault y p ≡ 0 → forwardPrepared l p ≡ forwardOf (chainOf y ss) p
     unfolding forwardPrepared forwardOf convert
     prepared-forward fault =
         let g = rw (take-length ss) at (holds .sound) in
@@ -236,7 +241,7 @@ module _ (l : List ℤ) (ss : List Step) (holds : Holds l ss) where
         (tests (length ss) (startIn l) (startOf (p .realization) ss) short (wanted-start ss (holds .ends)) ∙ sym (placed (length ss) (startOf (p .realization) ss) g fault))
         (carried-walk forwardBy forwardStep forward-same p (endOf (p .realization) ss) ss (rowsOf l 1 (length ss)) (p .position) (holds .rows)))
 
-    pub prepared-inverse : pointFault p ≡ 0 → inversePrepared l p ≡ inverseOf (chainOf ss) p
+    pub prepared-inverse : pointFault y p ≡ 0 → inversePrepared l p ≡ inverseOf (chainOf y ss) p
     unfolding inversePrepared inverseOf convert
     prepared-inverse fault =
         let g = rw (take-length ss) at (holds .sound) in
@@ -246,31 +251,32 @@ module _ (l : List ℤ) (ss : List Step) (holds : Holds l ss) where
         (carried-walk inverseBy inverseStep inverse-same p (startOf (p .realization) ss) (reverse ss) (reverse (rowsOf l 1 (length ss))) (p .position) (readied-back ss (rowsOf l 1 (length ss)) (holds .rows))))
 
 -- ---- a sound chain with one sound step more that joins it
-later-more : (s : Step) (ss : List Step) (t : Step) → first (laterTests s ss) ≡ 0 → stepFault t ≡ 0 → sameRealization (endOf (s .after) ss) (t .before) ≡ true → first (laterTests s (ss ++ (t ∷ []))) ≡ 0
+later-more : (y : ℤ) (s : Step) (ss : List Step) (t : Step) → first (laterTests y s ss) ≡ 0 → stepFault y t ≡ 0 → sameRealization (endOf (s .after) ss) (t .before) ≡ true → first (laterTests y s (ss ++ (t ∷ []))) ≡ 0
 unfolding stepFault endOf
-later-more s [] t e f j = first-append (stepTests t) (joinTest s t ∷ []) tt ∙ rw (f, j)
-later-more s (u ∷ us) t e f j =
-    let p = both-pass (stepTests u) (joinTest s u ∷ laterTests u us) tt e in
-    let q = head-holds (sameRealization (s .after) (u .before)) 4 (first (laterTests u us)) (p .1) in
-    first-append (stepTests u) (joinTest s u ∷ laterTests u (us ++ (t ∷ []))) tt
-    ∙ ap (λ (m : ℕ). orElse m (first (joinTest s u ∷ laterTests u (us ++ (t ∷ []))))) (p .0)
-    ∙ rw (q .0) (later-more u us t (q .1) f j)
+later-more y s [] t e f j = first-append (stepTests y t) (joinTest s t ∷ []) tt ∙ rw (f, j)
+later-more y s (u ∷ us) t e f j =
+    let p = both-pass (stepTests y u) (joinTest s u ∷ laterTests y u us) tt e in
+    let q = head-holds (sameRealization (s .after) (u .before)) 4 (first (laterTests y u us)) (p .1) in
+    first-append (stepTests y u) (joinTest s u ∷ laterTests y u (us ++ (t ∷ []))) tt
+    ∙ ap (λ (m : ℕ). orElse m (first (joinTest s u ∷ laterTests y u (us ++ (t ∷ []))))) (p .0)
+    ∙ rw (q .0) (later-more y u us t (q .1) f j)
 
-steps-more : (ss : List Step) (t : Step) → first (stepsTests ss) ≡ 0 → stepFault t ≡ 0 → sameRealization (endOf (t .before) ss) (t .before) ≡ true → first (stepsTests (ss ++ (t ∷ []))) ≡ 0
+steps-more : (y : ℤ) (ss : List Step) (t : Step) → first (stepsTests y ss) ≡ 0 → stepFault y t ≡ 0 → sameRealization (endOf (t .before) ss) (t .before) ≡ true → first (stepsTests y (ss ++ (t ∷ []))) ≡ 0
 unfolding stepFault endOf
-steps-more [] t e f j = first-append (stepTests t) [] tt ∙ rw f
-steps-more (s ∷ ss) t e f j =
-    let p = both-pass (stepTests s) (laterTests s ss) tt e in
-    first-append (stepTests s) (laterTests s (ss ++ (t ∷ []))) tt
-    ∙ ap (λ (m : ℕ). orElse m (first (laterTests s (ss ++ (t ∷ []))))) (p .0)
-    ∙ later-more s ss t (p .1) f j
+steps-more y [] t e f j = first-append (stepTests y t) [] tt ∙ rw f
+steps-more y (s ∷ ss) t e f j =
+    let p = both-pass (stepTests y s) (laterTests y s ss) tt e in
+    first-append (stepTests y s) (laterTests y s (ss ++ (t ∷ []))) tt
+    ∙ ap (λ (m : ℕ). orElse m (first (laterTests y s (ss ++ (t ∷ []))))) (p .0)
+    ∙ later-more y s ss t (p .1) f j
 
-pub sound-more : (ss : List Step) (t : Step) → first (chainTests (chainOf ss)) ≡ 0 → length ss < 8 → stepFault t ≡ 0 → sameRealization (endOf (t .before) ss) (t .before) ≡ true → first (chainTests (chainOf (ss ++ (t ∷ [])))) ≡ 0
-sound-more ss t e h f j =
+pub sound-more : (y : ℤ) (ss : List Step) (t : Step) → first (chainTests (chainOf y ss)) ≡ 0 → length ss < 8 → stepFault y t ≡ 0 → sameRealization (endOf (t .before) ss) (t .before) ≡ true → first (chainTests (chainOf y (ss ++ (t ∷ [])))) ≡ 0
+sound-more y ss t e h f j =
     let g = rw (take-length ss) at e in
-    let n = step-passed (ltb 8 (length ss)) 6 (first (stepsTests ss)) tt g in
+    let m = head-holds (profileRange y) _ _ g in
+    let n = step-passed (ltb 8 (length ss)) 6 (first (stepsTests y ss)) tt (m .1) in
     let a : ltb 8 (length (ss ++ (t ∷ []))) ≡ false = le-ltb 8 (length (ss ++ (t ∷ []))) (simp length-append (omega arith)) in
-    rw (take-length (ss ++ (t ∷ [])), a) (steps-more ss t (n .1) f j)
+    rw (take-length (ss ++ (t ∷ [])), m .0, a) (steps-more y ss t (n .1) f j)
 
 pub range-ok : (r : Ready) → readyRange r ≡ true → ReadyOk r
 unfolding readyRange
@@ -313,14 +319,14 @@ joined [] l s e = rw (no-steps, same-self (s .before))
 joined (t ∷ ss) l s e = rw (some-steps (length ss)) (ap (λ (r : Realization). sameRealization r (s .before)) (e .ends))
 
 -- what the numbers say of it is what the steps say
-pub extend-refuses : (l : List ℤ) (ss : List Step) (s : Step) → Holds l ss → extendFault l s ≡ first (stepTests s ++ moreTests ss s)
+pub extend-refuses : (y : ℤ) (l : List ℤ) (ss : List Step) (s : Step) → Holds y l ss → extendFault y l s ≡ first (stepTests y s ++ moreTests ss s)
 unfolding extendFault
-extend-refuses l ss s h = rw (h .count, joined ss l s (h .ends), eight-steps (length ss))
+extend-refuses y l ss s h = rw (h .count, joined ss l s (h .ends), eight-steps (length ss))
 
 -- of a step with no fault of its own
-pub extend-joins : (l : List ℤ) (ss : List Step) (s : Step) → Holds l ss → stepFault s ≡ 0 → extendFault l s ≡ first (moreTests ss s)
+pub extend-joins : (y : ℤ) (l : List ℤ) (ss : List Step) (s : Step) → Holds y l ss → stepFault y s ≡ 0 → extendFault y l s ≡ first (moreTests ss s)
 unfolding stepFault
-extend-joins l ss s h f = extend-refuses l ss s h ∙ first-append (stepTests s) (moreTests ss s) tt ∙ ap (λ (n : ℕ). orElse n (first (moreTests ss s))) f
+extend-joins y l ss s h f = extend-refuses y l ss s h ∙ first-append (stepTests y s) (moreTests ss s) tt ∙ ap (λ (n : ℕ). orElse n (first (moreTests ss s))) f
 
 start-more : (ss : List Step) (start : Realization) (t : Step) → start ≡ startOf start ss → startWith (pos (length ss)) start t ≡ startOf (startWith (pos (length ss)) start t) (ss ++ (t ∷ []))
 unfolding startOf
@@ -332,17 +338,17 @@ unfolding endOf
 end-more [] r t = refl
 end-more (s ∷ ss) r t = end-more ss (s .after) t
 
-module _ (l : List ℤ) (ss : List Step) (s : Step) (holds : Holds l ss) (passed : first (stepTests s ++ moreTests ss s) ≡ 0) where
-  alone : stepFault s ≡ 0
+module _ (y : ℤ) (l : List ℤ) (ss : List Step) (s : Step) (holds : Holds y l ss) (passed : first (stepTests y s ++ moreTests ss s) ≡ 0) where
+  alone : stepFault y s ≡ 0
   unfolding stepFault
-  alone = both-pass (stepTests s) (moreTests ss s) tt passed .0
+  alone = both-pass (stepTests y s) (moreTests ss s) tt passed .0
 
   ok : StepOk s
-  ok = step-ok s alone
+  ok = step-ok y s alone
 
   place : (joins ss s ≡ true) × (leb 8 (length ss) ≡ false)
   place =
-      let f = both-pass (stepTests s) (moreTests ss s) tt passed .1 in
+      let f = both-pass (stepTests y s) (moreTests ss s) tt passed .1 in
       let g = head-holds (joins ss s) _ _ f in
       (g .0, step-passed (leb 8 (length ss)) _ 0 tt (g .1) .0)
 
@@ -375,39 +381,39 @@ module _ (l : List ℤ) (ss : List Step) (s : Step) (holds : Holds l ss) (passed
       let b = after-first mid (pos (length ss) +ℤ pos 1) start (s .after) (length ss + 1) (omega arith) ∙ here l (length ss + 1) (readyFor s) (omega (arith, holds .room, few)) (prepares s ok .ok) in
       rw (more more-numbers 1 (length ss), a, z, b) (readied-more ss (rowsOf l 1 (length ss)) s (record { good = true; ready = readyFor s }) (holds .rows) refl (prepares s ok))
 
-  held : Holds more-numbers (ss ++ (s ∷ []))
+  held : Holds y more-numbers (ss ++ (s ∷ []))
   held = record {
     room = length-sets mid 0 (firstRow (pos (length ss) +ℤ pos 1) start (s .after)) ∙ mid-room;
     count = at-first 0 (omega arith) ∙ ap pos (sym (length-append ss (s ∷ [])));
     ends = rw (at-first 1 (omega arith), at-first 2 (omega arith), at-first 3 (omega arith), at-first 4 (omega arith)) (record { starts = start-more ss (startIn l) s (holds .ends .starts); ends = end-more ss (s .after) s });
     rows = rw (length-append) rows;
-    sound = sound-more ss s (holds .sound) few alone (place .0);
+    sound = sound-more y ss s (holds .sound) few alone (place .0);
   }
 
   -- the extended numbers hold the chain with the step
-  pub extended-holds : Holds (extendedBy l s) (ss ++ (s ∷ []))
+  pub extended-holds : Holds y (extendedBy y l s) (ss ++ (s ∷ []))
   unfolding extendedBy
-  extended-holds = rw (eq-eqb (extendFault l s) 0 (extend-refuses l ss s holds ∙ passed), kept-is) held
+  extended-holds = rw (eq-eqb (extendFault y l s) 0 (extend-refuses y l ss s holds ∙ passed), kept-is) held
 
-pub extend-holds : (l : List ℤ) (ss : List Step) (s : Step) → Holds l ss → extendFault l s ≡ 0 → Holds (extendedBy l s) (ss ++ (s ∷ []))
-extend-holds l ss s h e = extended-holds l ss s h (sym (extend-refuses l ss s h) ∙ e)
+pub extend-holds : (y : ℤ) (l : List ℤ) (ss : List Step) (s : Step) → Holds y l ss → extendFault y l s ≡ 0 → Holds y (extendedBy y l s) (ss ++ (s ∷ []))
+extend-holds y l ss s h e = extended-holds y l ss s h (sym (extend-refuses y l ss s h) ∙ e)
 
 -- what a step that extends a chain keeps
-pub extend-passed : (l : List ℤ) (s : Step) → extendFault l s ≡ 0 → (stepFault s ≡ 0) × (within (pos 0) (lengthIn l) (pos 7) ≡ true)
+pub extend-passed : (y : ℤ) (l : List ℤ) (s : Step) → extendFault y l s ≡ 0 → (stepFault y s ≡ 0) × (within (pos 0) (lengthIn l) (pos 7) ≡ true)
 unfolding extendFault stepFault
-extend-passed l s e =
+extend-passed y l s e =
     let rest = (not (equal (pos 0) (lengthIn l) || sameRealization (endIn l) (s .before)) gives refusal.join) ∷ (not (within (pos 0) (lengthIn l) (pos 7)) gives refusal.ninth) ∷ [] in
-    let f = both-pass (stepTests s) rest tt e in
+    let f = both-pass (stepTests y s) rest tt e in
     let g = head-holds (equal (pos 0) (lengthIn l) || sameRealization (endIn l) (s .before)) _ _ (f .1) in
     (f .0, head-holds (within (pos 0) (lengthIn l) (pos 7)) _ 0 (g .1) .0)
 
-pub extended-is : (l : List ℤ) (s : Step) → extendFault l s ≡ 0 → extendedBy l s ≡ sets (sets l (8 * (natAbs (lengthIn l) + 1)) (numbersOf (readyFor s))) 0 (firstRow (lengthIn l +ℤ pos 1) (startWith (lengthIn l) (startIn l) s) (s .after))
+pub extended-is : (y : ℤ) (l : List ℤ) (s : Step) → extendFault y l s ≡ 0 → extendedBy y l s ≡ sets (sets l (8 * (natAbs (lengthIn l) + 1)) (numbersOf (readyFor s))) 0 (firstRow (lengthIn l +ℤ pos 1) (startWith (lengthIn l) (startIn l) s) (s .after))
 unfolding extendedBy keptOf
-extended-is l s e = rw (eq-eqb (extendFault l s) 0 e)
+extended-is y l s e = rw (eq-eqb (extendFault y l s) 0 e)
 
-pub refused-is : (l : List ℤ) (s : Step) → (extendFault l s ≡ 0 → ⊥) → extendedBy l s ≡ l
+pub refused-is : (y : ℤ) (l : List ℤ) (s : Step) → (extendFault y l s ≡ 0 → ⊥) → extendedBy y l s ≡ l
 unfolding extendedBy
-refused-is l s h = rw (ne-eqb (extendFault l s) 0 h)
+refused-is y l s h = rw (ne-eqb (extendFault y l s) 0 h)
 
 -- what a point that is not refused keeps, and what is answered
 pub prepared-passed : (n : ℤ) (wanted : Realization) (p : Point) → first (preparedTests n wanted p) ≡ 0 → (within (pos 0) n (pos 8) ≡ true) × (inArea (p .position) ≡ true)
@@ -434,9 +440,9 @@ module _ (l : List ℤ) (p : Point) where
   inverse-carried h = sym (unless-none _ Refused _ h)
 
 -- all zeros hold the empty chain, and so does anything with no step
-pub holds-none : (l : List ℤ) → length l ≡ 72 → lengthIn l ≡ pos 0 → Holds l []
+pub holds-none : (y : ℤ) (l : List ℤ) → profileRange y ≡ true → length l ≡ 72 → lengthIn l ≡ pos 0 → Holds y l []
 unfolding rowsOf startOf endOf
-holds-none l e f = record { room = e; count = f; ends = record { starts = refl; ends = refl }; rows = tt; sound = refl }
+holds-none y l g e f = record { room = e; count = f; ends = record { starts = refl; ends = refl }; rows = tt; sound = rw g }
 
 -- ---- a turn of the code's loops over the rows
 pub rows-on : (l : List ℤ) (i n : ℕ) → i < n → rowsOf l i (n - i) ≡ rowAt l i ∷ rowsOf l (i + 1) (n - (i + 1))

@@ -16,58 +16,63 @@ use Rattle.chain.specs.declared.Step.{Step}
 use Rattle.chain.specs.declared.Chain.{Chain}
 use Rattle.chain.specs.declared.Answer.{Answer}
 use Rattle.chain.specs.declared.Answer.the-variants.{Converted, Refused}
-use Rattle.chain.specs.Faults.{realizationRange, agrees, givenPosition, inArea, labelRange, pointRange, pointTests, pointFault, laterTests, stepsTests, chainTests, stepsOf}
+use Rattle.chain.specs.Faults.{realizationRange, agrees, hasDatum, hasKind, hasStep, givenPosition, inArea, labelRange, pointRange, pointTests, pointFault, laterTests, stepsTests, chainTests, stepsOf}
 use Rattle.chain.specs.Axes.{onX, onY, onZ}
 use Rattle.chain.specs.Convert.{Walk, at, left, walk, forwardStep, startOf, endOf, placeTests, conversionTests, movedTo, answerOf, convert, forwardOf}
 use Rattle.ranges.proofs.Ranges.{all, up-to-holds}
 use Rattle.chain.proofs.Within.{area-small}
 use Rattle.chain.proofs.Walk.{walk-area}
-use Rattle.chain.proofs.Accepted.{Sound, converted}
+use Rattle.chain.proofs.Accepted.{Sound, Held, converted}
 
 -- ---- a converted point
--- a datum at an epoch, as a line may say it
-record Dated (r : Realization) : Type 0 where
+-- a datum at an epoch, as a line under a profile may say it
+record Dated (y : ℤ) (r : Realization) : Type 0 where
   range : realizationRange r ≡ true
   agree : agrees r ≡ true
+  had : hasDatum y r ≡ true
 
 -- where a chain ends
-end-dated : (r : Realization) (ss : List Step) → Sound ss → Dated r → Dated (endOf r ss)
-unfolding endOf
-end-dated r [] ok d = d
-end-dated r (s ∷ ss) ok d = let o = ok .0 in end-dated (s .after) ss (ok .1) (record { range = o .after; agree = o .agreed })
+end-dated : (y : ℤ) (r : Realization) (ss : List Step) → Sound ss → Held y ss → Dated y r → Dated y (endOf r ss)
+unfolding endOf hasStep
+end-dated y r [] ok had d = d
+end-dated y r (s ∷ ss) ok had d =
+    let o = ok .0 in
+    let h = all (hasKind y (s .kind)) (hasDatum y (s .before)) (hasDatum y (s .after)) (had .0) in
+    end-dated y (s .after) ss (ok .1) (had .1) (record { range = o .after; agree = o .agreed; had = h .2 })
 
 -- the area lies within the range of a coordinate
 area-given : (p : Position) → inArea p ≡ true → givenPosition p ≡ true
 unfolding givenPosition
 area-given p h = let s = area-small p h in rw (up-to-holds 640000000000 (p .x) (s .on onX), up-to-holds 640000000000 (p .y) (s .on onY), up-to-holds 640000000000 (p .z) (s .on onZ))
 
-faultless : (p : Point) → labelRange (p .label) ≡ true → Dated (p .realization) → givenPosition (p .position) ≡ true → pointFault p ≡ 0
+faultless : (y : ℤ) (p : Point) → labelRange (p .label) ≡ true → Dated y (p .realization) → givenPosition (p .position) ≡ true → pointFault y p ≡ 0
 unfolding pointFault pointRange
-faultless p i d g = rw (i, d .range, g, d .agree)
+faultless y p i d g = rw (i, d .range, g, d .agree, d .had)
 
 module _ (c : Chain) (p : Point) where
-  pub converted-faultless : (q : Point) → pointFault p ≡ 0 → forwardOf c p ≡ Converted q → pointFault q ≡ 0
+  pub converted-faultless : (q : Point) → pointFault (c .profile) p ≡ 0 → forwardOf c p ≡ Converted q → pointFault (c .profile) q ≡ 0
   unfolding forwardOf pointFault pointRange
   converted-faultless q f e =
       let ss = stepsOf c in
       let a = converted c p (startOf (p .realization) ss) (endOf (p .realization) ss) (walk forwardStep ss (p .position)) q e in
       let h = head-holds (pointRange p) 1 _ f in
       let r = all (labelRange (p .label)) (realizationRange (p .realization)) (givenPosition (p .position)) (h .0) in
-      let d : Dated (p .realization) = record { range = r .1; agree = head-holds (agrees (p .realization)) 2 0 (h .1) .0 } in
+      let g = head-holds (agrees (p .realization)) 2 _ (h .1) in
+      let d : Dated (c .profile) (p .realization) = record { range = r .1; agree = g .0; had = head-holds (hasDatum (c .profile) (p .realization)) 24 0 (g .1) .0 } in
       let i = walk-area forwardStep ss (p .position) (q .position) (a .accept .area) (a .ended) in
-      ap pointFault (a .is) ∙ faultless (movedTo p (endOf (p .realization) ss) (q .position)) (r .0) (end-dated (p .realization) ss (a .accept .sound) d) (area-given (q .position) i)
+      ap (pointFault (c .profile)) (a .is) ∙ faultless (c .profile) (movedTo p (endOf (p .realization) ss) (q .position)) (r .0) (end-dated (c .profile) (p .realization) ss (a .accept .sound) (a .accept .held) d) (area-given (q .position) i)
 
   -- ---- a refusal
-  short-later : (s : Step) (ss : List Step) → T (short (laterTests s ss))
+  short-later : (s : Step) (ss : List Step) → T (short (laterTests (c .profile) s ss))
   short-later s [] = tt
   short-later s (t ∷ ts) = short-later t ts
 
-  short-steps : (ss : List Step) → T (short (stepsTests ss))
+  short-steps : (ss : List Step) → T (short (stepsTests (c .profile) ss))
   short-steps [] = tt
   short-steps (s ∷ ss) = short-later s ss
 
   short-tests : (wanted : Realization) → T (short (conversionTests c p wanted))
-  short-tests wanted = short-append (chainTests c) (pointTests p ++ placeTests p wanted) (short-steps (stepsOf c)) tt
+  short-tests wanted = short-append (chainTests c) (pointTests (c .profile) p ++ placeTests p wanted) (short-steps (stepsOf c)) tt
 
   from-walk : (r : Realization) (w : Walk) (k n : ℕ) → k < 100 → unless k Refused (answerOf p r w) ≡ Refused n → n < 100
   unfolding answerOf
@@ -83,7 +88,7 @@ module _ (c : Chain) (p : Point) where
       from-walk (endOf (p .realization) ss) (walk forwardStep ss (p .position)) (first (conversionTests c p wanted)) n (first-short (conversionTests c p wanted) (short-tests wanted)) e
 
   -- ---- so whatever holds of both holds of the answer
-  pub outcome : (P : Answer → Type 0) → pointFault p ≡ 0 → ((q : Point) → pointFault q ≡ 0 → P (Converted q)) → ((n : ℕ) → n < 100 → P (Refused n)) → P (forwardOf c p)
+  pub outcome : (P : Answer → Type 0) → pointFault (c .profile) p ≡ 0 → ((q : Point) → pointFault (c .profile) q ≡ 0 → P (Converted q)) → ((n : ℕ) → n < 100 → P (Refused n)) → P (forwardOf c p)
   outcome P f C R = go (forwardOf c p) refl
     where
       go : (a : Answer) → forwardOf c p ≡ a → P a

@@ -5,7 +5,7 @@ use Prim.Native.Nat.{ℕ, zero, suc, _+_, _<_}
 use native.Mathlib.Nat as NatL
 use native.Mathlib.Numerals.{add-one}
 use native.Mathlib.Omega.{arith}
-use lib.IntN.{pos}
+use lib.IntN.{ℤ, pos}
 use lib.ListN.{length, take, drop, getD, length-take}
 use lib.Seq.{take-suc, drop-cons, getD-take}
 use Rattle.refusal.specs.Order.{first}
@@ -27,8 +27,8 @@ no-step = record {
 }
 
 -- a step that follows another: its tests and the join, then the rest
-pub later-first : (s t : Step) (ts : List Step) → first (laterTests s (t ∷ ts)) ≡ orElse (first (stepTests t ++ (joinTest s t ∷ []))) (first (laterTests t ts))
-later-first s t ts = first-append (stepTests t ++ (joinTest s t ∷ [])) (laterTests t ts) tt
+pub later-first : (y : ℤ) (s t : Step) (ts : List Step) → first (laterTests y s (t ∷ ts)) ≡ orElse (first (stepTests y t ++ (joinTest s t ∷ []))) (first (laterTests y t ts))
+later-first y s t ts = first-append (stepTests y t ++ (joinTest s t ∷ [])) (laterTests y t ts) tt
 
 module _ (l : List Step) (n i : ℕ) (below : i < n) (inside : i < length l) where
   abbrev here : Step
@@ -42,8 +42,8 @@ module _ (l : List Step) (n i : ℕ) (below : i < n) (inside : i < length l) whe
       ∙ ap (λ (s : Step). s ∷ drop (suc i) (take n l)) (getD-take n l i no-step below)
       ∙ ap (λ (j : ℕ). here ∷ drop j (take n l)) (sym (add-one i))
 
-  pub later-from : (s : Step) → first (laterTests s (drop i (take n l))) ≡ orElse (first (stepTests here ++ (joinTest s here ∷ []))) (first (laterTests here (drop (i + 1) (take n l))))
-  later-from s = ap (λ (ss : List Step). first (laterTests s ss)) from ∙ later-first s here (drop (i + 1) (take n l))
+  pub later-from : (y : ℤ) (s : Step) → first (laterTests y s (drop i (take n l))) ≡ orElse (first (stepTests y here ++ (joinTest s here ∷ []))) (first (laterTests y here (drop (i + 1) (take n l))))
+  later-from y s = ap (λ (ss : List Step). first (laterTests y s ss)) from ∙ later-first y s here (drop (i + 1) (take n l))
 
   pub walk-from : (f : Step → Position → Position) (p : Position) → walk f (drop i (take n l)) p ≡ onward (arrive (f here p)) (walk f (drop (i + 1) (take n l)))
   unfolding walk
@@ -71,10 +71,10 @@ sound-at (x ∷ xs) (suc n) zero h k ok = ok .0
 sound-at (x ∷ xs) (suc n) (suc i) h k ok = sound-at xs n i (NatL.le-of-suc-le-suc h) (NatL.le-of-suc-le-suc k) (ok .1)
 
 -- ---- the first and the last step
-pub first-tests : (l : List Step) (n : ℕ) → 0 < n → 0 < length l → first (stepsTests (take n l)) ≡ orElse (first (stepTests (getD l 0 no-step))) (first (laterTests (getD l 0 no-step) (drop 1 (take n l))))
-first-tests [] n h k = absurd (NatL.not-suc-le-zero k)
-first-tests (x ∷ xs) zero h k = absurd (NatL.not-suc-le-zero h)
-first-tests (x ∷ xs) (suc n) h k = first-append (stepTests x) (laterTests x (take n xs)) tt
+pub first-tests : (y : ℤ) (l : List Step) (n : ℕ) → 0 < n → 0 < length l → first (stepsTests y (take n l)) ≡ orElse (first (stepTests y (getD l 0 no-step))) (first (laterTests y (getD l 0 no-step) (drop 1 (take n l))))
+first-tests y [] n h k = absurd (NatL.not-suc-le-zero k)
+first-tests y (x ∷ xs) zero h k = absurd (NatL.not-suc-le-zero h)
+first-tests y (x ∷ xs) (suc n) h k = first-append (stepTests y x) (laterTests y x (take n xs)) tt
 
 pub start-at : (l : List Step) (n : ℕ) (r : Realization) → 0 < n → 0 < length l → startOf r (take n l) ≡ getD l 0 no-step .before
 unfolding startOf

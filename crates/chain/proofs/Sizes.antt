@@ -20,7 +20,7 @@ use Rattle.chain.specs.declared.Kind.{Kind}
 use Rattle.chain.specs.declared.Kind.the-variants.{Shift, Velocity, BursaWolf, Frame}
 use Rattle.chain.specs.declared.Step.{Step}
 use Rattle.ranges.specs.Ranges.{within, equal, datumRange, epochRange, shiftRange, rotationRange, scaleRange, velocityRange}
-use Rattle.chain.specs.Faults.{KindOk, StepOk, agrees, realizationRange, kindRange, kindRule, stepRange, stepFault}
+use Rattle.chain.specs.Faults.{KindOk, StepOk, agrees, realizationRange, hasStep, kindRange, kindRule, stepRange, stepFault}
 use Rattle.chain.specs.Rows.{rows, rowIndex, rowOf, figure}
 use Rattle.chain.specs.Parts.{Parts, fixed, shiftParts, velocityParts, byConvention, rotation11, scaledRotation, applied, over11, over14, turnedParts, bursaWolfParts, atEpoch, shiftAt, scaleAt, scaledParts, frameParts, kindParts}
 use Rattle.chain.specs.Axes.{Axis, onX, onY, onZ, partOn}
@@ -30,15 +30,24 @@ use Rattle.chain.proofs.Rounding.{step-size}
 use Rattle.chain.proofs.StepLaws.{Mild, Milds, Flat, Flats}
 
 -- ---- what a step that is not refused keeps
-pub step-ok : (s : Step) → stepFault s ≡ 0 → StepOk s
+pub step-ok : (y : ℤ) (s : Step) → stepFault y s ≡ 0 → StepOk s
 unfolding stepFault stepRange
-step-ok s e =
+step-ok y s e =
     let f = head-holds (stepRange s) _ _ e in
     let g = head-holds (agrees (s .before) && agrees (s .after)) _ _ (f .1) in
-    let h = head-holds (kindRule (s .kind) (s .before) (s .after)) _ _ (g .1) in
+    let o = head-holds (hasStep y s) _ _ (g .1) in
+    let h = head-holds (kindRule (s .kind) (s .before) (s .after)) _ _ (o .1) in
     let r = all (kindRange (s .kind)) (realizationRange (s .before)) (realizationRange (s .after)) (f .0) in
     let a = both (agrees (s .before)) (agrees (s .after)) (g .0) in
     record { range = r .0; before = r .1; after = r .2; agree = a .0; agreed = a .1; rule = h .0 }
+
+-- its profile has it
+pub step-had : (y : ℤ) (s : Step) → stepFault y s ≡ 0 → hasStep y s ≡ true
+unfolding stepFault
+step-had y s e =
+    let f = head-holds (stepRange s) _ _ e in
+    let g = head-holds (agrees (s .before) && agrees (s .after)) _ _ (f .1) in
+    head-holds (hasStep y s) _ _ (g .1) .0
 
 -- ---- epochs
 not-both : (a b : Bool) → (a || b) ≡ true → not a ≡ true → b ≡ true

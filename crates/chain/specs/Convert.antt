@@ -61,7 +61,7 @@ abbrev pub placeTests : Point → Realization → List Test
 placeTests p wanted = (not (sameRealization (p .realization) wanted) gives refusal.start) ∷ (not (inArea (p .position)) gives refusal.area) ∷ []
 
 abbrev pub conversionTests : Chain → Point → Realization → List Test
-conversionTests c p wanted = chainTests c ++ (pointTests p ++ placeTests p wanted)
+conversionTests c p wanted = chainTests c ++ (pointTests (c .profile) p ++ placeTests p wanted)
 
 -- the point at another position: its label (id, issue and order) passes through
 abbrev pub movedTo : Point → Realization → Position → Point

@@ -1,6 +1,7 @@
--- The order of refusals by value: a case for each place in the order, in which that test fails and every later one that can.
+-- The order of refusals by value: a case for each place in the order, in which that test fails and every later one that can; and what the edition of 2009 has.
 use mathlib.Core.Path.{_≡_}
 use mathlib.Core.List.{List, [], _∷_, map}
+use Prim.Native.Nat.{ℕ}
 use lib.IntN.{ℤ, pos}
 use lib.ListN.{replicate}
 use Rattle.refusal.specs.Numbers as refusal
@@ -8,9 +9,10 @@ use Rattle.chain.specs.declared.Position.{Position}
 use Rattle.chain.specs.declared.Realization.{Realization}
 use Rattle.chain.specs.declared.Point.{Point}
 use Rattle.chain.specs.declared.Kind.{Kind}
+use Rattle.chain.specs.declared.Kind.the-variants.{Frame}
 use Rattle.chain.specs.declared.Step.{Step}
 use Rattle.chain.specs.declared.Answer.{Answer}
-use Rattle.chain.specs.declared.Answer.the-variants.{Refused}
+use Rattle.chain.specs.declared.Answer.the-variants.{Converted, Refused}
 use Rattle.chain.specs.Convert.{forwardOf, inverseOf}
 use Rattle.chain.specs.Prepared.{chainOf}
 use Rattle.chain.specs.Cases.{less, on, xyz, shift, velocity, a1}
@@ -63,12 +65,29 @@ far e = point (pos 1) (record { datum = pos 8; epoch = e }) outside
 abbrev atEnd : ℤ → ℤ → Point
 atEnd e x = point (pos 1) (record { datum = pos 8; epoch = e }) (xyz x (pos 600000000000) (pos 50000000000))
 
+-- ---- under the edition of 2009
+abbrev under : ℤ → List Step → Point → Answer
+under y ss p = forwardOf (chainOf y ss) p
+
+abbrev backUnder : ℤ → List Step → Point → Answer
+backUnder y ss p = inverseOf (chainOf y ss) p
+
+-- a shift from a datum to a datum, and a point there
+abbrev between : ℕ → ℕ → Step
+between d d' = step (shift (pos 0) (pos 0) (pos 0)) (on d 2010000) (on d' 2010000)
+
+abbrev frame : Step
+frame = step Frame (on 5 2010000) (on 10 2010000)
+
+abbrev there : ℕ → Point
+there d = point (pos 1) (on d 2010000) a1
+
 -- ---- the order, by either way over the chain
 abbrev over : List Step → Point → Answer
-over ss p = forwardOf (chainOf ss) p
+over ss p = under (pos 2021) ss p
 
 abbrev back : List Step → Point → Answer
-back ss p = inverseOf (chainOf ss) p
+back ss p = backUnder (pos 2021) ss p
 
 abbrev pub orderCases : List Trial
 orderCases =
@@ -95,6 +114,28 @@ orderCases =
     -- the empty chain starts wherever the point is: the area decides
     ∷ trial (over [] (far (pos 2010000))) (Refused refusal.area)
     ∷ trial (back [] (far (pos 2010000))) (Refused refusal.area)
+    -- the mark before the length; a step's 25 after 2 and 3, before 4
+    ∷ trial (under (pos 2010) (replicate 9 outOfRange) outOfRangeToo) (Refused refusal.range)
+    ∷ trial (backUnder (pos 2010) (replicate 9 outOfRange) outOfRangeToo) (Refused refusal.range)
+    ∷ trial (under (pos 2009) (replicate 9 outOfRange) outOfRangeToo) (Refused refusal.ninth)
+    ∷ trial (under (pos 2009) (outOfRange ∷ []) outOfRangeToo) (Refused refusal.range)
+    ∷ trial (under (pos 2009) (wrongEpoch ∷ []) outOfRangeToo) (Refused refusal.epoch)
+    ∷ trial (under (pos 2009) (wrongKind ∷ []) outOfRangeToo) (Refused refusal.profile)
+    ∷ trial (under (pos 2009) (between 5 7 ∷ joinsNothing ∷ []) outOfRangeToo) (Refused refusal.profile)
+    ∷ trial (under (pos 2009) (frame ∷ []) (there 5)) (Refused refusal.profile)
+    ∷ trial (under (pos 2009) (between 6 7 ∷ []) (there 6)) (Refused refusal.profile)
+    ∷ trial (under (pos 2009) (between 7 8 ∷ []) (there 7)) (Refused refusal.profile)
+    -- a point's after 3, before 9, also under an empty chain
+    ∷ trial (under (pos 2009) (between 5 7 ∷ []) outOfRangeToo) (Refused refusal.range)
+    ∷ trial (under (pos 2009) (between 5 7 ∷ []) wrongEpochToo) (Refused refusal.epoch)
+    ∷ trial (under (pos 2009) (between 5 7 ∷ []) (there 6)) (Refused refusal.profile)
+    ∷ trial (under (pos 2009) (between 5 7 ∷ []) elsewhere) (Refused refusal.start)
+    ∷ trial (under (pos 2009) [] (there 6)) (Refused refusal.profile)
+    ∷ trial (backUnder (pos 2009) [] (there 9)) (Refused refusal.profile)
+    -- what it has
+    ∷ trial (under (pos 2009) (between 3 4 ∷ between 4 5 ∷ between 5 7 ∷ []) (there 3)) (Converted (there 7))
+    ∷ trial (backUnder (pos 2009) (between 5 7 ∷ []) (there 7)) (Converted (there 5))
+    ∷ trial (under (pos 2021) (between 6 9 ∷ []) (there 6)) (Converted (there 9))
     ∷ []
 
 abbrev pub OrderCases : Type 0

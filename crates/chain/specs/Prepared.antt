@@ -87,16 +87,16 @@ unfoldable pub rowsOf : List ℤ → ℕ → ℕ → List Row
 rowsOf l i zero = []
 rowsOf l i (suc n) = rowAt l i ∷ rowsOf l (suc i) n
 
--- ---- a step more: its own 2, 3, 4, then 5, 6
-abbrev pub extendTests : ℤ → Realization → Step → List Test
-extendTests n end s =
-    stepTests s
+-- ---- a step more, of a profile: its own 2, 3, 25, 4, then 5, 6
+abbrev pub extendTests : ℤ → ℤ → Realization → Step → List Test
+extendTests y n end s =
+    stepTests y s
     ++ ((not (equal (pos 0) n || sameRealization end (s .before)) gives refusal.join)
     ∷ (not (within (pos 0) n (pos 7)) gives refusal.ninth)
     ∷ [])
 
-unfoldable pub extendFault : List ℤ → Step → ℕ
-extendFault l s = first (extendTests (lengthIn l) (endIn l) s)
+unfoldable pub extendFault : ℤ → List ℤ → Step → ℕ
+extendFault y l s = first (extendTests y (lengthIn l) (endIn l) s)
 
 -- the first row with a step more: the first step's beginning stays
 abbrev pub startWith : ℤ → Realization → Step → Realization
@@ -112,8 +112,8 @@ keptOf l s =
     (firstRow (lengthIn l +ℤ pos 1) (startWith (lengthIn l) (startIn l) s) (s .after))
 
 -- a step that is refused leaves the numbers as they were
-unfoldable pub extendedBy : List ℤ → Step → List ℤ
-extendedBy l s = pick (eqb (extendFault l s) 0) (keptOf l s) l
+unfoldable pub extendedBy : ℤ → List ℤ → Step → List ℤ
+extendedBy y l s = pick (eqb (extendFault y l s) 0) (keptOf l s) l
 
 -- ---- converting from the rows, for a point with no fault of its own: 6 for a length that no chain has, 9, 10, then at each step 2 for a row that no step gives,
 -- and 11
@@ -143,9 +143,9 @@ inversePrepared l p =
     unless (first (preparedTests (lengthIn l) (endIn l) p)) Refused
     (carried inverseBy p (reachedWith (lengthIn l) (p .realization) (startIn l)) (reverse (rowsOf l 1 (natAbs (lengthIn l)))) (p .position))
 
--- ---- the numbers hold a chain of these steps
-abbrev pub chainOf : List Step → Chain
-chainOf ss = record { steps = ss; length = length ss }
+-- ---- the numbers hold a chain of these steps, of a profile
+abbrev pub chainOf : ℤ → List Step → Chain
+chainOf y ss = record { steps = ss; length = length ss; profile = y }
 
 -- each row is ready for its step
 abbrev pub Readied : List Step → List Row → Type 0
@@ -159,9 +159,9 @@ pub record Ends (start end : Realization) (ss : List Step) : Type 0 where
   pub starts : start ≡ startOf start ss
   pub ends : end ≡ endOf end ss
 
-pub record Holds (l : List ℤ) (ss : List Step) : Type 0 where
+pub record Holds (y : ℤ) (l : List ℤ) (ss : List Step) : Type 0 where
   pub room : length l ≡ 72
   pub count : lengthIn l ≡ pos (length ss)
   pub ends : Ends (startIn l) (endIn l) ss
   pub rows : Readied ss (rowsOf l 1 (length ss))
-  pub sound : first (chainTests (chainOf ss)) ≡ 0
+  pub sound : first (chainTests (chainOf y ss)) ≡ 0

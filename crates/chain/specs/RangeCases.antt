@@ -34,26 +34,30 @@ issued n = labelled n (pos 1)
 abbrev ordered : ℤ → Point
 ordered n = labelled (pos 1) n
 
+-- under the edition of 2021
+abbrev alone : Point → ℕ
+alone p = pointFault (pos 2021) p
+
 abbrev at : Realization → ℕ → Fault
-at r w = by (pointFault (point r a1)) w
+at r w = by (alone (point r a1)) w
 
 -- the same bounds on X, Y and Z
 abbrev coordinates : ℤ → ℕ → List Fault
 coordinates z w =
-    by (pointFault (point (on 8 2010000) (xyz z (pos 0) (pos 0)))) w
-    ∷ by (pointFault (point (on 8 2010000) (xyz (pos 0) z (pos 0)))) w
-    ∷ by (pointFault (point (on 8 2010000) (xyz (pos 0) (pos 0) z))) w
+    by (alone (point (on 8 2010000) (xyz z (pos 0) (pos 0)))) w
+    ∷ by (alone (point (on 8 2010000) (xyz (pos 0) z (pos 0)))) w
+    ∷ by (alone (point (on 8 2010000) (xyz (pos 0) (pos 0) z))) w
     ∷ []
 
 abbrev pub pointCases : List Fault
 pointCases =
-    by (pointFault (issued (pos 0))) refusal.range
-    ∷ by (pointFault (issued (pos 1))) fine
-    ∷ by (pointFault (issued (pos 65535))) fine
-    ∷ by (pointFault (issued (pos 65536))) refusal.range
-    ∷ by (pointFault (ordered (pos 0))) refusal.range
-    ∷ by (pointFault (ordered (pos 4))) fine
-    ∷ by (pointFault (ordered (pos 5))) refusal.range
+    by (alone (issued (pos 0))) refusal.range
+    ∷ by (alone (issued (pos 1))) fine
+    ∷ by (alone (issued (pos 65535))) fine
+    ∷ by (alone (issued (pos 65536))) refusal.range
+    ∷ by (alone (ordered (pos 0))) refusal.range
+    ∷ by (alone (ordered (pos 4))) fine
+    ∷ by (alone (ordered (pos 5))) refusal.range
     ∷ at (on 0 2010000) refusal.range
     ∷ at (on 1 0) fine
     ∷ at (on 2 0) fine
@@ -75,7 +79,7 @@ abbrev bursaWolf : ℤ → ℤ → ℤ → ℤ → ℤ → ℤ → ℤ → Kind
 bursaWolf dx dy dz rx ry rz s = BursaWolf (record { convention = PositionVector; dx = dx; dy = dy; dz = dz; rx = rx; ry = ry; rz = rz; s = s })
 
 abbrev step : Kind → Realization → Realization → ℕ
-step kind r a = stepFault (record { kind = kind; before = r; after = a })
+step kind r a = stepFault (pos 2021) (record { kind = kind; before = r; after = a })
 
 abbrev ends : (ℤ → Kind) → ℕ → List Fault
 ends kind most =

@@ -13,10 +13,10 @@ use crate::faults;
 use crate::points;
 
 // A step that follows another: its own faults, then JOIN where it doesn't begin where the other ended.
-fn later_fault(previous: Step, step: Step) -> u8
-    ensures { λ r. ⌜ r ≡ first (stepTests step ++ (joinTest previous step ∷ [])) ⌝ }
+fn later_fault(profile: i64, previous: Step, step: Step) -> u8
+    ensures { λ r. ⌜ r ≡ first (stepTests profile step ++ (joinTest previous step ∷ [])) ⌝ }
 {
-    let f = faults::step_fault(step);
+    let f = faults::step_fault(profile, step);
     if f != 0 {
         return f;
     }
@@ -31,21 +31,21 @@ fn later_fault(previous: Step, step: Step) -> u8
 // The steps within the length, one after another.
 fn steps_fault(chain: Chain) -> u8
     requires { ⌜ chain .length ≤ 8 ⌝ }
-    ensures { λ r. ⌜ r ≡ first (stepsTests (stepsOf chain)) ⌝ }
+    ensures { λ r. ⌜ r ≡ first (stepsTests (chain .profile) (stepsOf chain)) ⌝ }
 {
     let n = chain.length;
     if n == 0 {
         return 0;
     }
     let mut previous = chain.steps[0];
-    let f = faults::step_fault(previous);
+    let f = faults::step_fault(chain.profile, previous);
     if f != 0 {
         return f;
     }
     let mut i = 1;
     while i < n {
         let step = chain.steps[i];
-        let f = later_fault(previous, step);
+        let f = later_fault(chain.profile, previous, step);
         if f != 0 {
             return f;
         }
@@ -55,21 +55,24 @@ fn steps_fault(chain: Chain) -> u8
     0
 }
 
-// The refusal that a chain alone decides: NINTH, then each step's, or 0 for none.
+// The refusal that a chain alone decides: RANGE for its profile, NINTH, then each step's, or 0 for none.
 pub(crate) fn chain_fault(chain: Chain) -> u8
     ensures { λ r. ⌜ r ≡ first (chainTests chain) ⌝ }
 {
+    if !ranges::is_profile(chain.profile) {
+        return refusal::RANGE;
+    }
     if chain.length > 8 {
         return refusal::NINTH;
     }
     steps_fault(chain)
 }
 
-// The refusal of a point for a conversion that wants it at a realization: its numbers, START, AREA, or 0 for none.
-pub(crate) fn entry_fault(point: Point, wanted: Realization) -> u8
-    ensures { λ r. ⌜ r ≡ first (pointTests point ++ placeTests point wanted) ⌝ }
+// The refusal of a point for a conversion of a profile that wants it at a realization: its numbers, PROFILE, START, AREA, or 0 for none.
+pub(crate) fn entry_fault(profile: i64, point: Point, wanted: Realization) -> u8
+    ensures { λ r. ⌜ r ≡ first (pointTests profile point ++ placeTests point wanted) ⌝ }
 {
-    let f = faults::point_fault(point);
+    let f = faults::point_fault(profile, point);
     if f != 0 {
         return f;
     }

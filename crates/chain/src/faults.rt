@@ -5,10 +5,11 @@ use crate::Point;
 use crate::Step;
 use crate::kinds;
 use crate::points;
+use crate::profiles;
 
-// The refusal that a point's numbers alone decide: RANGE, EPOCH, or 0 for none. The area and the chain are not looked at.
-pub fn point_fault(point: Point) -> u8
-    ensures { λ r. ⌜ r ≡ pointFault point ⌝ }
+// The refusal that a point's numbers alone decide under a profile (2009 or 2021): RANGE, EPOCH, PROFILE, or 0 for none. The area and the chain are not looked at.
+pub fn point_fault(profile: i64, point: Point) -> u8
+    ensures { λ r. ⌜ r ≡ pointFault profile point ⌝ }
 {
     if !points::point_in_range(point) {
         return refusal::RANGE;
@@ -17,12 +18,15 @@ pub fn point_fault(point: Point) -> u8
     if !points::agrees(r) {
         return refusal::EPOCH;
     }
+    if !profiles::has_datum(profile, r) {
+        return refusal::PROFILE;
+    }
     0
 }
 
-// The refusal that a step alone decides: RANGE, EPOCH, KIND, or 0 for none.
-pub fn step_fault(step: Step) -> u8
-    ensures { λ r. ⌜ r ≡ stepFault step ⌝ }
+// The refusal that a step alone decides under a profile (2009 or 2021): RANGE, EPOCH, PROFILE, KIND, or 0 for none.
+pub fn step_fault(profile: i64, step: Step) -> u8
+    ensures { λ r. ⌜ r ≡ stepFault profile step ⌝ }
 {
     if !kinds::step_in_range(step) {
         return refusal::RANGE;
@@ -31,6 +35,9 @@ pub fn step_fault(step: Step) -> u8
     let after = step.after;
     if !(points::agrees(before) & points::agrees(after)) {
         return refusal::EPOCH;
+    }
+    if !profiles::has_step(profile, step) {
+        return refusal::PROFILE;
     }
     let kind = step.kind;
     if !kinds::kind_rule(kind, before, after) {

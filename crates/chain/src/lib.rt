@@ -4,6 +4,7 @@ mod checks;
 mod faults;
 mod kinds;
 mod points;
+mod profiles;
 mod steps;
 
 pub use crate::faults::point_fault;
@@ -94,10 +95,15 @@ pub struct Step {
     pub after: Realization,
 }
 
-// A chain: the first `length` of its eight places.
+// The profile of a job that names no edition.
+pub const LATEST: i64 = 2021;
+
+// A chain: the first `length` of its eight places, under a profile, which is the edition of the circular that the job names: 2009 or 2021. That of 2009 has
+// datums 1 to 5 and 7, and of the steps T and B alone.
 pub struct Chain {
     pub steps: [Step; 8],
     pub length: usize,
+    pub profile: i64,
 }
 
 // A chain prepared for many points: its length, where it starts and ends, and its steps with their numbers worked out. All zeros are the empty chain; `extend`

@@ -57,7 +57,7 @@ line-back form f fs h c cs =
     rw (e, b) (ap (filled form) (fields-joined f fs c cs))
 
 -- ---- a point line: written for a point with no fault and an id that a line can hold, it is read back as the point
-module _ (p : Point) (none-found : pointFault p ≡ 0) (named : Named (p .label .id)) where
+module _ (y : ℤ) (p : Point) (none-found : pointFault y p ≡ 0) (named : Named (p .label .id)) where
   abbrev after-letter : List (List ℕ)
   after-letter =
       nameText (p .label .id)
@@ -98,8 +98,8 @@ module _ (p : Point) (none-found : pointFault p ≡ 0) (named : Named (p .label 
   pub point-said : said pointForm (pointText p) ≡ some p
   unfolding pointText
   point-said =
-      line-back pointForm (80 ∷ []) after-letter (let h = length-point p none-found in omega arith) clean-letter clean-fields ∙ filled-point
+      line-back pointForm (80 ∷ []) after-letter (let h = length-point y p none-found in omega arith) clean-letter clean-fields ∙ filled-point
 
-  pub point-back : readPoint (pointText p) ≡ P.Point p
+  pub point-back : readPoint y (pointText p) ≡ P.Point p
   unfolding readPoint
-  point-back = rw (point-said, eq-eqb (pointFault p) 0 none-found)
+  point-back = rw (point-said, eq-eqb (pointFault y p) 0 none-found)

@@ -12,7 +12,7 @@ use Rattle.chain.specs.declared.Kind.{Kind}
 use Rattle.chain.specs.declared.Kind.the-variants.{Shift, Velocity, BursaWolf, Frame}
 use Rattle.refusal.proofs.Orders as orders
 use Rattle.ranges.specs.Ranges.{upTo, datumRange, epochRange, issueRange, orderRange, givenRange, shiftRange, velocityRange, rotationRange, scaleRange, ellipsoidRange, offsetRange, latitudeRange, longitudeRange}
-use Rattle.chain.specs.Faults.{realizationRange, agrees, givenPosition, labelRange, pointRange, pointFault, kindRange, kindRule, stepRange, stepFault}
+use Rattle.chain.specs.Faults.{realizationRange, agrees, hasDatum, hasStep, givenPosition, labelRange, pointRange, pointFault, kindRange, kindRule, stepRange, stepFault}
 use Rattle.angle.specs.Ranges.{angleTests, originTests, anglesFault, originFault}
 use Rattle.line.specs.Readers.{geodeticFault}
 use Rattle.line.specs.Reading.{cap, cappedZ, cappedLabel, cappedRealization, cappedPosition, cappedPoint, cappedKind, cappedStep, cappedOrigin, cappedGeodetic}
@@ -102,9 +102,10 @@ sure-point =
           rw (sure-label .kept (p .label) (t .0), sure-realization .kept (p .realization) (t .1), sure-position .kept (p .position) (s .1));
     }
 
-pub careful-point : Careful pointFault cappedPoint
+pub careful-point : (y : ℤ) → Careful (pointFault y) cappedPoint
 unfolding pointFault
-careful-point = careful-first (λ p. first ((not (agrees (p .realization)) gives refusal.epoch) ∷ [])) 2 (λ e. omega arith) sure-point
+careful-point y =
+    careful-first (λ p. first ((not (agrees (p .realization)) gives refusal.epoch) ∷ (not (hasDatum y (p .realization)) gives refusal.profile) ∷ [])) 2 (λ e. omega arith) sure-point
 
 -- ---- steps
 sure-kind : Sure cappedKind kindRange
@@ -141,11 +142,11 @@ sure-step =
           rw (sure-kind .kept (s .kind) (k .0), sure-realization .kept (s .before) (k .1), sure-realization .kept (s .after) (h .1));
     }
 
-pub careful-step : Careful stepFault cappedStep
+pub careful-step : (y : ℤ) → Careful (stepFault y) cappedStep
 unfolding stepFault
-careful-step =
+careful-step y =
     careful-first
-    (λ s. first ((not (agrees (s .before) && agrees (s .after)) gives refusal.epoch) ∷ (not (kindRule (s .kind) (s .before) (s .after)) gives refusal.kind) ∷ []))
+    (λ s. first ((not (agrees (s .before) && agrees (s .after)) gives refusal.epoch) ∷ (not (hasStep y s) gives refusal.profile) ∷ (not (kindRule (s .kind) (s .before) (s .after)) gives refusal.kind) ∷ []))
     2 (λ e. omega arith) sure-step
 
 -- ---- origins and positions

@@ -59,11 +59,11 @@ unfolding nameText
 length-name id = omega (arith, length-append (letters 8 (id .high)) (letters 8 (id .low)), length-letters 8 (id .high), length-letters 8 (id .low))
 
 -- ---- lines
-module _ (p : Point) (none : pointFault p ≡ 0) where
+module _ (y : ℤ) (p : Point) (none : pointFault y p ≡ 0) where
   in-range : pointRange p ≡ true
   unfolding pointFault
   in-range =
-      go (pointRange p) (passed (not (pointRange p)) refusal.range (first ((not (agrees (p .realization)) gives refusal.epoch) ∷ [])) (λ q. omega arith) none .0)
+      go (pointRange p) (passed (not (pointRange p)) refusal.range _ (λ q. omega arith) none .0)
     where
       go : (b : Bool) → not b ≡ false → b ≡ true
       go true e = refl

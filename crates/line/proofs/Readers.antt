@@ -6,6 +6,7 @@ use mathlib.Core.List.{List, [], _∷_}
 use mathlib.Core.Bool.{Bool, true, false}
 use mathlib.Core.Option.{Option, none, some}
 use lib.Dec.{eqb}
+use lib.IntN.{ℤ}
 use lib.ListN.{length}
 use native.Mathlib.Omega.{arith}
 use borrow.Author.Tests.{eqb-true}
@@ -26,12 +27,14 @@ use Rattle.line.specs.declared.OriginLine.{OriginLine}
 use Rattle.line.specs.declared.OriginLine.the-variants as origin-line
 use Rattle.line.specs.declared.GeodeticLine.{GeodeticLine}
 use Rattle.line.specs.declared.GeodeticLine.the-variants as geodetic-line
+use Rattle.line.specs.declared.EditionLine.{EditionLine}
+use Rattle.line.specs.declared.EditionLine.the-variants as edition-line
 use Rattle.line.specs.Fields.{longestLine, body, fields, Form, ends, field, taken, onward, filled, inBody, said}
 use Rattle.line.specs.Name.{nameOf}
 use Rattle.line.specs.Number.{numberOf}
-use Rattle.line.specs.Forms.{pointForm, stepForm, originForm, geodeticForm}
-use Rattle.line.specs.Malformed.{Shape, unknownShape, faultOf}
-use Rattle.line.specs.Readers.{strangeFault, readAs, readPoint, readStep, readOrigin, geodeticFault, readGeodetic}
+use Rattle.line.specs.Forms.{pointForm, stepForm, originForm, geodeticForm, editionForm}
+use Rattle.line.specs.Malformed.{Shape, editionShape, unknownShape, faultOf}
+use Rattle.line.specs.Readers.{strangeFault, readAs, readPoint, readStep, readOrigin, geodeticFault, readGeodetic, editionAs, readEdition}
 use Rattle.line.proofs.Malformed.{nothing, spread, fields-spread, body-length, fault-short, fault-inside, fault-low}
 
 -- ---- a form of n fields, none of which is read from no bytes
@@ -73,13 +76,13 @@ unfolding Asks geodeticForm nameOf numberOf
 geodetic-long line g e = said-long 4 geodeticForm (refl, λ _. (refl, λ _. (refl, λ _. (refl, λ _. tt)))) line g e
 
 -- ---- no fault has a number of three digits
-point-fault-short : (p : Point) → pointFault p < 100
+point-fault-short : (y : ℤ) (p : Point) → pointFault y p < 100
 unfolding pointFault
-point-fault-short p = first-short (pointTests p) tt
+point-fault-short y p = first-short (pointTests y p) tt
 
-step-fault-short : (s : Step) → stepFault s < 100
+step-fault-short : (y : ℤ) (s : Step) → stepFault y s < 100
 unfolding stepFault
-step-fault-short s = first-short (stepTests s) tt
+step-fault-short y s = first-short (stepTests y s) tt
 
 origin-fault-short : (o : OriginNumbers) → originFault o < 100
 unfolding originFault
@@ -113,13 +116,13 @@ fault-small shape line = record { number = fault-short shape line; inside = faul
 pub strange-small : (line : List ℕ) → Small line (strangeFault line)
 strange-small line = fault-small unknownShape line
 
-pub point-outcome : (P : PointLine → Type 0) (line : List ℕ) → ((p : Point) → pointFault p ≡ 0 → 18 ≤ length line → P (point-line.Point p)) → ((f : Fault) → Small line f → P (point-line.Malformed f)) → ((n : ℕ) → n < 100 → P (point-line.Refused n)) → P (readPoint line)
+pub point-outcome : (y : ℤ) (P : PointLine → Type 0) (line : List ℕ) → ((p : Point) → pointFault y p ≡ 0 → 18 ≤ length line → P (point-line.Point p)) → ((f : Fault) → Small line f → P (point-line.Malformed f)) → ((n : ℕ) → n < 100 → P (point-line.Refused n)) → P (readPoint y line)
 unfolding readPoint
-point-outcome P line G M B = outcome pointFault point-fault-short point-line.Point point-line.Refused _ P (said pointForm line) (λ p e f. G p f (point-long line p e)) (M _ (fault-small _ line)) B
+point-outcome y P line G M B = outcome (pointFault y) (point-fault-short y) point-line.Point point-line.Refused _ P (said pointForm line) (λ p e f. G p f (point-long line p e)) (M _ (fault-small _ line)) B
 
-pub step-outcome : (P : StepLine → Type 0) (line : List ℕ) → ((s : Step) → stepFault s ≡ 0 → P (step-line.Step s)) → ((f : Fault) → Small line f → P (step-line.Malformed f)) → ((n : ℕ) → n < 100 → P (step-line.Refused n)) → P (readStep line)
+pub step-outcome : (y : ℤ) (P : StepLine → Type 0) (line : List ℕ) → ((s : Step) → stepFault y s ≡ 0 → P (step-line.Step s)) → ((f : Fault) → Small line f → P (step-line.Malformed f)) → ((n : ℕ) → n < 100 → P (step-line.Refused n)) → P (readStep y line)
 unfolding readStep
-step-outcome P line G M B = outcome stepFault step-fault-short step-line.Step step-line.Refused _ P (said stepForm line) (λ s e f. G s f) (M _ (fault-small _ line)) B
+step-outcome y P line G M B = outcome (stepFault y) (step-fault-short y) step-line.Step step-line.Refused _ P (said stepForm line) (λ s e f. G s f) (M _ (fault-small _ line)) B
 
 pub origin-outcome : (P : OriginLine → Type 0) (line : List ℕ) → ((o : OriginNumbers) → originFault o ≡ 0 → P (origin-line.Origin o)) → ((f : Fault) → Small line f → P (origin-line.Malformed f)) → ((n : ℕ) → n < 100 → P (origin-line.Refused n)) → P (readOrigin line)
 unfolding readOrigin
@@ -129,12 +132,20 @@ pub geodetic-outcome : (P : GeodeticLine → Type 0) (line : List ℕ) → ((g :
 unfolding readGeodetic
 geodetic-outcome P line G M B = outcome geodeticFault geodetic-fault-short geodetic-line.Geodetic geodetic-line.Refused _ P (said geodeticForm line) (λ g e f. G g (geodetic-long line g e)) (M _ (fault-small _ line)) B
 
--- ---- a reader that gives a record has found no fault
-pub point-sound : (line : List ℕ) (p : Point) → readPoint line ≡ point-line.Point p → pointFault p ≡ 0
-point-sound line p = point-outcome (λ (r : PointLine). r ≡ point-line.Point p → pointFault p ≡ 0) line (λ q f h e. let z : q ≡ p = cc in ap pointFault (sym z) ∙ f) (λ f h e. let z : _≡_ {A = ℕ} 0 1 = cc in absurd (omega arith)) (λ n h e. let z : _≡_ {A = ℕ} 0 1 = cc in absurd (omega arith))
+pub edition-outcome : (P : EditionLine → Type 0) (line : List ℕ) → ((y : ℤ) → P (edition-line.Edition y)) → ((f : Fault) → Small line f → P (edition-line.Malformed f)) → P (readEdition line)
+unfolding readEdition
+edition-outcome P line G M = go (said editionForm line)
+  where
+    go : (o : Option ℤ) → P (editionAs (edition-line.Malformed (faultOf editionShape line)) o)
+    go none = M _ (fault-small _ line)
+    go (some y) = G _
 
-pub step-sound : (line : List ℕ) (s : Step) → readStep line ≡ step-line.Step s → stepFault s ≡ 0
-step-sound line s = step-outcome (λ (r : StepLine). r ≡ step-line.Step s → stepFault s ≡ 0) line (λ q f e. let z : q ≡ s = cc in ap stepFault (sym z) ∙ f) (λ f h e. let z : _≡_ {A = ℕ} 0 1 = cc in absurd (omega arith)) (λ n h e. let z : _≡_ {A = ℕ} 0 1 = cc in absurd (omega arith))
+-- ---- a reader that gives a record has found no fault
+pub point-sound : (y : ℤ) (line : List ℕ) (p : Point) → readPoint y line ≡ point-line.Point p → pointFault y p ≡ 0
+point-sound y line p = point-outcome y (λ (r : PointLine). r ≡ point-line.Point p → pointFault y p ≡ 0) line (λ q f h e. let z : q ≡ p = cc in ap (pointFault y) (sym z) ∙ f) (λ f h e. let z : _≡_ {A = ℕ} 0 1 = cc in absurd (omega arith)) (λ n h e. let z : _≡_ {A = ℕ} 0 1 = cc in absurd (omega arith))
+
+pub step-sound : (y : ℤ) (line : List ℕ) (s : Step) → readStep y line ≡ step-line.Step s → stepFault y s ≡ 0
+step-sound y line s = step-outcome y (λ (r : StepLine). r ≡ step-line.Step s → stepFault y s ≡ 0) line (λ q f e. let z : q ≡ s = cc in ap (stepFault y) (sym z) ∙ f) (λ f h e. let z : _≡_ {A = ℕ} 0 1 = cc in absurd (omega arith)) (λ n h e. let z : _≡_ {A = ℕ} 0 1 = cc in absurd (omega arith))
 
 pub origin-sound : (line : List ℕ) (o : OriginNumbers) → readOrigin line ≡ origin-line.Origin o → originFault o ≡ 0
 origin-sound line o = origin-outcome (λ (r : OriginLine). r ≡ origin-line.Origin o → originFault o ≡ 0) line (λ q f e. let z : q ≡ o = cc in ap originFault (sym z) ∙ f) (λ f h e. let z : _≡_ {A = ℕ} 0 1 = cc in absurd (omega arith)) (λ n h e. let z : _≡_ {A = ℕ} 0 1 = cc in absurd (omega arith))

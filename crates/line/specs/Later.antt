@@ -12,6 +12,7 @@ use Rattle.chain.specs.declared.Id.{Id}
 use Rattle.chain.specs.declared.Point.{Point}
 use Rattle.line.specs.declared.Fault.{Fault}
 use Rattle.line.specs.declared.LaterFault.{LaterFault}
+use Rattle.chain.specs.Faults.{latest}
 use Rattle.line.specs.declared.PointLine.{PointLine}
 use Rattle.line.specs.declared.PointLine.the-variants as P
 use Rattle.line.specs.declared.Verdict.{Verdict}
@@ -48,7 +49,7 @@ weighTests p q equal = (not (sameName (p .label .id) (q .label .id)) gives refus
 abbrev pub weighed : Point → Point → Bool → Verdict
 weighed p q equal = unless (first (weighTests p q equal)) (refusedIn 0) (pick (ltZ (p .label .issue) (q .label .issue)) Second First)
 
--- the form, 2, 3 of the first line, then of the second
+-- the form, 2, 3 of the first line, then of the second; there is no profile here, and the latest has every datum
 abbrev pub compared : PointLine → PointLine → Bool → Verdict
 compared (P.Malformed f) b equal = malformedIn 1 f
 compared (P.Refused n) b equal = refusedIn 1 n
@@ -57,7 +58,7 @@ compared (P.Point p) (P.Refused n) equal = refusedIn 2 n
 compared (P.Point p) (P.Point q) equal = weighed p q equal
 
 unfoldable pub laterOf : List ℕ → List ℕ → Verdict
-laterOf s t = compared (readPoint s) (readPoint t) (sameBytes s t)
+laterOf s t = compared (readPoint latest s) (readPoint latest t) (sameBytes s t)
 
 -- what is refused; three zeros for nothing
 abbrev pub noFault : LaterFault

@@ -4,6 +4,7 @@ use Prim.Native.Nat.{ℕ}
 use mathlib.Core.List.{List}
 use mathlib.Core.Option.{Option, none, some}
 use lib.Dec.{eqb}
+use lib.IntN.{ℤ}
 use Rattle.refusal.specs.Order.{pick}
 use Rattle.chain.specs.Faults.{pointFault, stepFault}
 use Rattle.angle.specs.Ranges.{originFault, anglesFault}
@@ -17,9 +18,12 @@ use Rattle.line.specs.declared.OriginLine.the-variants as O
 use Rattle.line.specs.declared.Geodetic.{Geodetic}
 use Rattle.line.specs.declared.GeodeticLine.{GeodeticLine}
 use Rattle.line.specs.declared.GeodeticLine.the-variants as G
+use Rattle.line.specs.declared.EditionLine.{EditionLine}
+use Rattle.line.specs.declared.EditionLine.the-variants as E
 use Rattle.line.specs.Fields.{said}
-use Rattle.line.specs.Forms.{pointForm, stepForm, originForm, geodeticForm}
-use Rattle.line.specs.Malformed.{pointShape, stepShape, originShape, geodeticShape, unknownShape, faultOf}
+use Rattle.line.specs.Forms.{pointForm, stepForm, originForm, geodeticForm, editionForm}
+use Rattle.line.specs.Malformed.{pointShape, stepShape, originShape, geodeticShape, editionShape, unknownShape, faultOf}
+use Rattle.line.specs.Reading.{cappedZ}
 
 -- a line whose first letter its program does not know
 abbrev pub strangeFault : List ℕ → Fault
@@ -34,13 +38,13 @@ abbrev pub readAs : {A R : Type 0} → (A → ℕ) → (A → R) → (ℕ → R)
 readAs wrong good refused malformed none = malformed
 readAs wrong good refused malformed (some a) = judged wrong good refused a
 
--- 18 to 22, 2, 3
-unfoldable pub readPoint : List ℕ → PointLine
-readPoint line = readAs pointFault P.Point P.Refused (P.Malformed (faultOf pointShape line)) (said pointForm line)
+-- under a profile: 18 to 22, 2, 3, 25
+unfoldable pub readPoint : ℤ → List ℕ → PointLine
+readPoint y line = readAs (pointFault y) P.Point P.Refused (P.Malformed (faultOf pointShape line)) (said pointForm line)
 
--- 18 to 22, 2, 3, 4
-unfoldable pub readStep : List ℕ → StepLine
-readStep line = readAs stepFault S.Step S.Refused (S.Malformed (faultOf stepShape line)) (said stepForm line)
+-- under a profile: 18 to 22, 2, 3, 25, 4
+unfoldable pub readStep : ℤ → List ℕ → StepLine
+readStep y line = readAs (stepFault y) S.Step S.Refused (S.Malformed (faultOf stepShape line)) (said stepForm line)
 
 -- 18 to 22, 2, 12
 unfoldable pub readOrigin : List ℕ → OriginLine
@@ -52,3 +56,11 @@ geodeticFault g = anglesFault (g .latitude) (g .longitude)
 -- 18 to 22, 12
 unfoldable pub readGeodetic : List ℕ → GeodeticLine
 readGeodetic line = readAs geodeticFault G.Geodetic G.Refused (G.Malformed (faultOf geodeticShape line)) (said geodeticForm line)
+
+-- 18 to 22. What the year is comes after where the line stands, so it is not examined here; it is carried up to the cap, which is no edition's year
+abbrev pub editionAs : EditionLine → Option ℤ → EditionLine
+editionAs malformed none = malformed
+editionAs malformed (some year) = E.Edition (cappedZ year)
+
+unfoldable pub readEdition : List ℕ → EditionLine
+readEdition line = editionAs (E.Malformed (faultOf editionShape line)) (said editionForm line)

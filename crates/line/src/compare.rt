@@ -94,8 +94,8 @@ fn by_issue(a: PointLine, b: PointLine, equal: bool) -> Verdict
 pub fn later_verdict(first: &[u8], second: &[u8]) -> Verdict
     ensures { λ r. ⌜ r ≡ laterOf (now (first .entry)) (now (second .entry)) ⌝ }
 {
-    let a = read_point(first);
-    let b = read_point(second);
+    let a = read_point(chain::LATEST, first);
+    let b = read_point(chain::LATEST, second);
     let equal = same_bytes(first, second);
     by_issue(a, b, equal)
 }

@@ -52,10 +52,10 @@ fn point_fields(s: &[u8]) -> PointFields
     }
 }
 
-fn judge_point(p: chain::Point) -> PointLine
-    ensures { λ r. ⌜ r ≡ judged pointFault PointLine.Point PointLine.Refused p ⌝ }
+fn judge_point(profile: i64, p: chain::Point) -> PointLine
+    ensures { λ r. ⌜ r ≡ judged (pointFault profile) PointLine.Point PointLine.Refused p ⌝ }
 {
-    let number = chain::point_fault(p);
+    let number = chain::point_fault(profile, p);
     if number == 0 {
         PointLine::Point(p)
     } else {
@@ -63,9 +63,9 @@ fn judge_point(p: chain::Point) -> PointLine
     }
 }
 
-// A point line: its point; malformed (LENGTH, LETTER, COUNT, ID, PLAIN); or RANGE, EPOCH.
-pub fn read_point(line: &[u8]) -> PointLine
-    ensures { λ r. ⌜ r ≡ readPoint (now (line .entry)) ⌝ }
+// A point line under a profile (2009 or 2021): its point; malformed (LENGTH, LETTER, COUNT, ID, PLAIN); or RANGE, EPOCH, PROFILE.
+pub fn read_point(profile: i64, line: &[u8]) -> PointLine
+    ensures { λ r. ⌜ r ≡ readPoint profile (now (line .entry)) ⌝ }
 {
     let end = body_end(line);
     if end < line.len() {
@@ -73,7 +73,7 @@ pub fn read_point(line: &[u8]) -> PointLine
         let r = point_fields(s);
         if r.next == end + 1 {
             let p = r.point;
-            return judge_point(p);
+            return judge_point(profile, p);
         }
     }
     let fault = fault_of(line, b'P');

@@ -175,10 +175,10 @@ fn step_fields(s: &[u8]) -> StepFields
     }
 }
 
-fn judge_step(step: chain::Step) -> StepLine
-    ensures { λ r. ⌜ r ≡ judged stepFault StepLine.Step StepLine.Refused step ⌝ }
+fn judge_step(profile: i64, step: chain::Step) -> StepLine
+    ensures { λ r. ⌜ r ≡ judged (stepFault profile) StepLine.Step StepLine.Refused step ⌝ }
 {
-    let number = chain::step_fault(step);
+    let number = chain::step_fault(profile, step);
     if number == 0 {
         StepLine::Step(step)
     } else {
@@ -186,9 +186,9 @@ fn judge_step(step: chain::Step) -> StepLine
     }
 }
 
-// A step line: its step; malformed (LENGTH, LETTER, COUNT, PLAIN); or RANGE, EPOCH, KIND.
-pub fn read_step(line: &[u8]) -> StepLine
-    ensures { λ r. ⌜ r ≡ readStep (now (line .entry)) ⌝ }
+// A step line under a profile (2009 or 2021): its step; malformed (LENGTH, LETTER, COUNT, PLAIN); or RANGE, EPOCH, PROFILE, KIND.
+pub fn read_step(profile: i64, line: &[u8]) -> StepLine
+    ensures { λ r. ⌜ r ≡ readStep profile (now (line .entry)) ⌝ }
 {
     let end = body_end(line);
     if end < line.len() {
@@ -196,7 +196,7 @@ pub fn read_step(line: &[u8]) -> StepLine
         let r = step_fields(s);
         if r.next == end + 1 {
             let step = r.step;
-            return judge_step(step);
+            return judge_step(profile, step);
         }
     }
     let fault = fault_of(line, b'S');

@@ -1,6 +1,7 @@
 // How each reader's answer is printed: what was read of an accepted line; the number of a refused one, and the place of a malformed one after it; of two lines the
 // number, the line and the place.
 use libc::STDOUT_FILENO;
+use line::EditionLine;
 use line::Fault;
 use line::GeodeticLine;
 use line::LaterFault;
@@ -47,7 +48,7 @@ fn projected(id: chain::Id, a: i64, b: i64) {
 }
 
 pub(crate) fn point(l: &[u8]) {
-    match line::read_point(l) {
+    match line::read_point(chain::LATEST, l) {
         PointLine::Malformed(f) => malformed(f),
         PointLine::Refused(n) => number(n),
         PointLine::Point(p) => {
@@ -94,7 +95,7 @@ fn bursa_wolf(t: chain::BursaWolf) {
 }
 
 pub(crate) fn step(l: &[u8]) {
-    match line::read_step(l) {
+    match line::read_step(chain::LATEST, l) {
         StepLine::Malformed(f) => malformed(f),
         StepLine::Refused(n) => number(n),
         StepLine::Step(s) => {
@@ -126,6 +127,13 @@ pub(crate) fn geodetic(l: &[u8]) {
             let id = g.id;
             projected(id, g.latitude, g.longitude);
         }
+    }
+}
+
+pub(crate) fn edition(l: &[u8]) {
+    match line::read_edition(l) {
+        EditionLine::Malformed(f) => malformed(f),
+        EditionLine::Edition(year) => pair(year, 0),
     }
 }
 

@@ -66,6 +66,10 @@ orderRange o = within (pos 1) o (pos 4)
 abbrev pub epochRange : ℤ → Bool
 epochRange e = equal (pos 0) e || within (pos 1980000) e (pos 2100000)
 
+-- a profile: the year of the circular that a job is under
+abbrev pub profileRange : ℤ → Bool
+profileRange y = equal (pos 2009) y || equal (pos 2021) y
+
 -- ---- angles and projections
 -- a code of the table of ellipsoids
 abbrev pub ellipsoidRange : ℤ → Bool

@@ -2,7 +2,7 @@
 // Tests are joined by `&`, so that each function is one expression with no branch.
 ghost use mathlib.Core.Path.{_≡_};
 ghost use mathlib.Core.Bool.{_&&_};
-ghost use Rattle.ranges.specs.Ranges.{within, equal, area, ellipsoidRange, latitudeRange, longitudeRange, heightRange, offsetRange};
+ghost use Rattle.ranges.specs.Ranges.{within, equal, area, ellipsoidRange, latitudeRange, longitudeRange, heightRange, offsetRange, profileRange};
 
 // Whether lo <= z <= hi.
 pub fn within(lo: i64, z: i64, hi: i64) -> bool
@@ -32,6 +32,13 @@ pub fn in_area(x: i64, y: i64, z: i64) -> bool
     within(-330000000000, x, -90000000000)
         & within(540000000000, y, 640000000000)
         & within(0, z, 90000000000)
+}
+
+// Whether a number is a profile: the year of a circular that a job can be under, 2009 or 2021.
+pub fn is_profile(y: i64) -> bool
+    ensures { λ r. ⌜ r ≡ profileRange y ⌝ }
+{
+    equal(2009, y) | equal(2021, y)
 }
 
 // Whether a number is a code of the table of ellipsoids: 1 to 4.

@@ -4,7 +4,7 @@ use lib.Dec.{lit<}
 use lib.IntN.{pos}
 use Rattle.rounding.specs.Nearest.{toEven, floor, rest, goesUp, rounded}
 use Rattle.ranges.specs.Ranges.{within}
-use Rattle.chain.specs.Faults.{realizationRange, agrees, sameRealization, givenPosition, inArea, labelRange, pointRange, kindRange, stepRange, kindRule}
+use Rattle.chain.specs.Faults.{realizationRange, agrees, sameRealization, hasDatum, hasKind, hasStep, givenPosition, inArea, labelRange, pointRange, kindRange, stepRange, kindRule}
 use Rattle.chain.specs.Rows.{rowIndex, rowOf}
 use Rattle.chain.specs.Parts.{stepRound, linear, part, gain, rotation11, scaledRotation, bursaWolfParts, kindParts, plus, minus, forwardBy, again, inverseBy}
 use Rattle.chain.specs.Convert.{walk, startOf, endOf, answerOf, convert, forwardOf, inverseOf}
@@ -13,11 +13,11 @@ use Rattle.chain.specs.Cases as cases
 use Rattle.theorems.specs.MarksMeet.{scaling, MarksMeet, Applies}
 
 pub marks-meet : MarksMeet
-unfolding toEven floor rest goesUp rounded stepRound within realizationRange agrees sameRealization givenPosition inArea labelRange pointRange kindRange stepRange kindRule linear part gain rotation11 scaledRotation bursaWolfParts kindParts plus minus forwardBy again inverseBy walk startOf endOf answerOf convert forwardOf inverseOf
+unfolding toEven floor rest goesUp rounded stepRound within realizationRange agrees sameRealization hasDatum hasKind hasStep givenPosition inArea labelRange pointRange kindRange stepRange kindRule linear part gain rotation11 scaledRotation bursaWolfParts kindParts plus minus forwardBy again inverseBy walk startOf endOf answerOf convert forwardOf inverseOf
 marks-meet = refl
 
 pub applies : Applies
-unfolding toEven floor rest goesUp rounded stepRound within realizationRange agrees sameRealization givenPosition inArea labelRange pointRange kindRange stepRange kindRule linear part gain rotation11 scaledRotation bursaWolfParts kindParts plus minus forwardBy again inverseBy walk startOf endOf answerOf convert forwardOf inverseOf
+unfolding toEven floor rest goesUp rounded stepRound within realizationRange agrees sameRealization hasDatum hasKind hasStep givenPosition inArea labelRange pointRange kindRange stepRange kindRule linear part gain rotation11 scaledRotation bursaWolfParts kindParts plus minus forwardBy again inverseBy walk startOf endOf answerOf convert forwardOf inverseOf
 applies = record {
   chain = cases.chain (scaling (cases.less 1999993)) (cases.on 1 0) (cases.on 2 0);
   p = cases.point (cases.on 1 0) (cases.xyz (cases.less 199999975000) (pos 600000000000) (pos 50000000000));

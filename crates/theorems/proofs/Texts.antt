@@ -9,7 +9,7 @@ use Rattle.theorems.specs.Texts.{Texts}
 pub texts : Texts
 texts = record {
   number = number-back;
-  point = λ p name named none-found. point-back p none-found (record { name = name; named = named });
+  point = λ y p name named none-found. point-back y p none-found (record { name = name; named = named });
   lengths = record { point = length-point; projected = length-projected; refusal = length-refusal };
   sheet = sheet-fits;
   plan = plan-fits;

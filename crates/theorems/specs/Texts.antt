@@ -24,11 +24,11 @@ NumberBack = (z : ℤ) → numberOf (integer z) ≡ some z
 
 -- a point with no fault, and an id that a name spells, is read from its own line
 abbrev pub PointBack : Type 0
-PointBack = (p : Point) (name : List ℕ) → nameOf name ≡ some (p .label .id) → pointFault p ≡ 0 → readPoint (pointText p) ≡ line.Point p
+PointBack = (y : ℤ) (p : Point) (name : List ℕ) → nameOf name ≡ some (p .label .id) → pointFault y p ≡ 0 → readPoint y (pointText p) ≡ line.Point p
 
 -- ---- how long a written line is, its line feed counted
 pub record Lengths : Type 0 where
-  pub point : (p : Point) → pointFault p ≡ 0 → length (pointText p) ≤ 80
+  pub point : (y : ℤ) (p : Point) → pointFault y p ≡ 0 → length (pointText p) ≤ 80
   pub projected : (id : Id) (e n : ℤ) → natAbs e < 10 ^ 18 → natAbs n < 10 ^ 18 → length (projectedText id e n) ≤ 60
   pub refusal : (line number place k : ℕ) → line < 100000 → number < 100 → place < 10 ^ suc k → length (refusalText line number place) ≤ 12 + suc k
 

@@ -105,8 +105,8 @@ fn end_of(chain: Chain, r: Realization) -> Realization
 }
 
 // Units: coordinates 0.00001 m; epochs 0.001 year, 0 for none; rotations 0.00001"; scale 10^-11. Ranges: those of ranges.rt, all ends allowed; every
-// position, before the chain and after each step, lies in the area. Refusals, the first that applies: NINTH; of each step in turn RANGE, EPOCH, KIND, JOIN; of
-// the point RANGE, EPOCH, START, AREA; then LEFT. The empty chain refuses no point with START.
+// position, before the chain and after each step, lies in the area. Refusals, the first that applies: RANGE for the
+// profile; NINTH; of each step in turn RANGE, EPOCH, PROFILE, KIND, JOIN; of the point RANGE, EPOCH, PROFILE, START, AREA; then LEFT. The empty chain refuses no point with START.
 // A point forward by a chain (document 01: along): to the chain's end, or refused.
 pub fn forward(chain: Chain, point: Point) -> Answer
     ensures { λ r. ⌜ r ≡ forwardOf chain point ⌝ }
@@ -116,7 +116,7 @@ pub fn forward(chain: Chain, point: Point) -> Answer
         return Answer::Refused(c);
     }
     let r = point.realization;
-    let f = checks::entry_fault(point, start_of(chain, r));
+    let f = checks::entry_fault(chain.profile, point, start_of(chain, r));
     if f != 0 {
         return Answer::Refused(f);
     }
@@ -124,8 +124,8 @@ pub fn forward(chain: Chain, point: Point) -> Answer
 }
 
 // Units: coordinates 0.00001 m; epochs 0.001 year, 0 for none; rotations 0.00001"; scale 10^-11. Ranges: those of ranges.rt, all ends allowed; every
-// position, before the chain and after each step, lies in the area. Refusals, the first that applies: NINTH; of each step in turn RANGE, EPOCH, KIND, JOIN; of
-// the point RANGE, EPOCH, START, AREA; then LEFT. The empty chain refuses no point with START.
+// position, before the chain and after each step, lies in the area. Refusals, the first that applies: RANGE for the
+// profile; NINTH; of each step in turn RANGE, EPOCH, PROFILE, KIND, JOIN; of the point RANGE, EPOCH, PROFILE, START, AREA; then LEFT. The empty chain refuses no point with START.
 // A point inverse by a chain (document 01: back): to the chain's start, or refused. START is then for a point that is not at the chain's end.
 pub fn inverse(chain: Chain, point: Point) -> Answer
     ensures { λ r. ⌜ r ≡ inverseOf chain point ⌝ }
@@ -135,7 +135,7 @@ pub fn inverse(chain: Chain, point: Point) -> Answer
         return Answer::Refused(c);
     }
     let r = point.realization;
-    let f = checks::entry_fault(point, end_of(chain, r));
+    let f = checks::entry_fault(chain.profile, point, end_of(chain, r));
     if f != 0 {
         return Answer::Refused(f);
     }

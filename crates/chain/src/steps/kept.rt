@@ -226,7 +226,7 @@ fn reached_with(n: i64, here: Realization, end: Realization) -> Realization
     end
 }
 
-// What is left of a forward conversion once a chain is prepared and the point has no fault of its own (`point_fault`): the point at the chain's end in units of
+// What is left of a forward conversion once a chain is prepared and the point has no fault of its own (`point_fault` with the chain's profile): the point at the chain's end in units of
 // 0.00001 m, or refused with 9, 10 or 11. Numbers that no chain gives are refused too: a length that is not 0 to 8 with 6, a row that no step gives with 2.
 pub fn forward_prepared(numbers: &Prepared, point: Point) -> Answer
     ensures { λ r. ⌜ r ≡ forwardPrepared (now (numbers .entry)) point ⌝ }
@@ -329,11 +329,11 @@ fn start_with(n: i64, start: Realization, step: Step) -> Realization
     start
 }
 
-// What a step is refused for after a chain of n steps that ends at a realization: its own RANGE, EPOCH, KIND, then JOIN, NINTH, or 0 for none.
-fn extend_fault(n: i64, end: Realization, step: Step) -> u8
-    ensures { λ r. ⌜ r ≡ first (extendTests n end step) ⌝ }
+// What a step is refused for after a chain of n steps that ends at a realization: its own RANGE, EPOCH, PROFILE, KIND, then JOIN, NINTH, or 0 for none.
+fn extend_fault(profile: i64, n: i64, end: Realization, step: Step) -> u8
+    ensures { λ r. ⌜ r ≡ first (extendTests profile n end step) ⌝ }
 {
-    let f = faults::step_fault(step);
+    let f = faults::step_fault(profile, step);
     if f != 0 {
         return f;
     }
@@ -347,13 +347,14 @@ fn extend_fault(n: i64, end: Realization, step: Step) -> u8
     0
 }
 
-// Adds a step to a prepared chain: 0, or the refusal with the numbers as they were. 2, 3, 4 for the step by itself, then 5 where it does not begin where the chain
+// Adds a step to a prepared chain of a profile (2009 or 2021, the same for every step): 0, or the refusal with the numbers as they were. 2, 3, 25, 4 for the step by
+// itself, then 5 where it does not begin where the chain
 // ends, then 6 where the chain has eight steps, or a length that no chain has.
-pub fn extend(step: Step, numbers: &mut Prepared) -> u8
-    ensures { λ r. ⌜ (r ≡ extendFault (now (numbers .entry)) step) × (now (numbers .exit) ≡ extendedBy (now (numbers .entry)) step) ⌝ }
+pub fn extend(profile: i64, step: Step, numbers: &mut Prepared) -> u8
+    ensures { λ r. ⌜ (r ≡ extendFault profile (now (numbers .entry)) step) × (now (numbers .exit) ≡ extendedBy profile (now (numbers .entry)) step) ⌝ }
 {
     let n = numbers[0];
-    let f = extend_fault(n, end_in(numbers), step);
+    let f = extend_fault(profile, n, end_in(numbers), step);
     if f != 0 {
         return f;
     }

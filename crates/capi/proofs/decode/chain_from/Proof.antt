@@ -1,5 +1,6 @@
 -- `capi::decode::chain_from` meets its contract: the eight places. Assumes nothing.
 use borrow.Author.Needs.{needs}
+use Rattle.rounding.proofs.Machine.{rd}
 use Rattle.capi.specs.Chains.{chainFrom}
 use Rattle.capi.proofs.decode.chain_from.Statement.{statement}
 use Rattle.capi.proofs.decode.chain_from.Tie as tie
@@ -37,7 +38,7 @@ returns c =
     let c5 = c4 .before in
     let c6 = c5 .before in
     let c7 = c6 .before in
-    rw (c7 .place-from .ensures, c6 .place-from2 .ensures, c5 .place-from3 .ensures, c4 .place-from4 .ensures, c3 .place-from5 .ensures, c2 .place-from6 .ensures, c .before .place-from7 .ensures, c .place-from8 .ensures)
+    rw (c7 .place-from .ensures, c6 .place-from2 .ensures, c5 .place-from3 .ensures, c4 .place-from4 .ensures, c3 .place-from5 .ensures, c2 .place-from6 .ensures, c .before .place-from7 .ensures, c .place-from8 .ensures, rd (c7 .before .fits .profile))
 
 pub chain-from-spec : {M : Type 1} → statement M
 chain-from-spec =

@@ -1,7 +1,8 @@
 -- `chain::checks::entry_fault` meets its contract: the tests in the order of the definition. Assumes nothing.
-use mathlib.Core.Path.{_≡_, sym, _∙_}
+use mathlib.Core.Path.{_≡_, sym, _∙_, ap}
 use mathlib.Core.List.{_++_}
 use Prim.Native.Nat.{ℕ}
+use lib.IntN.{ℤ}
 use borrow.Author.Tests.{not-true, not-false}
 use Rattle.refusal.specs.Order.{first}
 use Rattle.chain.specs.declared.Point.{Point}
@@ -9,33 +10,41 @@ use Rattle.chain.specs.declared.Realization.{Realization}
 use Rattle.chain.specs.Faults.{pointTests, pointFault}
 use Rattle.chain.specs.Convert.{placeTests}
 use Rattle.refusal.proofs.Orders.{passed, stop, on}
+use Rattle.rounding.proofs.Machine.{rd}
 use Rattle.chain.proofs.checks.entry_fault.Statement.{statement}
 use Rattle.chain.proofs.checks.entry_fault.Tie as tie
 
 point-fault-requires : tie.Need-point-fault-requires
 point-fault-requires c κs = tt
 
+-- what the point by itself is refused for
+own : (c : tie.After-point-fault) → c .point-fault .result ≡ pointFault (c .before .args .profile) (c .before .args .point)
+own c = c .point-fault .ensures ∙ ap (λ (y : ℤ). pointFault y (c .before .args .point)) (rd (c .before .fits .profile))
+
 returns : tie.Need-returns
 unfolding pointFault
 returns c =
     let s = c .before .before in
-    let f = c .before .point-fault .ensures in
-    f ∙ sym (stop (pointTests (s .args .point)) (placeTests (s .args .point) (s .args .wanted)) (λ e. c .if1 .taken (f ∙ e)))
+    let f = own (c .before) in
+    f ∙ sym (stop (pointTests (s .args .profile) (s .args .point)) (placeTests (s .args .point) (s .args .wanted)) (λ e. c .if1 .taken (f ∙ e)))
 
 same-realization-requires : tie.Need-same-realization-requires
 same-realization-requires c κs = tt
 
 -- where the point's numbers are not refused, its place decides
 module _ (c : tie.Else1) where
+  abbrev profile : ℤ
+  profile = c .before .before .args .profile
+
   abbrev point : Point
   point = c .before .before .args .point
 
   abbrev wanted : Realization
   wanted = c .before .before .args .wanted
 
-  place : first (placeTests point wanted) ≡ first (pointTests point ++ placeTests point wanted)
+  place : first (placeTests point wanted) ≡ first (pointTests profile point ++ placeTests point wanted)
   unfolding pointFault
-  place = sym (on (pointTests point) (placeTests point wanted) (passed (pointTests point) tt (sym (c .before .point-fault .ensures) ∙ c .if1 .left)))
+  place = sym (on (pointTests profile point) (placeTests point wanted) (passed (pointTests profile point) tt (sym (own (c .before)) ∙ c .if1 .left)))
 
 returns-2 : tie.Need-returns-2
 returns-2 c =

@@ -2,8 +2,10 @@
 use mathlib.Core.Path.{_≡_, sym, _∙_, ap}
 use mathlib.Core.Bool.{Bool, true, false, not}
 use mathlib.Core.List.{[], _∷_, _++_}
+use lib.IntN.{ℤ}
 use borrow.Author.Tests.{not-true, not-false}
 use Rattle.refusal.specs.Order.{pick, first}
+use Rattle.rounding.proofs.Machine.{rd}
 use Rattle.chain.specs.declared.Step.{Step}
 use Rattle.chain.specs.Faults.{sameRealization, stepTests, joinTest, stepFault}
 use Rattle.refusal.proofs.Orders.{passed, stop, on}
@@ -13,29 +15,36 @@ use Rattle.chain.proofs.checks.later_fault.Tie as tie
 step-fault-requires : tie.Need-step-fault-requires
 step-fault-requires c κs = tt
 
+-- what the step by itself is refused for
+own : (c : tie.After-step-fault) → c .step-fault .result ≡ stepFault (c .before .args .profile) (c .before .args .step)
+own c = c .step-fault .ensures ∙ ap (λ (y : ℤ). stepFault y (c .before .args .step)) (rd (c .before .fits .profile))
+
 returns : tie.Need-returns
 unfolding stepFault
 returns c =
     let s = c .before .before .args .step in
-    let f = c .before .step-fault .ensures in
-    f ∙ sym (stop (stepTests s) (joinTest (c .before .before .args .previous) s ∷ []) (λ e. c .if1 .taken (f ∙ e)))
+    let f = own (c .before) in
+    f ∙ sym (stop (stepTests (c .before .before .args .profile) s) (joinTest (c .before .before .args .previous) s ∷ []) (λ e. c .if1 .taken (f ∙ e)))
 
 same-realization-requires : tie.Need-same-realization-requires
 same-realization-requires c κs = tt
 
 -- where the step by itself is not refused, the join decides
 module _ (c : tie.After-same-realization) where
+  abbrev profile : ℤ
+  profile = c .before .before .before .before .before .args .profile
+
   abbrev previous : Step
   previous = c .before .before .before .before .before .args .previous
 
   abbrev step : Step
   step = c .before .before .before .before .before .args .step
 
-  joined : first (joinTest previous step ∷ []) ≡ first (stepTests step ++ (joinTest previous step ∷ []))
+  joined : first (joinTest previous step ∷ []) ≡ first (stepTests profile step ++ (joinTest previous step ∷ []))
   unfolding stepFault
   joined =
-      let e = sym (c .before .before .before .before .step-fault .ensures) ∙ c .before .before .before .if1 .left in
-      sym (on (stepTests step) (joinTest previous step ∷ []) (passed (stepTests step) tt e))
+      let e = sym (own (c .before .before .before .before)) ∙ c .before .before .before .if1 .left in
+      sym (on (stepTests profile step) (joinTest previous step ∷ []) (passed (stepTests profile step) tt e))
 
   same : (b : Bool) → c .same-realization .result ≡ b → sameRealization (previous .after) (step .before) ≡ b
   same b e = sym (c .same-realization .ensures) ∙ e

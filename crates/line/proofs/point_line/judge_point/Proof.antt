@@ -1,4 +1,7 @@
 -- `line::point_line::judge_point` meets its contract. Assumes nothing.
+use mathlib.Core.Path.{_≡_, _∙_, ap}
+use lib.IntN.{ℤ}
+use mir.Facts.{toZ-ofZ}
 use Rattle.chain.specs.Faults.{pointFault}
 use Rattle.line.specs.declared.PointLine.the-variants.{Point, Refused}
 use Rattle.line.proofs.Answers as A
@@ -9,11 +12,15 @@ use Rattle.line.proofs.point_line.judge_point.Tie as tie
 point-fault-requires : tie.Need-point-fault-requires
 point-fault-requires c κs = search needs
 
+-- what the record is refused for
+found : (c : tie.After-point-fault) → c .point-fault .result ≡ pointFault (c .before .args .profile) (c .before .args .p)
+found c = c .point-fault .ensures ∙ ap (λ (y : ℤ). pointFault y (c .before .args .p)) (toZ-ofZ (c .before .fits .profile))
+
 returns : tie.Need-returns
-returns c = A.judge-none pointFault Point Refused (c .before .before .args .p) _ (c .before .point-fault .ensures) (c .if1 .taken)
+returns c = A.judge-none (pointFault (c .before .before .args .profile)) Point Refused (c .before .before .args .p) _ (found (c .before)) (c .if1 .taken)
 
 returns-2 : tie.Need-returns-2
-returns-2 c = A.judge-some pointFault Point Refused (c .before .before .args .p) _ (c .before .point-fault .ensures) (c .if1 .left)
+returns-2 c = A.judge-some (pointFault (c .before .before .args .profile)) Point Refused (c .before .before .args .p) _ (found (c .before)) (c .if1 .left)
 
 pub judge-point-spec : {M : Type 1} → statement M
 judge-point-spec = tie.close (tie.spec point-fault-requires returns returns-2)

@@ -1,5 +1,7 @@
 -- `chain::steps::convert::forward` meets its contract: the chain decides first, then the point, then the walk. Assumes nothing.
-use mathlib.Core.Path.{_≡_, sym, _∙_, ap}
+use mathlib.Core.Path.{_≡_, sym, _∙_, ap, ap₂}
+use lib.IntN.{ℤ}
+use Rattle.rounding.proofs.Machine.{told}
 use mathlib.Core.List.{List}
 use Rattle.refusal.specs.Order.{first}
 use Rattle.chain.specs.declared.Realization.{Realization}
@@ -43,33 +45,40 @@ entry-fault-requires c κs = tt
 
 -- what the point was refused for, and that the chain was not
 module _ (c : tie.After-entry-fault) where
-  found : c .entry-fault .result ≡ entry (c .before .before .before .before .before .args .point) (wanted (c .before .before .before .before .before))
-  found = c .entry-fault .ensures ∙ ap (entry (c .before .before .before .before .before .args .point)) (c .before .start-of .ensures)
+  abbrev start : tie.Start
+  start = c .before .before .before .before .before .before
 
-  sound : first (chainTests (c .before .before .before .before .before .args .chain)) ≡ 0
-  sound = sym (c .before .before .before .before .chain-fault .ensures) ∙ c .before .before .before .if1 .left
+  found : c .entry-fault .result ≡ entry (start .args .chain .profile) (start .args .point) (wanted start)
+  found =
+      c .entry-fault .ensures
+      ∙ ap₂ (λ (y : ℤ) (r : Realization). entry y (start .args .point) r) (told (c .before .struct-told .given .1 .1 .0 .1)) (c .before .before .start-of .ensures)
+
+  sound : first (chainTests (start .args .chain)) ≡ 0
+  sound = sym (c .before .before .before .before .before .chain-fault .ensures) ∙ c .before .before .before .before .if1 .left
 
 returns-2 : tie.Need-returns-2
 unfolding forwardOf
 returns-2 c =
-    let s = c .before .before .before .before .before .before in
+    let s = start (c .before) in
     let f = found (c .before) in
     ap Refused f ∙ by-point (s .args .chain) (s .args .point) (wanted s) (reached s) (walked s) (sound (c .before)) (λ e. c .if2 .taken (f ∙ e))
 
 end-of-requires : tie.Need-end-of-requires
-end-of-requires c κs = chain-holds (c .before .before .before .before .before .before .args .chain) (sym (c .before .before .before .before .before .chain-fault .ensures) ∙ c .before .before .before .before .if1 .left) .0
+end-of-requires c κs = chain-holds (start (c .before) .args .chain) (sound (c .before)) .0
 
 forward-walk-requires : tie.Need-forward-walk-requires
 forward-walk-requires c κs =
-    let c7 = c .before .before .before .before .before .before .before in
-    (sound (c .before .before), entry-area (c7 .args .point) (wanted (c .before .before .before .before .before .before .before)) (sym (found (c .before .before)) ∙ c .before .if2 .left))
+    let e = c .before .before in
+    let s = start e in
+    (sound e, entry-area (s .args .chain .profile) (s .args .point) (wanted s) (sym (found e) ∙ c .before .if2 .left))
 
 returns-3 : tie.Need-returns-3
 unfolding forwardOf
 returns-3 c =
-    let s = c .before .before .before .before .before .before .before .before in
+    let e = c .before .before .before in
+    let s = start e in
     c .forward-walk .ensures ∙ ap (λ (r : Realization). answerOf (s .args .point) r (walked s)) (c .before .end-of .ensures)
-    ∙ by-walk (s .args .chain) (s .args .point) (wanted s) (reached s) (walked s) (sound (c .before .before .before)) (sym (found (c .before .before .before)) ∙ c .before .before .if2 .left)
+    ∙ by-walk (s .args .chain) (s .args .point) (wanted s) (reached s) (walked s) (sound e) (sym (found e) ∙ c .before .before .if2 .left)
 
 pub forward-spec : {M : Type 1} → statement M
 forward-spec = tie.close (tie.spec chain-fault-requires returns start-of-requires entry-fault-requires returns-2 end-of-requires forward-walk-requires returns-3)

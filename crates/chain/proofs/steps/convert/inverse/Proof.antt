@@ -1,5 +1,7 @@
 -- `chain::steps::convert::inverse` meets its contract: the chain decides first, then the point, then the walk. Assumes nothing.
-use mathlib.Core.Path.{_≡_, sym, _∙_, ap}
+use mathlib.Core.Path.{_≡_, sym, _∙_, ap, ap₂}
+use lib.IntN.{ℤ}
+use Rattle.rounding.proofs.Machine.{told}
 use mathlib.Core.List.{List, reverse}
 use Rattle.refusal.specs.Order.{first}
 use Rattle.chain.specs.declared.Realization.{Realization}
@@ -43,16 +45,21 @@ entry-fault-requires c κs = tt
 
 -- what the point was refused for, and that the chain was not
 module _ (c : tie.After-entry-fault) where
-  found : c .entry-fault .result ≡ entry (c .before .before .before .before .before .args .point) (wanted (c .before .before .before .before .before))
-  found = c .entry-fault .ensures ∙ ap (entry (c .before .before .before .before .before .args .point)) (c .before .end-of .ensures)
+  abbrev start : tie.Start
+  start = c .before .before .before .before .before .before
 
-  sound : first (chainTests (c .before .before .before .before .before .args .chain)) ≡ 0
-  sound = sym (c .before .before .before .before .chain-fault .ensures) ∙ c .before .before .before .if1 .left
+  found : c .entry-fault .result ≡ entry (start .args .chain .profile) (start .args .point) (wanted start)
+  found =
+      c .entry-fault .ensures
+      ∙ ap₂ (λ (y : ℤ) (r : Realization). entry y (start .args .point) r) (told (c .before .struct-told .given .1 .1 .0 .1)) (c .before .before .end-of .ensures)
+
+  sound : first (chainTests (start .args .chain)) ≡ 0
+  sound = sym (c .before .before .before .before .before .chain-fault .ensures) ∙ c .before .before .before .before .if1 .left
 
 returns-2 : tie.Need-returns-2
 unfolding inverseOf
 returns-2 c =
-    let s = c .before .before .before .before .before .before in
+    let s = start (c .before) in
     let f = found (c .before) in
     ap Refused f ∙ by-point (s .args .chain) (s .args .point) (wanted s) (reached s) (walked s) (sound (c .before)) (λ e. c .if2 .taken (f ∙ e))
 
@@ -61,15 +68,17 @@ start-of-requires c κs = tt
 
 inverse-walk-requires : tie.Need-inverse-walk-requires
 inverse-walk-requires c κs =
-    let c7 = c .before .before .before .before .before .before .before in
-    (sound (c .before .before), entry-area (c7 .args .point) (wanted (c .before .before .before .before .before .before .before)) (sym (found (c .before .before)) ∙ c .before .if2 .left))
+    let e = c .before .before in
+    let s = start e in
+    (sound e, entry-area (s .args .chain .profile) (s .args .point) (wanted s) (sym (found e) ∙ c .before .if2 .left))
 
 returns-3 : tie.Need-returns-3
 unfolding inverseOf
 returns-3 c =
-    let s = c .before .before .before .before .before .before .before .before in
+    let e = c .before .before .before in
+    let s = start e in
     c .inverse-walk .ensures ∙ ap (λ (r : Realization). answerOf (s .args .point) r (walked s)) (c .before .start-of .ensures)
-    ∙ by-walk (s .args .chain) (s .args .point) (wanted s) (reached s) (walked s) (sound (c .before .before .before)) (sym (found (c .before .before .before)) ∙ c .before .before .if2 .left)
+    ∙ by-walk (s .args .chain) (s .args .point) (wanted s) (reached s) (walked s) (sound e) (sym (found e) ∙ c .before .before .if2 .left)
 
 pub inverse-spec : {M : Type 1} → statement M
 inverse-spec = tie.close (tie.spec chain-fault-requires returns end-of-requires entry-fault-requires returns-2 start-of-requires inverse-walk-requires returns-3)

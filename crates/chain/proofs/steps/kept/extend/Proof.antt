@@ -11,14 +11,14 @@ use lib.Seq.{sets}
 use mir.Syntax.{w64}
 use mir.Val.{SFits, toZ, ofZ}
 use Rattle.refusal.specs.Order.{first}
-use Rattle.rounding.proofs.Machine.{told, fits, rd+, fit+, of₃}
+use Rattle.rounding.proofs.Machine.{told, rd, fits, rd+, fit+, of₃}
 use Rattle.ranges.specs.Ranges.{within}
 use Rattle.ranges.proofs.Ranges.{Natural, natural, natural-holds}
 use Rattle.chain.specs.declared.Realization.{Realization}
 use Rattle.chain.specs.declared.Step.{Step}
 use Rattle.chain.specs.declared.steps.Ready.{Ready}
 use Rattle.chain.specs.Faults.{stepFault}
-use Rattle.chain.specs.Prepared.{lengthIn, numbersOf, extendTests, extendFault, startWith, firstRow}
+use Rattle.chain.specs.Prepared.{lengthIn, endIn, numbersOf, extendTests, extendFault, startWith, firstRow}
 use Rattle.chain.proofs.Sizes.{step-ok}
 use Rattle.chain.proofs.Keeping.{extend-passed, extended-is, refused-is}
 use Rattle.chain.proofs.steps.kept.extend.Statement.{statement}
@@ -38,18 +38,22 @@ module _ (c : tie.After-extend-fault) where
   abbrev l : List ℤ
   l = c .before .before .before .before .args .numbers .now
 
+  abbrev profile : ℤ
+  profile = c .before .before .before .before .args .profile
+
   abbrev step : Step
   step = c .before .before .before .before .args .step
 
   length : toZ w64 (ofZ w64 (getD l 0 (pos 0))) ≡ lengthIn l
   length = told (c .before .before .before .n .given)
 
-  fault : c .extend-fault .result ≡ extendFault l step
+  fault : c .extend-fault .result ≡ extendFault profile l step
   unfolding extendFault
-  fault = c .extend-fault .ensures ∙ ap₂ (λ (n : ℤ) (r : Realization). first (extendTests n r step)) length (c .before .end-in .ensures)
+  fault = c .extend-fault .ensures ∙ ap₂ (λ (n : ℤ) (r : Realization). first (extendTests (toZ w64 (ofZ w64 profile)) n r step)) length (c .before .end-in .ensures)
+      ∙ ap (λ (y : ℤ). first (extendTests y (lengthIn l) (endIn l) step)) (rd (c .before .before .before .before .fits .profile))
 
 returns : tie.Need-returns
-returns c = let a = c .before in (fault a, sym (refused-is (l a) (step a) (λ e. c .if1 .taken (fault a ∙ e))))
+returns c = let a = c .before in (fault a, sym (refused-is (profile a) (l a) (step a) (λ e. c .if1 .taken (fault a ∙ e))))
 
 start-in-requires : tie.Need-start-in-requires
 start-in-requires c κs = search needs
@@ -62,14 +66,14 @@ module _ (c : tie.Else1) where
   abbrev at : tie.After-extend-fault
   at = c .before
 
-  passed : extendFault (l at) (step at) ≡ 0
+  passed : extendFault (profile at) (l at) (step at) ≡ 0
   passed = sym (fault at) ∙ c .if1 .left
 
-  alone : stepFault (step at) ≡ 0
-  alone = extend-passed (l at) (step at) passed .0
+  alone : stepFault (profile at) (step at) ≡ 0
+  alone = extend-passed (profile at) (l at) (step at) passed .0
 
   few : Natural 0 (lengthIn (l at)) 7
-  few = natural 0 (lengthIn (l at)) 7 (extend-passed (l at) (step at) passed .1)
+  few = natural 0 (lengthIn (l at)) 7 (extend-passed (profile at) (l at) (step at) passed .1)
 
   known : within (pos 0) (lengthIn (l at)) (pos 8) ≡ true
   known = let h = few .high in rw (few .is) (natural-holds 0 (few .n) 8 (few .low) (omega arith))
@@ -84,7 +88,7 @@ one : pos 1 ≡ pos 1
 one = refl
 
 prepare-requires : tie.Need-prepare-requires
-prepare-requires c κs = let e = c .before .before .before .before in step-ok (step (at e)) (alone e)
+prepare-requires c κs = let e = c .before .before .before .before in step-ok (profile (at e)) (step (at e)) (alone e)
 
 count-requires : tie.Need-count-requires
 count-requires c κs = let e = c .before .before .before .before .before .before in rw (length (at e)) (known e)
@@ -116,7 +120,7 @@ returns-2 c =
           ∙ ap₂ (λ (m row : List ℤ). sets m 0 row)
           (c .before .before .put-ready .ensures ∙ ap₂ (λ (k : ℕ) (r : Ready). sets (l (at e)) (8 * (k + 1)) (numbersOf r)) (counted n) (p .prepare .ensures))
           (ap₂ (λ (m : ℤ) (r : Realization). firstRow m r (step (at e) .after)) (rd+ (length (at e)) one (more e)) (w .start-with .ensures ∙ ap₂ (λ (m : ℤ) (r : Realization). startWith m r (step (at e))) (length (at e)) (w .before .start-in .ensures)))
-          ∙ sym (extended-is (l (at e)) (step (at e)) (passed e)),
+          ∙ sym (extended-is (profile (at e)) (l (at e)) (step (at e)) (passed e)),
     )
 
 pub extend-spec : {M : Type 1} → statement M

@@ -24,12 +24,16 @@ rest n end s = (not (equal (pos 0) n || sameRealization end (s .before)) gives r
 step-fault-requires : tie.Need-step-fault-requires
 step-fault-requires c κs = tt
 
+-- what the step by itself is refused for
+own : (c : tie.After-step-fault) → c .step-fault .result ≡ stepFault (c .before .args .profile) (c .before .args .step)
+own c = c .step-fault .ensures ∙ ap (λ (y : ℤ). stepFault y (c .before .args .step)) (rd (c .before .fits .profile))
+
 returns : tie.Need-returns
 unfolding stepFault
 returns c =
     let a = c .before .before .args in
-    let f = c .before .step-fault .ensures in
-    f ∙ sym (stop (stepTests (a .step)) (rest (a .n) (a .end) (a .step)) (λ e. c .if1 .taken (f ∙ e)))
+    let f = own (c .before) in
+    f ∙ sym (stop (stepTests (a .profile) (a .step)) (rest (a .n) (a .end) (a .step)) (λ e. c .if1 .taken (f ∙ e)))
 
 equal-requires : tie.Need-equal-requires
 equal-requires c κs = tt
@@ -42,11 +46,11 @@ module _ (c : tie.After-same-realization) where
   abbrev start : tie.Start
   start = c .before .before .before .before .before
 
-  decided : first (rest (start .args .n) (start .args .end) (start .args .step)) ≡ first (extendTests (start .args .n) (start .args .end) (start .args .step))
+  decided : first (rest (start .args .n) (start .args .end) (start .args .step)) ≡ first (extendTests (start .args .profile) (start .args .n) (start .args .end) (start .args .step))
   unfolding stepFault
   decided =
-      let e = sym (c .before .before .before .before .step-fault .ensures) ∙ c .before .before .before .if1 .left in
-      sym (on (stepTests (start .args .step)) (rest (start .args .n) (start .args .end) (start .args .step)) (passed (stepTests (start .args .step)) tt e))
+      let e = sym (own (c .before .before .before .before)) ∙ c .before .before .before .if1 .left in
+      sym (on (stepTests (start .args .profile) (start .args .step)) (rest (start .args .n) (start .args .end) (start .args .step)) (passed (stepTests (start .args .profile) (start .args .step)) tt e))
 
   joins : (b : Bool) → (c .before .equal .result || c .same-realization .result) ≡ b → (equal (pos 0) (start .args .n) || sameRealization (start .args .end) (start .args .step .before)) ≡ b
   joins b e = sym (ap₂ _||_ (c .before .equal .ensures ∙ ap (equal (pos 0)) (rd (start .fits .n))) (c .same-realization .ensures)) ∙ e

@@ -29,7 +29,7 @@ int main(void) {
     const size_t steps = 4 * SWIVELCRANE_STEP_NUMBERS, numbers = SWIVELCRANE_POINT_NUMBERS;
     int64_t there[SWIVELCRANE_POINT_NUMBERS], home[SWIVELCRANE_POINT_NUMBERS];
 
-    if (!show(swivelcrane_forward(chain, steps, arau, numbers, there, numbers), there))
+    if (!show(swivelcrane_forward(2021, chain, steps, arau, numbers, there, numbers), there))
         return 1;
-    return !show(swivelcrane_inverse(chain, steps, there, numbers, home, numbers), home);
+    return !show(swivelcrane_inverse(2021, chain, steps, there, numbers, home, numbers), home);
 }

@@ -22,7 +22,7 @@ extern "C" {
 #endif
 
 /* The version of this interface: a function or a number that is added raises the minor, any other change the major. */
-#define SWIVELCRANE_VERSION_MAJOR 3
+#define SWIVELCRANE_VERSION_MAJOR 4
 #define SWIVELCRANE_VERSION_MINOR 0
 
 /* The refusal numbers by name; README.md says of each what to do. 1 is not given. */
@@ -48,7 +48,8 @@ enum swivelcrane_refusal {
     SWIVELCRANE_REFUSAL_COUNT = 20,    /* a line with the wrong number of fields */
     SWIVELCRANE_REFUSAL_ID = 21,       /* an id that is not 1 to 16 of A-Z, 0-9 and hyphen */
     SWIVELCRANE_REFUSAL_PLAIN = 22,    /* a number that is not in plain form */
-    SWIVELCRANE_REFUSAL_PLANE = 23     /* an easting or northing not finite, or 10,000,000 m or more in size */
+    SWIVELCRANE_REFUSAL_PLANE = 23,    /* an easting or northing not finite, or 10,000,000 m or more in size */
+    SWIVELCRANE_REFUSAL_PROFILE = 25   /* a step or a point that the chain's profile doesn't have */
 };
 
 /* An array has not the number of elements that its call asks for. It comes before every refusal. */
@@ -65,11 +66,13 @@ enum swivelcrane_refusal {
 /* Numbers to a point: issue, order of control (1 to 4), datum, epoch, X, Y, Z. The point's id stays with the caller. */
 #define SWIVELCRANE_POINT_NUMBERS 7
 
-/* Converts a point along a chain (forward) or back (inverse). The chain has 13 numbers a step; no step at all is a chain
- * too, and more than eight are refused with 6. Refusals: chain 6, then each step 2, 3, 4, 5; point 2, 3, 9, 10; then 11. */
-int64_t swivelcrane_forward(const int64_t *chain, size_t chain_length, const int64_t *point, size_t point_length,
+/* Converts a point along a chain (forward) or back (inverse). The profile is the edition of the circular that the chain is made
+ * under: 2021, or 2009, which has datums 1, 2, 3, 4, 5 and 7 and steps 'T' and 'B' alone. The chain has 13 numbers a step; no step
+ * at all is a chain too, and more than eight are refused with 6. Refusals: the profile's year 2; chain 6, then each step 2, 3, 25,
+ * 4, 5; point 2, 3, 25, 9, 10; then 11. */
+int64_t swivelcrane_forward(int64_t profile, const int64_t *chain, size_t chain_length, const int64_t *point, size_t point_length,
                             int64_t *out, size_t out_length);
-int64_t swivelcrane_inverse(const int64_t *chain, size_t chain_length, const int64_t *point, size_t point_length,
+int64_t swivelcrane_inverse(int64_t profile, const int64_t *chain, size_t chain_length, const int64_t *point, size_t point_length,
                             int64_t *out, size_t out_length);
 
 /* Geodetic to Cartesian on an ellipsoid (1 GRS80, 2 WGS84, 3 Everest 1830 Modified, 4 Everest 1967): X, Y, Z in metres,

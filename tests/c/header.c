@@ -74,12 +74,12 @@ static const int64_t arau_chain[4 * STEP] = {
 static const int64_t arau[POINT] = {1, 3, 6, 2000000, -113105165410, 623631179950, 71174811140};
 
 static void conversions(void) {
-    wrote(swivelcrane_forward(chain, 2 * STEP, point, POINT, out, POINT), stored_forward, POINT, "forward");
-    wrote(swivelcrane_inverse(chain, 2 * STEP, stored_forward, POINT, out, POINT), stored_inverse, POINT, "inverse");
-    wrote(swivelcrane_forward(arau_chain, 4 * STEP, arau, POINT, out, POINT), stored_arau_forward, POINT, "forward, ARAU");
-    wrote(swivelcrane_inverse(arau_chain, 4 * STEP, stored_arau_forward, POINT, out, POINT), stored_arau_inverse, POINT, "inverse, ARAU");
-    wrote(swivelcrane_forward(chain, 0, point, POINT, out, POINT), point, POINT, "forward, no step");
-    wrote(swivelcrane_inverse(chain, 0, point, POINT, out, POINT), point, POINT, "inverse, no step");
+    wrote(swivelcrane_forward(2021, chain, 2 * STEP, point, POINT, out, POINT), stored_forward, POINT, "forward");
+    wrote(swivelcrane_inverse(2021, chain, 2 * STEP, stored_forward, POINT, out, POINT), stored_inverse, POINT, "inverse");
+    wrote(swivelcrane_forward(2021, arau_chain, 4 * STEP, arau, POINT, out, POINT), stored_arau_forward, POINT, "forward, ARAU");
+    wrote(swivelcrane_inverse(2021, arau_chain, 4 * STEP, stored_arau_forward, POINT, out, POINT), stored_arau_inverse, POINT, "inverse, ARAU");
+    wrote(swivelcrane_forward(2021, chain, 0, point, POINT, out, POINT), point, POINT, "forward, no step");
+    wrote(swivelcrane_inverse(2021, chain, 0, point, POINT, out, POINT), point, POINT, "inverse, no step");
 }
 
 /* One number of the chain or of the point changed, both ways: the point of the inverse is at the chain's end. */
@@ -91,8 +91,8 @@ static void changed(size_t step_place, int64_t step_number, size_t point_place, 
     steps[step_place] = step_number;
     there[point_place] = point_number;
     home[point_place] = point_number;
-    refused(swivelcrane_forward(steps, 2 * STEP, there, POINT, out, POINT), number, what);
-    refused(swivelcrane_inverse(steps, 2 * STEP, home, POINT, out, POINT), number, what);
+    refused(swivelcrane_forward(2021, steps, 2 * STEP, there, POINT, out, POINT), number, what);
+    refused(swivelcrane_inverse(2021, steps, 2 * STEP, home, POINT, out, POINT), number, what);
 }
 
 static void refused_conversions(void) {
@@ -106,18 +106,42 @@ static void refused_conversions(void) {
     changed(0, 'B', 1, 0, SWIVELCRANE_REFUSAL_RANGE, "order 0: 2");
     changed(0, 'B', 1, 5, SWIVELCRANE_REFUSAL_RANGE, "order 5: 2");
     changed(0, 'B', 3, 2100001, SWIVELCRANE_REFUSAL_RANGE, "an epoch out of range: 2");
-    refused(swivelcrane_forward(chain, 2 * STEP, stored_forward, POINT, out, POINT), SWIVELCRANE_REFUSAL_START, "a point at the chain's end: 9");
-    refused(swivelcrane_inverse(chain, 2 * STEP, point, POINT, out, POINT), SWIVELCRANE_REFUSAL_START, "a point at the chain's start: 9");
+    refused(swivelcrane_forward(2021, chain, 2 * STEP, stored_forward, POINT, out, POINT), SWIVELCRANE_REFUSAL_START, "a point at the chain's end: 9");
+    refused(swivelcrane_inverse(2021, chain, 2 * STEP, point, POINT, out, POINT), SWIVELCRANE_REFUSAL_START, "a point at the chain's start: 9");
     changed(0, 'B', 6, 90000000001, SWIVELCRANE_REFUSAL_AREA, "north of the area: 10");
     changed(0, 'B', 6, -1, SWIVELCRANE_REFUSAL_AREA, "south of the area: 10");
-    refused(swivelcrane_forward(nine, 9 * STEP, point, POINT, out, POINT), SWIVELCRANE_REFUSAL_NINTH, "nine steps: 6");
-    refused(swivelcrane_inverse(nine, 9 * STEP, point, POINT, out, POINT), SWIVELCRANE_REFUSAL_NINTH, "nine steps back: 6");
-    refused(swivelcrane_forward(chain, 2 * STEP - 1, point, POINT, out, POINT), SWIVELCRANE_WRONG_LENGTH, "a part of a step");
-    refused(swivelcrane_inverse(chain, 2 * STEP - 1, point, POINT, out, POINT), SWIVELCRANE_WRONG_LENGTH, "a part of a step back");
-    refused(swivelcrane_forward(chain, 2 * STEP, point, POINT - 1, out, POINT), SWIVELCRANE_WRONG_LENGTH, "six numbers to a point");
-    refused(swivelcrane_inverse(chain, 2 * STEP, point, POINT - 1, out, POINT), SWIVELCRANE_WRONG_LENGTH, "six numbers back");
-    refused(swivelcrane_forward(chain, 2 * STEP, point, POINT, out, POINT + 1), SWIVELCRANE_WRONG_LENGTH, "room for eight");
-    refused(swivelcrane_inverse(chain, 2 * STEP, point, POINT, out, POINT + 1), SWIVELCRANE_WRONG_LENGTH, "room for eight back");
+    refused(swivelcrane_forward(2021, nine, 9 * STEP, point, POINT, out, POINT), SWIVELCRANE_REFUSAL_NINTH, "nine steps: 6");
+    refused(swivelcrane_inverse(2021, nine, 9 * STEP, point, POINT, out, POINT), SWIVELCRANE_REFUSAL_NINTH, "nine steps back: 6");
+    refused(swivelcrane_forward(2021, chain, 2 * STEP - 1, point, POINT, out, POINT), SWIVELCRANE_WRONG_LENGTH, "a part of a step");
+    refused(swivelcrane_inverse(2021, chain, 2 * STEP - 1, point, POINT, out, POINT), SWIVELCRANE_WRONG_LENGTH, "a part of a step back");
+    refused(swivelcrane_forward(2021, chain, 2 * STEP, point, POINT - 1, out, POINT), SWIVELCRANE_WRONG_LENGTH, "six numbers to a point");
+    refused(swivelcrane_inverse(2021, chain, 2 * STEP, point, POINT - 1, out, POINT), SWIVELCRANE_WRONG_LENGTH, "six numbers back");
+    refused(swivelcrane_forward(2021, chain, 2 * STEP, point, POINT, out, POINT + 1), SWIVELCRANE_WRONG_LENGTH, "room for eight");
+    refused(swivelcrane_inverse(2021, chain, 2 * STEP, point, POINT, out, POINT + 1), SWIVELCRANE_WRONG_LENGTH, "room for eight back");
+}
+
+/* The same chain to datum 7, which the 2009 circular has; it has no datum 6 and no velocity or frame step. */
+static void profiles(void) {
+    int64_t steps[2 * STEP], there[POINT];
+    static const int64_t nine[9 * STEP], none[STEP];
+    memcpy(steps, chain, sizeof chain);
+    memcpy(there, point, sizeof point);
+    steps[STEP + 4] = 7;
+    wrote(swivelcrane_forward(2009, steps, 2 * STEP, point, POINT, out, POINT), stored_forward_2009, POINT, "forward, 2009");
+    there[2] = 7;
+    there[3] = 2006586;
+    wrote(swivelcrane_inverse(2009, steps, 2 * STEP, there, POINT, out, POINT), stored_inverse_2009, POINT, "inverse, 2009");
+    there[2] = 6;
+    refused(swivelcrane_forward(2009, chain, 2 * STEP, point, POINT, out, POINT), SWIVELCRANE_REFUSAL_PROFILE, "datum 6 in a chain of 2009: 25");
+    refused(swivelcrane_inverse(2009, steps, 2 * STEP, there, POINT, out, POINT), SWIVELCRANE_REFUSAL_PROFILE, "a point of datum 6 under 2009: 25");
+    refused(swivelcrane_forward(2009, none, 0, there, POINT, out, POINT), SWIVELCRANE_REFUSAL_PROFILE, "under no step of 2009: 25");
+    steps[STEP] = 'V';
+    steps[STEP + 6] = -5832;
+    refused(swivelcrane_forward(2009, steps, 2 * STEP, point, POINT, out, POINT), SWIVELCRANE_REFUSAL_PROFILE, "a velocity between two datums under 2009: 25");
+    refused(swivelcrane_forward(2021, steps, 2 * STEP, point, POINT, out, POINT), SWIVELCRANE_REFUSAL_KIND, "a velocity between two datums: 4");
+    refused(swivelcrane_forward(2010, nine, 9 * STEP, point, POINT, out, POINT), SWIVELCRANE_REFUSAL_RANGE, "a year that is no profile, before the ninth step: 2");
+    refused(swivelcrane_inverse(0, nine, 9 * STEP, point, POINT, out, POINT), SWIVELCRANE_REFUSAL_RANGE, "no profile: 2");
+    refused(swivelcrane_forward(2010, chain, 2 * STEP - 1, point, POINT, out, POINT), SWIVELCRANE_WRONG_LENGTH, "a length before the profile");
 }
 
 /* The shift to the north leaves the area: Z is 0 to 90,000,000,000. */
@@ -125,8 +149,8 @@ static void leaves_the_area(void) {
     static const int64_t shift[STEP] = {'T', 0, 5, 2000000, 6, 2006586, 0, 0, 100000000, 0, 0, 0, 0};
     static const int64_t south[POINT] = {1, 1, 5, 2000000, -122145678901, 622012345678, 89900000001};
     static const int64_t north[POINT] = {1, 1, 6, 2006586, -122145678901, 622012345678, 99999999};
-    refused(swivelcrane_forward(shift, STEP, south, POINT, out, POINT), SWIVELCRANE_REFUSAL_LEFT, "left the area: 11");
-    refused(swivelcrane_inverse(shift, STEP, north, POINT, out, POINT), SWIVELCRANE_REFUSAL_LEFT, "left the area on the way back: 11");
+    refused(swivelcrane_forward(2021, shift, STEP, south, POINT, out, POINT), SWIVELCRANE_REFUSAL_LEFT, "left the area: 11");
+    refused(swivelcrane_inverse(2021, shift, STEP, north, POINT, out, POINT), SWIVELCRANE_REFUSAL_LEFT, "left the area on the way back: 11");
 }
 
 static void geodetic(void) {
@@ -258,6 +282,7 @@ static void programs(void) {
     static uint8_t longest[65537];
     memset(longest, '\n', sizeof longest);
     prints(swivelcrane_sheet, TEXT(SHIFT A1 SHIFT A1), "P\tA1\t1\t2\t6\t2006586\t-113105181242\t623631175587\t71174801434\nR\t3\t7\t0\nR\t4\t8\t0\n", "sheet");
+    prints(swivelcrane_sheet, TEXT("E\t2009\n" A1 "E\t2009\n" A1), "R\t2\t25\t0\nR\t3\t7\t0\nR\t4\t25\t0\n", "a sheet of 2009");
     prints(swivelcrane_plan, TEXT(ORIGIN "G\tB1\t1440000000\t36720000000\n" ORIGIN), "C\tB1\t50000\t-25000\nR\t3\t7\t0\n", "plan");
     prints(swivelcrane_sheet, TEXT("G\tB1\t1440000000\t36720000000\n"), "R\t1\t19\t0\n", "a position in a sheet");
     prints(swivelcrane_plan, TEXT(A1), "R\t1\t19\t0\n", "a point in a plan");
@@ -273,7 +298,7 @@ static void numbers(void) {
     hold(SWIVELCRANE_ROOM(0) == 9 && SWIVELCRANE_ROOM(1 + 1) == 35 && SWIVELCRANE_ROOM(65535) == 851964, "the room");
     hold(SWIVELCRANE_ROOM(65536) == 851977 && SWIVELCRANE_ROOM(65537) == 851977, "the most room");
     hold(STEP == 13 && POINT == 7 && SWIVELCRANE_WRONG_LENGTH == 255, "numbers to a step, to a point, a wrong length");
-    hold(SWIVELCRANE_VERSION_MAJOR == 3 && SWIVELCRANE_VERSION_MINOR == 0, "the version");
+    hold(SWIVELCRANE_VERSION_MAJOR == 4 && SWIVELCRANE_VERSION_MINOR == 0, "the version");
     hold(SWIVELCRANE_REFUSAL_PLACE == 7 && SWIVELCRANE_REFUSAL_EARLIER == 8 && SWIVELCRANE_REFUSAL_LONG == 15, "the numbers that only a text has");
 }
 
@@ -282,6 +307,7 @@ int main(void) {
     numbers();
     conversions();
     refused_conversions();
+    profiles();
     leaves_the_area();
     geodetic();
     to_angles();

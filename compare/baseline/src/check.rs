@@ -20,6 +20,7 @@ pub const COUNT: u8 = 20;
 pub const ID: u8 = 21;
 pub const PLAIN: u8 = 22;
 pub const PROJECTED: u8 = 23;
+pub const PROFILE: u8 = 25;
 
 /// A refused line: the number and, for its form, the byte where the offending field begins.
 #[derive(Clone, Copy, PartialEq, Eq, Debug)]
@@ -67,6 +68,29 @@ pub struct Step {
     pub numbers: [i64; 7],
 }
 
+#[derive(Clone, Copy, PartialEq, Eq, Debug, Default)]
+pub enum Profile {
+    Y2009,
+    #[default]
+    Y2021,
+}
+
+impl Profile {
+    pub fn of(year: i64) -> Result<Profile, u8> {
+        match year {
+            2009 => Ok(Profile::Y2009),
+            2021 => Ok(Profile::Y2021),
+            _ => Err(RANGE),
+        }
+    }
+
+    /// For a datum in range: 1, 2, 3, 4, 5 and 7 in 2009.
+    #[inline]
+    pub fn has(self, datum: i64) -> bool {
+        self == Profile::Y2021 || (1 << datum) & 0b1011_1110 != 0
+    }
+}
+
 pub fn within(values: &[i64], size: i64) -> bool {
     values.iter().all(|v| (-size..=size).contains(v))
 }
@@ -95,8 +119,8 @@ pub fn point(point: &Point) -> u8 {
     }
 }
 
-/// 2, 3, 4, or 0.
-pub fn step(step: &Step) -> u8 {
+/// 2, 3, 25, 4, or 0.
+pub fn step(profile: Profile, step: &Step) -> u8 {
     let n = &step.numbers;
     let good = match step.kind {
         Kind::Shift => within(&n[..3], 100_000_000),
@@ -111,11 +135,18 @@ pub fn step(step: &Step) -> u8 {
         RANGE
     } else if !agrees(step.before) || !agrees(step.after) {
         DATUM_EPOCH
+    } else if !has_step(profile, step) {
+        PROFILE
     } else if !obeys(step) {
         KIND_RULE
     } else {
         0
     }
+}
+
+fn has_step(profile: Profile, step: &Step) -> bool {
+    let timed = matches!(step.kind, Kind::Velocity | Kind::Frame);
+    profile.has(step.before.datum) && profile.has(step.after.datum) && !(timed && profile == Profile::Y2009)
 }
 
 fn obeys(step: &Step) -> bool {

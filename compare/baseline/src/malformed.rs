@@ -62,6 +62,7 @@ pub fn fault(line: &[u8], letters: &[u8]) -> Fault {
         b'P' => (9, true, false),
         b'G' => (4, true, false),
         b'O' => (6, false, false),
+        b'E' => (2, false, false),
         _ if fields.count < 2 => (2, false, false),
         _ => match fields.letter(1, b"TVBF") {
             None => return fields.fault(LETTER, 1),

@@ -1,6 +1,6 @@
 //! Conversions by value: 13 numbers a step, 6 a point.
 
-use crate::check::{self, Kind, Place, Point, Step, JOIN, NINTH};
+use crate::check::{self, Kind, Place, Point, Profile, Step, JOIN, NINTH, PROFILE};
 use crate::steps::Chain;
 
 /// Issue, order, datum, epoch, X, Y, Z.
@@ -8,16 +8,17 @@ pub type PointRow = [i64; 7];
 
 const WRONG_LENGTH: u8 = 255;
 
-pub fn forward(rows: &[i64], point: &[i64]) -> Result<PointRow, u8> {
-    convert(rows, point, Chain::forward)
+pub fn forward(profile: i64, rows: &[i64], point: &[i64]) -> Result<PointRow, u8> {
+    convert(profile, rows, point, Chain::forward)
 }
 
-pub fn inverse(rows: &[i64], point: &[i64]) -> Result<PointRow, u8> {
-    convert(rows, point, Chain::inverse)
+pub fn inverse(profile: i64, rows: &[i64], point: &[i64]) -> Result<PointRow, u8> {
+    convert(profile, rows, point, Chain::inverse)
 }
 
 #[inline]
 fn convert(
+    profile: i64,
     rows: &[i64],
     point: &[i64],
     way: impl Fn(&Chain, Point) -> Result<Point, u8>,
@@ -26,24 +27,28 @@ fn convert(
     if !rows.len().is_multiple_of(13) {
         return Err(WRONG_LENGTH);
     }
-    let chain = chain(rows)?;
+    let profile = Profile::of(profile)?;
+    let chain = chain(profile, rows)?;
     let point = Point { issue, order, place: Place { datum, epoch }, xyz: [x, y, z] };
     let fault = check::point(&point);
     if fault != 0 {
         return Err(fault);
     }
+    if !profile.has(point.place.datum) {
+        return Err(PROFILE);
+    }
     let Point { issue, order, place, xyz: [x, y, z] } = way(&chain, point)?;
     Ok([issue, order, place.datum, place.epoch, x, y, z])
 }
 
-fn chain(rows: &[i64]) -> Result<Chain, u8> {
+fn chain(profile: Profile, rows: &[i64]) -> Result<Chain, u8> {
     if rows.len() > 8 * 13 {
         return Err(NINTH);
     }
     let mut chain = Chain::with_room();
     for row in rows.chunks_exact(13) {
         let step = step(row);
-        let fault = check::step(&step);
+        let fault = check::step(profile, &step);
         if fault != 0 {
             return Err(fault);
         }

@@ -142,6 +142,11 @@ impl<'a> Reader<'a> {
         Some((self.id()?, self.numbers(FEED)?))
     }
 
+    pub fn edition(&mut self) -> Option<i64> {
+        self.known(b'E')?;
+        self.number(FEED)
+    }
+
     pub fn origin(&mut self) -> Option<[i64; 5]> {
         self.known(b'O')?;
         self.numbers(FEED)

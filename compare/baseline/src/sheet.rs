@@ -1,31 +1,38 @@
 //! The sheet: steps, then points.
 
-use crate::check::{self, Fault, Place, Step, EARLIER, JOIN, NINTH, ORDER};
+use crate::check::{self, Fault, Place, Profile, Step, EARLIER, JOIN, NINTH, ORDER, PROFILE};
 use crate::program;
 use crate::read::Reader;
 use crate::steps::Chain;
 use crate::write;
 
-const LETTERS: &[u8] = b"SP";
+const LETTERS: &[u8] = b"SPE";
 
 pub fn sheet(input: &[u8], out: &mut Vec<u8>) {
     let mut sheet = Sheet::default();
-    program::run(input, out, |reader, _, out| sheet.line(reader, out));
+    program::run(input, out, |reader, place, out| sheet.line(reader, place, out));
 }
 
 #[derive(Default)]
 struct Sheet {
+    profile: Profile,
     chain: Chain,
     refused: bool,
     points: bool,
 }
 
 impl Sheet {
-    fn line(&mut self, reader: &mut Reader, out: &mut Vec<u8>) -> Result<(), Fault> {
+    fn line(&mut self, reader: &mut Reader, place: i64, out: &mut Vec<u8>) -> Result<(), Fault> {
         match reader.first() {
             Some(b'S') => {
                 let read = reader.line(LETTERS, Reader::step);
                 let answer = read.and_then(|step| self.step(&step).map_err(Fault::from));
+                self.refused |= answer.is_err();
+                answer
+            }
+            Some(b'E') => {
+                let read = reader.line(LETTERS, Reader::edition);
+                let answer = read.and_then(|year| self.edition(year, place).map_err(Fault::from));
                 self.refused |= answer.is_err();
                 answer
             }
@@ -34,8 +41,16 @@ impl Sheet {
         }
     }
 
+    fn edition(&mut self, year: i64, place: i64) -> Result<(), u8> {
+        if place != 1 {
+            return Err(ORDER);
+        }
+        self.profile = Profile::of(year)?;
+        Ok(())
+    }
+
     fn step(&mut self, step: &Step) -> Result<(), u8> {
-        let fault = check::step(step);
+        let fault = check::step(self.profile, step);
         if fault != 0 {
             Err(fault)
         } else if self.refused {
@@ -58,6 +73,9 @@ impl Sheet {
         let fault = check::point(&point);
         if fault != 0 {
             return Err(fault.into());
+        }
+        if !self.profile.has(point.place.datum) {
+            return Err(PROFILE.into());
         }
         if self.refused {
             return Err(EARLIER.into());

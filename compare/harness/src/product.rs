@@ -9,6 +9,7 @@ use standin as _;
 mod c {
     extern "C" {
         pub fn swivelcrane_forward(
+            profile: i64,
             chain: *const i64,
             chain_len: usize,
             point: *const i64,
@@ -17,6 +18,7 @@ mod c {
             out_len: usize,
         ) -> i64;
         pub fn swivelcrane_inverse(
+            profile: i64,
             chain: *const i64,
             chain_len: usize,
             point: *const i64,
@@ -108,10 +110,11 @@ mod c {
     }
 }
 
-pub fn forward(chain: &[i64], point: &[i64], out: &mut [i64]) -> i64 {
+pub fn forward(profile: i64, chain: &[i64], point: &[i64], out: &mut [i64]) -> i64 {
     // Safety, here and below: pointers and lengths of live slices.
     unsafe {
         c::swivelcrane_forward(
+            profile,
             chain.as_ptr(),
             chain.len(),
             point.as_ptr(),
@@ -122,9 +125,10 @@ pub fn forward(chain: &[i64], point: &[i64], out: &mut [i64]) -> i64 {
     }
 }
 
-pub fn inverse(chain: &[i64], point: &[i64], out: &mut [i64]) -> i64 {
+pub fn inverse(profile: i64, chain: &[i64], point: &[i64], out: &mut [i64]) -> i64 {
     unsafe {
         c::swivelcrane_inverse(
+            profile,
             chain.as_ptr(),
             chain.len(),
             point.as_ptr(),
@@ -224,7 +228,7 @@ fn lend<T: Copy + PartialEq, const N: usize>(mark: T, call: impl FnOnce(&mut [T]
     match number {
         0 => Ok(std::array::from_fn(|i| places[1 + i])),
         _ if touched(&places) => Err(WROTE),
-        2..=23 | 255 => Err(number as u8),
+        2..=25 | 255 => Err(number as u8),
         _ => Err(STRANGE),
     }
 }
@@ -252,11 +256,11 @@ impl Subject for Product {
     fn name(&self) -> &'static str {
         "product"
     }
-    fn forward(&self, chain: &[i64], point: &PointRow) -> Answer<PointRow> {
-        lend(MARK, |out| forward(chain, point, out))
+    fn forward(&self, profile: i64, chain: &[i64], point: &PointRow) -> Answer<PointRow> {
+        lend(MARK, |out| forward(profile, chain, point, out))
     }
-    fn inverse(&self, chain: &[i64], point: &PointRow) -> Answer<PointRow> {
-        lend(MARK, |out| inverse(chain, point, out))
+    fn inverse(&self, profile: i64, chain: &[i64], point: &PointRow) -> Answer<PointRow> {
+        lend(MARK, |out| inverse(profile, chain, point, out))
     }
     fn cartesian(&self, n: &[i64; 4]) -> Answer<[f64; 3]> {
         lend(FLOAT_MARK, |out| cartesian(n, out))

@@ -14,8 +14,8 @@ pub const STRANGE: u8 = 253;
 
 pub trait Subject {
     fn name(&self) -> &'static str;
-    fn forward(&self, chain: &[i64], point: &PointRow) -> Answer<PointRow>;
-    fn inverse(&self, chain: &[i64], point: &PointRow) -> Answer<PointRow>;
+    fn forward(&self, profile: i64, chain: &[i64], point: &PointRow) -> Answer<PointRow>;
+    fn inverse(&self, profile: i64, chain: &[i64], point: &PointRow) -> Answer<PointRow>;
     fn cartesian(&self, numbers: &[i64; 4]) -> Answer<[f64; 3]>;
     fn cartesian_units(&self, numbers: &[i64; 4]) -> Answer<[i64; 3]>;
     /// Code, X, Y, Z to latitude, longitude, height.
@@ -44,11 +44,11 @@ impl Subject for Paper {
     fn name(&self) -> &'static str {
         "independent"
     }
-    fn forward(&self, chain: &[i64], point: &PointRow) -> Answer<PointRow> {
-        paper::numbers::forward(chain, point)
+    fn forward(&self, profile: i64, chain: &[i64], point: &PointRow) -> Answer<PointRow> {
+        paper::numbers::forward(profile, chain, point)
     }
-    fn inverse(&self, chain: &[i64], point: &PointRow) -> Answer<PointRow> {
-        paper::numbers::inverse(chain, point)
+    fn inverse(&self, profile: i64, chain: &[i64], point: &PointRow) -> Answer<PointRow> {
+        paper::numbers::inverse(profile, chain, point)
     }
     fn cartesian(&self, n: &[i64; 4]) -> Answer<[f64; 3]> {
         paper::angle::cartesian(n[0], n[1], n[2], n[3])
@@ -101,11 +101,11 @@ impl Subject for Baseline {
     fn name(&self) -> &'static str {
         "baseline"
     }
-    fn forward(&self, chain: &[i64], point: &PointRow) -> Answer<PointRow> {
-        baseline::numbers::forward(chain, point)
+    fn forward(&self, profile: i64, chain: &[i64], point: &PointRow) -> Answer<PointRow> {
+        baseline::numbers::forward(profile, chain, point)
     }
-    fn inverse(&self, chain: &[i64], point: &PointRow) -> Answer<PointRow> {
-        baseline::numbers::inverse(chain, point)
+    fn inverse(&self, profile: i64, chain: &[i64], point: &PointRow) -> Answer<PointRow> {
+        baseline::numbers::inverse(profile, chain, point)
     }
     fn cartesian(&self, n: &[i64; 4]) -> Answer<[f64; 3]> {
         baseline::angle::cartesian(n[0], n[1], n[2], n[3])

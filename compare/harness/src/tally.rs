@@ -26,8 +26,8 @@ const FUNCTIONS: usize = Plan as usize + 1;
 /// The numbers that each can give; 0 is an answer or, in a sheet or plan, a line printed. 14 can't come
 /// from an angle: every result lies below 10,000 km.
 const REACHABLE: [(Function, &str, &[u8]); FUNCTIONS] = [
-    (Forward, "forward", &[0, 2, 3, 4, 5, 6, 9, 10, 11]),
-    (Inverse, "inverse", &[0, 2, 3, 4, 5, 6, 9, 10, 11]),
+    (Forward, "forward", &[0, 2, 3, 4, 5, 6, 9, 10, 11, 25]),
+    (Inverse, "inverse", &[0, 2, 3, 4, 5, 6, 9, 10, 11, 25]),
     (Cartesian, "cartesian", &[0, 2, 12]),
     (CartesianUnits, "cartesian units", &[0, 2, 12]),
     (Geodetic, "from Cartesian", &[0, 2, 10, 12]),
@@ -37,13 +37,13 @@ const REACHABLE: [(Function, &str, &[u8]); FUNCTIONS] = [
     (RsoReverse, "RSO reverse", &[0, 2, 12, 23]),
     (Round, "round", &[0, 2, 14]),
     (Later, "later of two", &[0, 2, 3, 16, 17, 18, 19, 20, 21, 22]),
-    (Sheet, "sheet, lines", &[0, 2, 3, 4, 5, 6, 7, 8, 9, 10, 11, 15, 18, 19, 20, 21, 22]),
+    (Sheet, "sheet, lines", &[0, 2, 3, 4, 5, 6, 7, 8, 9, 10, 11, 15, 18, 19, 20, 21, 22, 25]),
     (Plan, "plan, lines", &[0, 2, 7, 8, 12, 13, 15, 18, 19, 20, 21, 22]),
 ];
 
 #[derive(Clone, Default)]
 pub struct Tally {
-    counts: [[u64; 24]; FUNCTIONS],
+    counts: [[u64; 32]; FUNCTIONS],
 }
 
 impl Tally {

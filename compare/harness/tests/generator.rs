@@ -14,7 +14,7 @@ fn good_chains_have_no_faults_and_end_where_they_say() {
     for count in 0..2000 {
         let chain = chains.good(&mut rng, count % 9);
         let steps = steps(&chain.numbers()).expect("whole rows");
-        assert_eq!(paper::chain::chain_faults(&steps), Ok(()));
+        assert_eq!(paper::chain::chain_faults(chain.profile, &steps).err(), None);
         if let (Some(first), Some(last)) = (steps.first(), steps.last()) {
             assert_eq!([first.before.datum, first.before.epoch], chain.begin);
             assert_eq!([last.after.datum, last.after.epoch], chain.end);

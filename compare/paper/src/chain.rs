@@ -1,7 +1,8 @@
 //! A chain of steps and a point, by value: along and back.
 
+use crate::profile::Profile;
 use crate::ranges;
-use crate::refusal::{unless, Refusal, DATUM_EPOCH, JOIN, LEFT, NINTH, OUTSIDE, RANGE, START};
+use crate::refusal::{unless, Refusal, DATUM_EPOCH, JOIN, LEFT, NINTH, OUTSIDE, PROFILE, RANGE, START};
 use crate::step::{self, Realization, Step};
 
 pub const MOST_STEPS: usize = 8;
@@ -16,26 +17,30 @@ pub struct Point {
     pub position: ranges::Position,
 }
 
-/// Order: chain first (6; then each step 2, 3, 4, 5), then the point 2, 3, 9, 10, then 11.
-pub fn forward(chain: &[Step], point: Point) -> Result<Point, Refusal> {
-    chain_faults(chain)?;
+/// Order: chain first (the year 2; 6; then each step 2, 3, 25, 4, 5), then the point 2, 3, 25, 9, 10, then 11.
+pub fn forward(year: i64, chain: &[Step], point: Point) -> Result<Point, Refusal> {
+    let profile = chain_faults(year, chain)?;
     point_faults(&point)?;
+    unless(profile.has_point(&point), PROFILE)?;
     forward_checked(chain, point)
 }
 
-pub fn inverse(chain: &[Step], point: Point) -> Result<Point, Refusal> {
-    chain_faults(chain)?;
+pub fn inverse(year: i64, chain: &[Step], point: Point) -> Result<Point, Refusal> {
+    let profile = chain_faults(year, chain)?;
     point_faults(&point)?;
+    unless(profile.has_point(&point), PROFILE)?;
     inverse_checked(chain, point)
 }
 
-pub fn chain_faults(chain: &[Step]) -> Result<(), Refusal> {
+/// The profile of a chain that nothing is wrong with.
+pub fn chain_faults(year: i64, chain: &[Step]) -> Result<Profile, Refusal> {
+    let profile = Profile::of_year(year).ok_or(RANGE)?;
     unless(chain.len() <= MOST_STEPS, NINTH)?;
     for (place, each) in chain.iter().enumerate() {
-        step::faults(each)?;
+        step::faults(profile, each)?;
         unless(place == 0 || joins(&chain[..place], each), JOIN)?;
     }
-    Ok(())
+    Ok(profile)
 }
 
 /// Whether the step begins at the datum and epoch where the steps before it ended.
@@ -43,7 +48,7 @@ pub fn joins(earlier: &[Step], next: &Step) -> bool {
     earlier.last().is_none_or(|last| last.after == next.before)
 }
 
-/// What a point alone decides: 2, 3.
+/// What a point alone decides, with no profile: 2, 3.
 pub fn point_faults(point: &Point) -> Result<(), Refusal> {
     let in_range = ranges::issue(point.issue)
         && ranges::order(point.order)

@@ -17,6 +17,7 @@ pub mod lines;
 pub mod numbers;
 pub mod oblique;
 pub mod plan;
+pub mod profile;
 pub mod program;
 pub mod ranges;
 pub mod refusal;

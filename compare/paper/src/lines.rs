@@ -1,4 +1,4 @@
-//! Document 01, "Lines", and request A2: the forms of the four lines. What is not of its form is refused with 18 to
+//! Document 01, "Lines", and request A2: the forms of the five lines. What is not of its form is refused with 18 to
 //! 22, and that order goes over the whole line: a later field's 19 comes before an earlier field's 21.
 
 use crate::angle::Origin;
@@ -151,6 +151,15 @@ fn bursa_wolf(convention: Option<u8>, [dx, dy, dz, rx, ry, rz, scale]: [i64; 7])
         _ => Convention::PositionVector,
     };
     Kind::BursaWolf { convention, shift: [dx, dy, dz], rotation: [rx, ry, rz], scale }
+}
+
+/// E, year: request A10.
+pub fn edition(line: &[u8]) -> Result<i64, Fault> {
+    let line = Line::cut(line)?;
+    line.letter(0, b"E")?;
+    line.count(2)?;
+    let [year] = line.numbers(1)?;
+    Ok(year)
 }
 
 /// O, ellipsoid, latitude, longitude, FE, FN.

@@ -13,21 +13,21 @@ pub type PointRow = [i64; POINT];
 /// Not a refusal: a slice of the wrong length.
 pub const WRONG_LENGTH: Refusal = 255;
 
-pub fn forward(chain: &[i64], point: &[i64]) -> Result<PointRow, Refusal> {
-    convert(chain::forward, chain, point)
+pub fn forward(profile: i64, chain: &[i64], point: &[i64]) -> Result<PointRow, Refusal> {
+    convert(chain::forward, profile, chain, point)
 }
 
-pub fn inverse(chain: &[i64], point: &[i64]) -> Result<PointRow, Refusal> {
-    convert(chain::inverse, chain, point)
+pub fn inverse(profile: i64, chain: &[i64], point: &[i64]) -> Result<PointRow, Refusal> {
+    convert(chain::inverse, profile, chain, point)
 }
 
-type Conversion = fn(&[Step], Point) -> Result<Point, Refusal>;
+type Conversion = fn(i64, &[Step], Point) -> Result<Point, Refusal>;
 
-fn convert(conversion: Conversion, chain: &[i64], point: &[i64]) -> Result<PointRow, Refusal> {
+fn convert(conversion: Conversion, profile: i64, chain: &[i64], point: &[i64]) -> Result<PointRow, Refusal> {
     let steps = steps(chain).ok_or(WRONG_LENGTH)?;
     let [issue, order, datum, epoch, x, y, z] = point.try_into().map_err(|_| WRONG_LENGTH)?;
     let from = Point { issue, order, at: Realization { datum, epoch }, position: [x, y, z] };
-    let to = conversion(&steps, from)?;
+    let to = conversion(profile, &steps, from)?;
     let [x, y, z] = to.position;
     Ok([to.issue, to.order, to.at.datum, to.at.epoch, x, y, z])
 }

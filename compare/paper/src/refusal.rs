@@ -29,6 +29,8 @@ pub const ID: Refusal = 21;
 pub const PLAIN: Refusal = 22;
 /// An easting or northing handed in that is not finite, or is 10,000,000 m or more in size.
 pub const PROJECTED: Refusal = 23;
+/// A step or a point that the chain's edition of the circular doesn't have.
+pub const PROFILE: Refusal = 25;
 
 /// A refusal of a line, and the byte where the first offending field begins: 0 for all but 18 to 22.
 #[derive(Clone, Copy, Debug, PartialEq, Eq)]

@@ -1,9 +1,10 @@
-//! Document 01, the sheet program: steps, then points.
+//! Document 01, the sheet program: steps, then points; and request A10's edition on the first line.
 
 use crate::chain::{self, MOST_STEPS};
 use crate::lines;
+use crate::profile::Profile;
 use crate::program::{self, Reader};
-use crate::refusal::{unless, Fault, EARLIER, JOIN, NINTH, ORDER};
+use crate::refusal::{unless, Fault, EARLIER, JOIN, NINTH, ORDER, PROFILE, RANGE};
 use crate::step::{self, Step};
 
 pub fn sheet(input: &[u8]) -> Vec<u8> {
@@ -12,8 +13,10 @@ pub fn sheet(input: &[u8]) -> Vec<u8> {
 
 #[derive(Default)]
 struct Sheet {
+    lines_read: u64,
+    profile: Profile,
     chain: Vec<Step>,
-    /// A line beginning with S was refused, whatever for.
+    /// A line beginning with S or E was refused, whatever for.
     step_refused: bool,
     /// A point line of good form was read, refused or not.
     point_read: bool,
@@ -21,23 +24,31 @@ struct Sheet {
 
 impl Reader for Sheet {
     fn line(&mut self, line: &[u8]) -> Result<String, Fault> {
-        match line.first() {
-            Some(b'S') => {
-                let answer = self.step(line);
-                self.step_refused |= answer.is_err();
-                answer
-            }
-            Some(b'P') => self.point(line),
-            _ => Err(lines::unknown(line)),
-        }
+        self.lines_read += 1;
+        let (answer, counts) = match line.first() {
+            Some(b'E') => (self.edition(line), true),
+            Some(b'S') => (self.step(line), true),
+            Some(b'P') => (self.point(line), false),
+            _ => (Err(lines::unknown(line)), false),
+        };
+        self.step_refused |= counts && answer.is_err();
+        answer
     }
 }
 
 impl Sheet {
-    /// Order: 18 to 22, 2, 3, 4, 8, 7, 5, 6. An accepted step prints nothing.
+    /// Order: 18 to 22, 7, 2. An accepted edition prints nothing; a refused one leaves that of 2021.
+    fn edition(&mut self, line: &[u8]) -> Result<String, Fault> {
+        let year = lines::edition(line)?;
+        unless(self.lines_read == 1, ORDER)?;
+        self.profile = Profile::of_year(year).ok_or(RANGE)?;
+        Ok(String::new())
+    }
+
+    /// Order: 18 to 22, 2, 3, 25, 4, 8, 7, 5, 6. An accepted step prints nothing.
     fn step(&mut self, line: &[u8]) -> Result<String, Fault> {
         let next = lines::step(line)?;
-        step::faults(&next)?;
+        step::faults(self.profile, &next)?;
         unless(!self.step_refused, EARLIER)?;
         unless(!self.point_read, ORDER)?;
         unless(chain::joins(&self.chain, &next), JOIN)?;
@@ -46,11 +57,12 @@ impl Sheet {
         Ok(String::new())
     }
 
-    /// Order: 18 to 22, 2, 3, 8, 9, 10, 11.
+    /// Order: 18 to 22, 2, 3, 25, 8, 9, 10, 11.
     fn point(&mut self, line: &[u8]) -> Result<String, Fault> {
         let named = lines::point(line)?;
         self.point_read = true;
         chain::point_faults(&named.value)?;
+        unless(self.profile.has_point(&named.value), PROFILE)?;
         unless(!self.step_refused, EARLIER)?;
         let moved = chain::forward_checked(&self.chain, named.value)?;
         let [x, y, z] = moved.position;

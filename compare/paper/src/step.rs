@@ -1,8 +1,9 @@
 //! Document 01, "The four steps": what each coordinate gains, and the way back through one step.
 
 use crate::fraction::nearest;
+use crate::profile::Profile;
 use crate::ranges::{self, Position};
-use crate::refusal::{unless, Refusal, DATUM_EPOCH, KIND_RULE, RANGE};
+use crate::refusal::{unless, Refusal, DATUM_EPOCH, KIND_RULE, PROFILE, RANGE};
 
 #[derive(Clone, Copy, Debug, PartialEq, Eq)]
 pub struct Realization {
@@ -39,10 +40,11 @@ pub struct Step {
     pub after: Realization,
 }
 
-/// What a step alone decides: 2, 3, 4.
-pub fn faults(step: &Step) -> Result<(), Refusal> {
+/// What a step decides by itself and its chain's profile: 2, 3, 25, 4.
+pub fn faults(profile: Profile, step: &Step) -> Result<(), Refusal> {
     unless(numbers_in_range(step), RANGE)?;
     unless(agree(step.before) && agree(step.after), DATUM_EPOCH)?;
+    unless(profile.has_step(step), PROFILE)?;
     unless(kind_rule(step), KIND_RULE)
 }
 

@@ -1,8 +1,17 @@
 //! Document 01, "Proved and run": the ten cases, the run, and what the rounding rule must not be.
 
 use paper::angle::cartesian;
-use paper::numbers::{forward, inverse};
+use paper::numbers::{self, PointRow};
 use paper::step::scaled_rotation;
+
+/// The chains here bear no mark, so they are of 2021.
+fn forward(chain: &[i64], point: &[i64]) -> Result<PointRow, u8> {
+    numbers::forward(2021, chain, point)
+}
+
+fn inverse(chain: &[i64], point: &[i64]) -> Result<PointRow, u8> {
+    numbers::inverse(2021, chain, point)
+}
 
 /// Carried through by every conversion.
 const ORDER: i64 = 1;
@@ -181,4 +190,41 @@ fn left_the_area_after_a_step() {
     let point = [1, ORDER, 6, 2_000_000, -200_000_000_000, 600_000_000_000, 0];
     assert_eq!(forward(&[out.clone(), home.clone()].concat(), &point), Err(11));
     assert_eq!(forward(&[home, out].concat(), &point), Ok(point));
+}
+
+/// Request A10: 2009 has datums 1 to 5 and 7 and T and B steps; 25 comes just after 3, and the mark before all.
+#[test]
+fn jobs_under_the_2009_circular() {
+    let at = |datum: i64| [1, ORDER, datum, 2_000_000, -200_000_000_000, 600_000_000_000, 5];
+    let old = |chain: &[i64], point: &[i64]| numbers::forward(2009, chain, point).err().unwrap_or(0);
+    let good = step('B', 'C', [3, 2_000_000, 7, 2_000_000], &[1, 2, 3, 4, 5, 6, 7]);
+    assert_eq!(numbers::forward(2009, &good, &at(3)), forward(&good, &at(3)));
+    assert_eq!(numbers::inverse(2009, &good, &at(7)), inverse(&good, &at(7)));
+    for datum in 3..=10 {
+        let refused = if [3, 4, 5, 7].contains(&datum) { 0 } else { 25 };
+        assert_eq!(old(&[], &at(datum)), refused, "a point of an empty chain");
+        assert_eq!(old(&step('T', ' ', [datum, 2_000_000, 3, 2_000_000], &[]), &at(datum)), refused);
+        let chain = step('T', ' ', [3, 2_000_000, datum, 2_000_000], &[]);
+        assert_eq!(old(&chain, &at(3)), refused);
+        assert_eq!(numbers::inverse(2009, &chain, &at(datum)).err().unwrap_or(0), refused);
+    }
+    assert_eq!(old(&[], &[1, ORDER, 1, 0, -200_000_000_000, 600_000_000_000, 5]), 0);
+    assert_eq!(old(&step('V', ' ', [3, 2_000_000, 3, 2_010_000], &[]), &at(3)), 25);
+    assert_eq!(old(&step('F', ' ', [5, 2_000_000, 10, 2_000_000], &[]), &at(5)), 25);
+    // 2, 3, 25, 4, 5 in a step; 2, 3, 25, 9, 10 in a point.
+    assert_eq!(old(&step('V', ' ', [3, 2_000_000, 4, 2_000_000], &[]), &at(3)), 25);
+    assert_eq!(old(&step('T', ' ', [3, 0, 6, 2_000_000], &[]), &at(3)), 3);
+    assert_eq!(old(&step('X', ' ', [3, 0, 6, 2_000_000], &[]), &at(3)), 2);
+    let apart = step('T', ' ', [6, 2_000_000, 3, 2_000_000], &[]);
+    assert_eq!(old(&[good.clone(), apart].concat(), &at(3)), 25);
+    assert_eq!(old(&good, &at(6)), 25);
+    assert_eq!(old(&good, &[1, ORDER, 6, 2_000_000, 0, 0, 0]), 25);
+    assert_eq!(old(&good, &[1, ORDER, 6, 0, 0, 0, 0]), 3);
+    assert_eq!(old(&good, &at(4)), 9);
+    // The year before the ninth step and before every step.
+    for year in [0, 2008, 2010, 2020, -2009, i64::MIN, i64::MAX] {
+        assert_eq!(numbers::forward(year, &good.repeat(9), &at(3)), Err(2));
+        assert_eq!(numbers::inverse(year, &[], &at(3)), Err(2));
+    }
+    assert_eq!(old(&good.repeat(9), &at(3)), 6);
 }

@@ -23,7 +23,8 @@ fn chain(steps: &[(char, [i64; 7])]) -> Vec<i64> {
 #[test]
 fn two_marks_a_unit_apart() {
     let shrink = chain(&[('P', [0, 0, 0, 0, 0, 0, -2_000_000])]);
-    let along = |x: i64| forward(&shrink, &point([x, 600_000_000_000, 50_000_000_000])).expect("accepted")[4];
+    let along =
+        |x: i64| forward(2021, &shrink, &point([x, 600_000_000_000, 50_000_000_000])).expect("accepted")[4];
     assert_eq!(along(-199_999_975_000), -199_995_975_000);
     assert_eq!(along(-199_999_974_999), -199_995_975_000);
     assert_eq!(along(-199_999_974_998), -199_995_974_999);
@@ -41,7 +42,7 @@ fn eight_apart_along() {
         ('C', [67429018, -99992277, 50770419, 454559, 8714, 145030, -1605735]),
         ('P', [8, -15, 20, -354519, -923, -175325, -1602412]),
     ]);
-    let along = |y: i64| forward(&steps, &point([-113975477597, y, 43095549867])).expect("accepted");
+    let along = |y: i64| forward(2021, &steps, &point([-113975477597, y, 43095549867])).expect("accepted");
     assert_eq!(along(633263270046), along(633263270054));
     assert_ne!(along(633263270046), along(633263270055));
     assert_ne!(along(633263270045), along(633263270054));
@@ -59,7 +60,7 @@ fn eight_apart_back() {
         ('P', [-100000000, 15318433, -100000000, 194331, 618751, 567193, 1421216]),
         ('C', [80788112, -3143, -66573976, 78588, -998376, -345966, 1970608]),
     ]);
-    let back = |z: i64| inverse(&steps, &point([-164670581462, 595299341144, z])).expect("accepted");
+    let back = |z: i64| inverse(2021, &steps, &point([-164670581462, 595299341144, z])).expect("accepted");
     assert_eq!(back(73119057926), back(73119057934));
     assert_ne!(back(73119057926), back(73119057935));
     assert_ne!(back(73119057925), back(73119057934));

@@ -176,6 +176,43 @@ fn the_order_of_control() {
     assert_eq!(later(&line(1, 5), &line(1, 0)), Err(Refused { number: 2, line: 1, place: 0 }));
 }
 
+/// Request A10: E, tab, year on line 1 alone.
+#[test]
+fn the_edition_of_a_sheet() {
+    const OLD: &str = "S|T|3|2000000|4|2000000|1|2|3\n";
+    let a3 = A1.replace("|6|2000000|", "|3|2000000|");
+    let a4 = "P|A1|1|1|4|2000000|-113105165409|623631179952|71174811143\n";
+    for year in ["2009", "2021"] {
+        sheet(&format!("E|{year}\n{OLD}{a3}"), a4);
+    }
+    sheet(&format!("E|2021\n{A1}"), A1);
+    sheet(&format!("E|2009\n{A1}"), "R|2|25|0\n");
+    // S line 2, 3, 25, 4, 8, 7; P line 2, 3, 25, 8, 9.
+    sheet("E|2009\nS|V|3|2000000|4|2000000|1|1|1\nS|V|3|2000000|3|2000000|1|1|1\n", "R|2|25|0\nR|3|25|0\n");
+    sheet("E|2009\nS|T|6|0|4|2000000|1|1|1\nS|F|5|2000000|10|2000000\n", "R|2|3|0\nR|3|25|0\n");
+    sheet(&format!("E|2009\n{OLD}{STEP}{A1}{a3}"), "R|3|25|0\nR|4|25|0\nR|5|8|0\n");
+    // Elsewhere 7, then the year 2; a refused line beginning with E counts for 8 and leaves 2021.
+    sheet(&format!("E|2010\n{A1}{STEP}"), "R|1|2|0\nR|2|8|0\nR|3|8|0\n");
+    sheet(&format!("\nE|2009\n{A1}"), "R|1|19|0\nR|2|7|0\nR|3|8|0\n");
+    sheet(&format!("{A1}E|2010\n{A1}"), &format!("{A1}R|2|7|0\nR|3|8|0\n"));
+    sheet(&format!("E|2009\nE|2009\n{a3}"), "R|2|7|0\nR|3|8|0\n");
+    sheet(&format!("E|2009\nE|2021\n{A1}"), "R|2|7|0\nR|3|25|0\n");
+    sheet(&format!("{STEP}E|02009\n{A1}"), "R|2|22|2\nR|3|8|0\n");
+    for (line, refused) in [
+        ("E|02009\n", "22|2"),
+        ("E\n", "20|1"),
+        ("E|2009|\n", "20|7"),
+        ("Ex|2009\n", "19|0"),
+        ("EE\n", "19|0"),
+    ] {
+        sheet(&format!("{line}{A1}"), &format!("R|1|{refused}\nR|2|8|0\n"));
+    }
+    let long = format!("E|{}\n", "2".repeat(198));
+    sheet(&format!("{long}{A1}"), "R|1|18|200\nR|2|8|0\n");
+    sheet("E|2009", "R|1|18|6\n");
+    plan("E|2009\n", "R|1|19|0\n");
+}
+
 /// 18, 19, 20, 21, 22 over the whole line, each with its place.
 #[test]
 fn what_is_wrong_with_a_line() {
@@ -192,7 +229,7 @@ fn what_is_wrong_with_a_line() {
     first(&format!("{}\n", "X".repeat(200)), 18, 200);
     first(&format!("{}\n", "X".repeat(201)), 18, 200);
     // 19: a letter, a kind, a convention, before a count, an id or a number on their left.
-    for letter in ["", "p", "PP", "SP", "E", "O", "G", " P"] {
+    for letter in ["", "p", "PP", "SP", "EP", "O", "G", " P"] {
         first(&A1.replace("P|", &format!("{letter}|")), 19, 0);
     }
     for kind in ["", "X", "TT", "t", "P"] {

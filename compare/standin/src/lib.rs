@@ -30,6 +30,7 @@ macro_rules! conversion {
         /// Each pointer and length are a live slice.
         #[no_mangle]
         pub unsafe extern "C" fn $name(
+            profile: i64,
             chain: *const i64,
             chain_len: usize,
             point: *const i64,
@@ -39,7 +40,7 @@ macro_rules! conversion {
         ) -> i64 {
             let chain = slice::from_raw_parts(chain, chain_len);
             let point = slice::from_raw_parts(point, point_len);
-            give($call(chain, point), out, out_len)
+            give($call(profile, chain, point), out, out_len)
         }
     };
 }

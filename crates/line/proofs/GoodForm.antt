@@ -50,7 +50,8 @@ good-clean n at h [] fs e = refl
 good-clean n at h (c ∷ cs) [] e = refl
 good-clean n at h (c ∷ cs) (f ∷ fs) e = go (goodField c f) refl (good-clean n (at + length f + 1) h cs fs) e
   where
-    go : (t : Bool) → eqb (fieldFault c f) 0 ≡ t → (allGood cs fs ≡ true → offending n (at + length f + 1) cs fs ≡ none) → pick t (allGood cs fs) false ≡ true → pick (eqb (fieldFault c f) n) (some at) (offending n (at + length f + 1) cs fs) ≡ none
+    go : (t : Bool) → eqb (fieldFault c f) 0 ≡ t → (allGood cs fs ≡ true → offending n (at + length f + 1) cs fs ≡ none)
+        → pick t (allGood cs fs) false ≡ true → pick (eqb (fieldFault c f) n) (some at) (offending n (at + length f + 1) cs fs) ≡ none
     go true q on e = rw (ne-eqb (fieldFault c f) n (λ z. omega (arith, eqb-true (fieldFault c f) 0 q))) (on e)
     go false q on e = absurd (never (sym e))
 
@@ -65,14 +66,22 @@ module _ (P : ℕ → Type 0) (good : P 0) where
   by-class l i p identifier f = by-reading refusal.id (nameOf f) i
   by-class l i p number f = by-reading refusal.plain (numberOf f) p
 
-clean-good : (at : ℕ) (cs : List Class) (fs : List (List ℕ)) → length fs ≡ length cs → offending refusal.letter at cs fs ≡ none → offending refusal.id at cs fs ≡ none → offending refusal.plain at cs fs ≡ none → allGood cs fs ≡ true
+-- a search for m passes over a first field with fault n, and finds nothing after it
+abbrev Missed : ℕ → List ℕ → List Class → List (List ℕ) → ℕ → ℕ → Type 0
+Missed at f cs fs m n = pick (eqb n m) (some at) (offending m (at + length f + 1) cs fs) ≡ none
+
+clean-good : (at : ℕ) (cs : List Class) (fs : List (List ℕ)) → length fs ≡ length cs → offending refusal.letter at cs fs ≡ none
+    → offending refusal.id at cs fs ≡ none → offending refusal.plain at cs fs ≡ none → allGood cs fs ≡ true
 unfolding offending
 clean-good at [] [] e l i p = refl
 clean-good at [] (f ∷ fs) e l i p = absurd (omega arith)
 clean-good at (c ∷ cs) [] e l i p = absurd (omega arith)
 clean-good at (c ∷ cs) (f ∷ fs) e l i p =
-    by-class (λ (n : ℕ). pick (eqb n 19) (some at) (offending refusal.letter (at + length f + 1) cs fs) ≡ none → pick (eqb n 21) (some at) (offending refusal.id (at + length f + 1) cs fs) ≡ none → pick (eqb n 22) (some at) (offending refusal.plain (at + length f + 1) cs fs) ≡ none → pick (eqb n 0) (allGood cs fs) false ≡ true)
-    (λ l i p. clean-good (at + length f + 1) cs fs (omega arith) l i p) (λ l i p. absurd (nothing (sym l))) (λ l i p. absurd (nothing (sym i))) (λ l i p. absurd (nothing (sym p))) c f l i p
+    by-class
+    (λ (n : ℕ).
+    Missed at f cs fs refusal.letter n → Missed at f cs fs refusal.id n → Missed at f cs fs refusal.plain n → pick (eqb n 0) (allGood cs fs) false ≡ true)
+    (λ l i p. clean-good (at + length f + 1) cs fs (omega arith) l i p)
+    (λ l i p. absurd (nothing (sym l))) (λ l i p. absurd (nothing (sym i))) (λ l i p. absurd (nothing (sym p))) c f l i p
 
 -- ---- nothing is wrong exactly where every field is good, and there are as many as awaited
 next-zero : (n : ℕ) (o : Option ℕ) (next : Fault) → 0 < n → orNext n o next .number ≡ 0 → (o ≡ none) × (next .number ≡ 0)
@@ -92,7 +101,9 @@ fields-good cs end fs = go (allGood cs fs) refl
   where
     go : (t : Bool) → allGood cs fs ≡ t → eqb (fieldsFault cs end fs .number) 0 ≡ t
     go true e =
-        rw (good-clean refusal.letter 0 (omega arith) cs fs e, eq-eqb (length fs) (length cs) (good-count cs fs e), good-clean refusal.id 0 (omega arith) cs fs e, good-clean refusal.plain 0 (omega arith) cs fs e)
+        let clean : (n : ℕ) → 0 < n → offending n 0 cs fs ≡ none = λ n h. good-clean n 0 h cs fs e in
+        let count = eq-eqb (length fs) (length cs) (good-count cs fs e) in
+        rw (clean refusal.letter (omega arith), count, clean refusal.id (omega arith), clean refusal.plain (omega arith))
     go false e =
         ne-eqb (fieldsFault cs end fs .number) 0 λ z.
         let l = next-zero refusal.letter (offending refusal.letter 0 cs fs) _ (omega arith) z in
@@ -145,7 +156,8 @@ filled-good (field read k) [] fs h = absurd h
 filled-good (field read k) (c ∷ cs) [] h = refl
 filled-good (field read k) (c ∷ cs) (f ∷ fs) h = go (read f) (h .0) (λ b e. filled-good (k b) cs fs (h .1 b e))
   where
-    go : (o : Option _) → isSome o ≡ goodField c f → ((b : _) → o ≡ some b → isSome (filled (k b) fs) ≡ allGood cs fs) → isSome (onward (taken o fs) (λ b rest. filled (k b) rest)) ≡ pick (goodField c f) (allGood cs fs) false
+    go : (o : Option _) → isSome o ≡ goodField c f → ((b : _) → o ≡ some b → isSome (filled (k b) fs) ≡ allGood cs fs)
+        → isSome (onward (taken o fs) (λ b rest. filled (k b) rest)) ≡ pick (goodField c f) (allGood cs fs) false
     go none e on = rw (← e)
     go (some b) e on = rw (← e) (on b refl)
 
@@ -155,13 +167,13 @@ read-good n none h = sym (ne-eqb n 0 (λ e. omega arith))
 read-good n (some a) h = refl
 
 a-letter : (ls : List ℕ) (f : List ℕ) → isSome (letterOf ls f) ≡ goodField (letters ls) f
-a-letter ls f = read-good 19 (letterOf ls f) (omega arith)
+a-letter ls f = read-good refusal.letter (letterOf ls f) (omega arith)
 
 an-id : (f : List ℕ) → isSome (nameOf f) ≡ goodField identifier f
-an-id f = read-good 21 (nameOf f) (omega arith)
+an-id f = read-good refusal.id (nameOf f) (omega arith)
 
 a-number : (f : List ℕ) → isSome (numberOf f) ≡ goodField number f
-a-number f = read-good 22 (numberOf f) (omega arith)
+a-number f = read-good refusal.plain (numberOf f) (omega arith)
 
 point-like : (fs : List (List ℕ)) → Like pointForm (pointShape fs)
 unfolding Like pointForm
@@ -175,11 +187,13 @@ geodetic-like : (fs : List (List ℕ)) → Like geodeticForm (geodeticShape fs)
 unfolding Like geodeticForm
 geodetic-like fs = (a-letter _, λ _. (an-id, λ _. (a-number, λ _. (a-number, λ _. tt))))
 
-kind-like : (t v b : Bool) → Like (either t (threeForm shift) (either v (threeForm velocity) (either b bursaWolfForm frameForm))) (pick t (numbers 3) (pick v (numbers 3) (pick b (letters (letterP ∷ letterC ∷ []) ∷ numbers 7) [])))
+kind-like : (t v b : Bool)
+    → Like (either t (threeForm shift) (either v (threeForm velocity) (either b bursaWolfForm frameForm))) (pick t (numbers 3) (pick v (numbers 3) (pick b (letters (letterP ∷ letterC ∷ []) ∷ numbers 7) [])))
 unfolding Like threeForm bursaWolfForm frameForm
 kind-like true v b = (a-number, λ _. (a-number, λ _. (a-number, λ _. tt)))
 kind-like false true b = (a-number, λ _. (a-number, λ _. (a-number, λ _. tt)))
-kind-like false false true = (a-letter _, λ _. (a-number, λ _. (a-number, λ _. (a-number, λ _. (a-number, λ _. (a-number, λ _. (a-number, λ _. (a-number, λ _. tt))))))))
+kind-like false false true =
+    (a-letter _, λ _. (a-number, λ _. (a-number, λ _. (a-number, λ _. (a-number, λ _. (a-number, λ _. (a-number, λ _. (a-number, λ _. tt))))))))
 kind-like false false false = tt
 
 one-of : (ls : List ℕ) (o : Option ℕ) (b : ℕ) → oneOf ls o ≡ some b → o ≡ some b
@@ -200,11 +214,24 @@ afterKind k =
     field numberOf λ epoch′.
     into (stepOf (record { datum = datum; epoch = epoch }) (record { datum = datum′; epoch = epoch′ })) (kindForm k)
 
-after-like : (g : List ℕ) (k : ℕ) → letterOf (letterT ∷ letterV ∷ letterB ∷ letterF ∷ []) g ≡ some k → Like (afterKind k) (numbers 4 ++ kindShape (byteOf (single g)))
+after-like : (g : List ℕ) (k : ℕ) → letterOf (letterT ∷ letterV ∷ letterB ∷ letterF ∷ []) g ≡ some k
+    → Like (afterKind k) (numbers 4 ++ kindShape (byteOf (single g)))
 unfolding Like
 after-like g k e =
-    rw (one-of (letterT ∷ letterV ∷ letterB ∷ letterF ∷ []) (single g) k e)
-    (a-number, λ _. (a-number, λ _. (a-number, λ _. (a-number, λ _. like-into _ (kindForm k) (kindShape k) (kind-like (eqb k letterT) (eqb k letterV) (eqb k letterB))))))
+    rw (one-of (letterT ∷ letterV ∷ letterB ∷ letterF ∷ []) (single g) k e) (
+      a-number,
+      λ _. (
+        a-number,
+        λ _. (
+          a-number,
+          λ _. (
+            a-number,
+            λ _.
+                like-into _ (kindForm k) (kindShape k) (kind-like (eqb k letterT) (eqb k letterV) (eqb k letterB)),
+          ),
+        ),
+      ),
+    )
 
 step-like : (fs : List (List ℕ)) → LikeOn stepForm (stepShape fs) fs
 unfolding LikeOn stepForm
@@ -223,23 +250,26 @@ exactly none f e = let h = eqb-false (f .number) 0 (sym e) in (λ _. positive (f
     positive n h = omega arith
 exactly (some a) f e = let h = eqb-true (f .number) 0 (sym e) in (λ z. absurd (nothing (sym z)), λ l. absurd (omega arith))
 
-module _ {A : Type 0} (form : Form A) (shape : Shape) (like : (fs : List (List ℕ)) → LikeOn form (shape fs) fs) where
-  good-said : (line : List ℕ) → isSome (said form line) ≡ eqb (faultOf shape line .number) 0
+module _ {A : Type 0} (form : Form A) (shape : Shape) (like : (fs : List (List ℕ)) → LikeOn form (shape fs) fs) (line : List ℕ) where
+  good-said : isSome (said form line) ≡ eqb (faultOf shape line .number) 0
   unfolding faultOf
-  good-said line = go (body line)
+  good-said = go (body line)
     where
       go : (o : Option (List ℕ)) → isSome (inBody form o) ≡ eqb (bodyFault shape (endOf line) o .number) 0
       go none = refl
       go (some s) = filled-good form (shape (fields s)) (fields s) (like (fields s)) ∙ sym (fields-good (shape (fields s)) (endOf line) (fields s))
 
+  law : Exactly (said form line) (faultOf shape line)
+  law = exactly (said form line) (faultOf shape line) good-said
+
 pub point-exactly : (line : List ℕ) → Exactly (said pointForm line) (faultOf pointShape line)
-point-exactly line = exactly (said pointForm line) (faultOf pointShape line) (good-said pointForm pointShape (λ fs. like-on pointForm (pointShape fs) fs (point-like fs)) line)
+point-exactly = law pointForm pointShape (λ fs. like-on pointForm (pointShape fs) fs (point-like fs))
 
 pub step-exactly : (line : List ℕ) → Exactly (said stepForm line) (faultOf stepShape line)
-step-exactly line = exactly (said stepForm line) (faultOf stepShape line) (good-said stepForm stepShape step-like line)
+step-exactly = law stepForm stepShape step-like
 
 pub origin-exactly : (line : List ℕ) → Exactly (said originForm line) (faultOf originShape line)
-origin-exactly line = exactly (said originForm line) (faultOf originShape line) (good-said originForm originShape (λ fs. like-on originForm (originShape fs) fs (origin-like fs)) line)
+origin-exactly = law originForm originShape (λ fs. like-on originForm (originShape fs) fs (origin-like fs))
 
 pub geodetic-exactly : (line : List ℕ) → Exactly (said geodeticForm line) (faultOf geodeticShape line)
-geodetic-exactly line = exactly (said geodeticForm line) (faultOf geodeticShape line) (good-said geodeticForm geodeticShape (λ fs. like-on geodeticForm (geodeticShape fs) fs (geodetic-like fs)) line)
+geodetic-exactly = law geodeticForm geodeticShape (λ fs. like-on geodeticForm (geodeticShape fs) fs (geodetic-like fs))

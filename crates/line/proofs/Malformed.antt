@@ -39,7 +39,8 @@ pub body-length : (line s : List ℕ) → body line ≡ some s → (length line 
 unfolding body
 body-length line s e = go (ltb 0 (length line)) refl (leb (length line) longestLine) refl (eqb (getD line (length line - 1) 0) lineFeed) e
   where
-    go : (a : Bool) → ltb 0 (length line) ≡ a → (b : Bool) → leb (length line) longestLine ≡ b → (c : Bool) → pick a (pick b (pick c (some (take (length line - 1) line)) none) none) none ≡ some s → (length line ≡ length s + 1) × (length line ≤ 200)
+    go : (a : Bool) → ltb 0 (length line) ≡ a → (b : Bool) → leb (length line) longestLine ≡ b → (c : Bool)
+        → pick a (pick b (pick c (some (take (length line - 1) line)) none) none) none ≡ some s → (length line ≡ length s + 1) × (length line ≤ 200)
     go true q true l true e =
         let z : take (length line - 1) line ≡ s = cc in
         (omega (arith, ltb-true 0 (length line) q, ap length z, length-take-le (length line - 1) line (omega arith)), leb-true (length line) longestLine l)
@@ -54,7 +55,8 @@ offending-inside n at [] fs p e = absurd (nothing e)
 offending-inside n at (c ∷ cs) [] p e = absurd (nothing e)
 offending-inside n at (c ∷ cs) (f ∷ fs) p e = go (eqb (fieldFault c f) n) (offending-inside n (at + length f + 1) cs fs p) e
   where
-    go : (t : Bool) → (offending n (at + length f + 1) cs fs ≡ some p → p + 1 ≤ at + length f + 1 + spread fs) → pick t (some at) (offending n (at + length f + 1) cs fs) ≡ some p → p + 1 ≤ at + (length f + 1 + spread fs)
+    go : (t : Bool) → (offending n (at + length f + 1) cs fs ≡ some p → p + 1 ≤ at + length f + 1 + spread fs)
+        → pick t (some at) (offending n (at + length f + 1) cs fs) ≡ some p → p + 1 ≤ at + (length f + 1 + spread fs)
     go true on e = let z : at ≡ p = cc in omega arith
     go false on e = omega (arith, on e)
 
@@ -79,10 +81,13 @@ module _ (P : Fault → Type 0) where
   next-has n none next h k = k
   next-has n (some p) next h k = h p refl
 
-  fields-have : (cs : List Class) (end : ℕ) (s : List ℕ) → P (fault 0 0) → P (fault refusal.count end) → ((n p : ℕ) → n < 100 → p ≤ length s → P (fault n p)) → P (fieldsFault cs end (fields s))
+  fields-have : (cs : List Class) (end : ℕ) (s : List ℕ) → P (fault 0 0) → P (fault refusal.count end)
+      → ((n p : ℕ) → n < 100 → p ≤ length s → P (fault n p)) → P (fieldsFault cs end (fields s))
   unfolding fieldsFault
   fields-have cs end s z c h =
-      search-has refusal.letter _ (omega arith) (next-has refusal.count (miscounted cs (fields s) end) _ (counted (eqb (length (fields s)) (length cs))) (search-has refusal.id _ (omega arith) (search-has refusal.plain _ (omega arith) z)))
+      search-has refusal.letter _ (omega arith)
+      (next-has refusal.count (miscounted cs (fields s) end) _ (counted (eqb (length (fields s)) (length cs)))
+      (search-has refusal.id _ (omega arith) (search-has refusal.plain _ (omega arith) z)))
     where
       search-has : (n : ℕ) (next : Fault) → n < 100 → P next → P (orNext n (offending n 0 cs (fields s)) next)
       search-has n next l k = next-has n (offending n 0 cs (fields s)) next (λ p e. h n p l (place-inside n cs s p e)) k
@@ -96,11 +101,11 @@ module _ (P : Fault → Type 0) where
   fault-has shape line h = go (body line) refl
     where
       go : (o : Option (List ℕ)) → body line ≡ o → P (bodyFault shape (endOf line) o)
-      go none q = h 18 (endOf line) (omega arith) (end-inside line) (end-low line)
+      go none q = h refusal.length (endOf line) (omega arith) (end-inside line) (end-low line)
       go (some s) q =
           let b = body-length line s q in
           fields-have (shape (fields s)) (endOf line) s (h 0 0 (omega arith) (omega arith) (omega arith))
-          (h 20 (endOf line) (omega arith) (end-inside line) (end-low line)) (λ n p k l. h n p k (omega arith) (omega arith))
+          (h refusal.count (endOf line) (omega arith) (end-inside line) (end-low line)) (λ n p k l. h n p k (omega arith) (omega arith))
 
 module _ (shape : Shape) (line : List ℕ) where
   pub fault-short : faultOf shape line .number < 100

@@ -8,7 +8,7 @@ use lib.Dec.{eqb, leb}
 use lib.ListN.{length, getD, take, drop, getElem?, length-append}
 use native.Mathlib.Numerals.{add-one}
 use native.Mathlib.Omega.{arith}
-use borrow.Author.Tests.{le-leb, lt-leb, leb-true, leb-false, eq-eqb, ne-eqb}
+use borrow.Author.Tests.{le-leb, lt-leb, eq-eqb, ne-eqb}
 use Rattle.refusal.specs.Numbers as refusal
 use Rattle.refusal.specs.Order.{pick}
 use Rattle.line.specs.Bytes.{lineFeed, letterT, letterV, letterB, letterF}
@@ -18,7 +18,6 @@ use Rattle.line.specs.Reading.{from, fronts, Tells, Got, Framed, itself}
 use Rattle.line.specs.SecondLook.{stepRest, classesOf, shapeOf, firstFault, Passed, earlier, Looked}
 use Rattle.line.proofs.Walk as W
 use Rattle.line.proofs.Names.{fronts-snoc}
-use Rattle.line.proofs.Malformed.{nothing}
 
 -- ---- the classes: so many numbers
 pub numbers-at : (n i : ℕ) → i < n → getElem? (numbers n) i ≡ some number
@@ -95,7 +94,8 @@ module _ (s : List ℕ) (at : ℕ) where
 
 -- ---- the kind, out of the second field
 module _ {s : List ℕ} {second b next : ℕ} (p : Passed s 0 second) (g : Got s itself single second b next) where
-  by-second : (r : ℕ) → ((o : Option ℕ) (fs : List (List ℕ)) → Tells s itself (taken o fs) b next → r ≡ byteOf o) → (length s + 1 < next → r ≡ 0) → r ≡ kindOf (fields s)
+  by-second : (r : ℕ) → ((o : Option ℕ) (fs : List (List ℕ)) → Tells s itself (taken o fs) b next → r ≡ byteOf o) → (length s + 1 < next → r ≡ 0)
+      → r ≡ kindOf (fields s)
   by-second r on off = rw (← W.from-start s, p .there) (go (from s second) (g .tells))
     where
       go : (fs : List (List ℕ)) → Tells s itself (head single fs) b next → r ≡ kindOf (p .bytes ∷ fs)
@@ -150,7 +150,8 @@ module _ (n : ℕ) (positive : 0 < n) (s : List ℕ) (cs : List Class) (at i : �
       let e : offending n at (drop i cs) (from s at) ≡ pick (eqb wrong n) (some at) (offending n next (drop (i + 1) cs) (from s next)) =
       rw (w, p .there, add-one i)
       (offending-on n at positive cs i (p .bytes) (from s next)
-      ∙ ap (λ (k : ℕ). pick (eqb (firstFault (getElem? cs i) (p .bytes ∷ from s next)) n) (some at) (offending n k (drop (suc i) cs) (from s next))) (sym (p .place))) in
+      ∙ ap (λ (k : ℕ). pick (eqb (firstFault (getElem? cs i) (p .bytes ∷ from s next)) n) (some at) (offending n k (drop (suc i) cs) (from s next)))
+      (sym (p .place))) in
       rw (e, q) (go (leb before (length s)) refl (eqb wrong n))
     where
       rest : Option ℕ
@@ -200,7 +201,8 @@ looking-on {s} {cs} {letter} {id} {plain} {count} {at} k h p w l i n =
       few = omega (arith, k .few, p .place);
     }
 
-pub looked : {s : List ℕ} {cs : List Class} {letter id plain count at : ℕ} → Looking s cs letter id plain count at → length s < at → Looked s cs letter id plain count
+pub looked : {s : List ℕ} {cs : List Class} {letter id plain count at : ℕ} → Looking s cs letter id plain count at → length s < at
+    → Looked s cs letter id plain count
 looked {s} {cs} {letter} {id} {plain} {count} {at} k h =
     record {
       letter-at = closed refusal.letter letter (k .letter-at);
@@ -249,7 +251,8 @@ module _ {s : List ℕ} {cs : List Class} {letter id plain count : ℕ} (k : Loo
         is-none p = rw (unseen s letter (k .letter-at) l, as-many, unseen s id (k .id-at) i, unseen s plain (k .plain-at) p)
 
 -- the shape, by the kind that was read
-pub by-kind : (first end : ℕ) {kind : ℕ} (fs : List (List ℕ)) → kind ≡ kindOf fs → fieldsFault (classesOf first kind) end fs ≡ fieldsFault (shapeOf first fs) end fs
+pub by-kind : (first end : ℕ) {kind : ℕ} (fs : List (List ℕ)) → kind ≡ kindOf fs
+    → fieldsFault (classesOf first kind) end fs ≡ fieldsFault (shapeOf first fs) end fs
 by-kind first end fs e = ap (λ (k : ℕ). fieldsFault (classesOf first k) end fs) e
 
 -- ---- the line's frame

@@ -1,5 +1,5 @@
--- Worked cases of what is wrong with a line: each of the five numbers, and each two that stand side by side in the order, on one line. In a text a bar stands for
--- a tab, as in the papers.
+-- Worked cases of what is wrong with a line: each of the five numbers, and each two that stand side by side in the order, on one line. In a text a bar
+-- stands for a tab, as in the papers.
 use Prim.Native.Nat.{ℕ}
 use Prim.Native.Char.{code}
 use Prim.Native.String as string

@@ -16,7 +16,6 @@ use crate::step_line::kind_letter;
 ghost use mathlib.Core.Path.{_≡_};
 ghost use Prim.Native.Nat.{_+_, _≤_};
 ghost use lib.Dec.{eqb, leb};
-ghost use lib.ListN.{length};
 ghost use Rattle.refusal.specs.Order.{pick};
 ghost use Rattle.line.specs.Fields.{fields};
 ghost use Rattle.line.specs.Reading.{from};

@@ -158,15 +158,15 @@ fn conversions(report: &mut Report, rng: &mut Rng, chains: &Chains) {
         report,
         "forward, eight B steps",
         &start,
-        |point| _ = black_box(product::forward(&chain, point, &mut out)),
-        |point| _ = black_box(baseline::numbers::forward(&chain, point)),
+        |point| _ = black_box(product::forward(2021, &chain, point, &mut out)),
+        |point| _ = black_box(baseline::numbers::forward(2021, &chain, point)),
     );
     calls(
         report,
         "inverse, eight B steps",
         &end,
-        |point| _ = black_box(product::inverse(&chain, point, &mut out)),
-        |point| _ = black_box(baseline::numbers::inverse(&chain, point)),
+        |point| _ = black_box(product::inverse(2021, &chain, point, &mut out)),
+        |point| _ = black_box(baseline::numbers::inverse(2021, &chain, point)),
     );
 }
 

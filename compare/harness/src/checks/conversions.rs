@@ -17,19 +17,19 @@ pub fn run(c: &mut Comparison, count: u64) -> Outcome {
 fn one(c: &mut Comparison, back: bool) -> Outcome {
     let chain = chain(c);
     let point = point(c, &chain, back);
-    let rows = chain.numbers();
+    let (profile, rows) = (chain.profile, chain.numbers());
     let function = if back { Function::Inverse } else { Function::Forward };
     let ask = |s: &dyn crate::subject::Subject| {
         if back {
-            s.inverse(&rows, &point)
+            s.inverse(profile, &rows, &point)
         } else {
-            s.forward(&rows, &point)
+            s.forward(profile, &rows, &point)
         }
     };
     let expected = ask(&c.reference);
     c.tally.count(function, &expected);
     let what = if back { "inverse" } else { "forward" };
-    c.hold(what, || format!("chain {rows:?} point {point:?}"), &expected, ask)
+    c.hold(what, || format!("profile {profile} chain {rows:?} point {point:?}"), &expected, ask)
 }
 
 /// 0 to 9 steps, one chain in five damaged.
@@ -49,7 +49,7 @@ fn chain(c: &mut Comparison) -> Chain {
 fn point(c: &mut Comparison, chain: &Chain, back: bool) -> PointRow {
     let rng = &mut c.rng;
     let steps = steps(&chain.numbers()).expect("whole rows");
-    let walkable = paper::chain::chain_faults(&steps).is_ok();
+    let walkable = paper::chain::chain_faults(chain.profile, &steps).is_ok();
     let position = match rng.below(6) {
         0 | 1 if walkable && back => points::led_back(rng, chain, &steps),
         0 | 1 if walkable => points::led_along(rng, chain, &steps),

@@ -20,17 +20,16 @@ pub fn run(c: &mut Comparison, count: u64) -> Result<Trips, Mismatch> {
     while trips.done < count {
         let back_first = trips.done % 2 == 1;
         let (chain, point) = input(c, back_first);
-        let rows = chain.numbers();
-        let allowed = chain.count("BF");
+        let allowed = chain.count("BF") as usize;
         let mut off = None;
         for subject in c.all() {
-            off = trip(subject, &rows, &point, back_first, allowed)?;
+            off = trip(subject, &chain, &point, back_first)?;
         }
         match off {
             None => trips.refused += 1,
             Some(off) => {
                 trips.done += 1;
-                let largest = &mut trips.largest[allowed as usize];
+                let largest = &mut trips.largest[allowed];
                 *largest = off.max(*largest);
             }
         }
@@ -55,15 +54,15 @@ fn input(c: &mut Comparison, back_first: bool) -> (Chain, PointRow) {
 /// How far the point came home from where it was, or nothing where a conversion was refused.
 fn trip(
     subject: &dyn Subject,
-    rows: &[i64],
+    chain: &Chain,
     point: &PointRow,
     back_first: bool,
-    allowed: i64,
 ) -> Result<Option<i64>, Mismatch> {
+    let (profile, rows, allowed) = (chain.profile, chain.numbers(), chain.count("BF"));
     let home = if back_first {
-        subject.inverse(rows, point).and_then(|away| subject.forward(rows, &away))
+        subject.inverse(profile, &rows, point).and_then(|away| subject.forward(profile, &rows, &away))
     } else {
-        subject.forward(rows, point).and_then(|away| subject.inverse(rows, &away))
+        subject.forward(profile, &rows, point).and_then(|away| subject.inverse(profile, &rows, &away))
     };
     let Ok(home) = home else { return Ok(None) };
     let off = (4..7).map(|i| (home[i] - point[i]).abs()).max().unwrap_or(0);
@@ -73,6 +72,6 @@ fn trip(
     let order = if back_first { "back first" } else { "along first" };
     let name = subject.name();
     Err(Mismatch(format!(
-        "round trip, {order}: chain {rows:?} point {point:?}\n  {name} came home to {home:?}, allowed {allowed}"
+        "round trip, {order}: profile {profile} chain {rows:?} point {point:?}\n  {name} came home to {home:?}, allowed {allowed}"
     )))
 }

@@ -43,18 +43,35 @@ pub struct Chains {
 }
 
 impl Chains {
-    /// A chain that nothing is wrong with, and the datum and epoch where it begins and ends.
+    /// A chain that nothing is wrong with, and the datum and epoch where it begins and ends. One in four is of 2009.
     pub fn good(&self, rng: &mut Rng, steps: usize) -> Chain {
-        let palette = rng.pick(&["TVBF", "TVBF", "TV", "B", "BF", "F", "T", "V"]);
+        let profile = if rng.once_in(4) { 2009 } else { 2021 };
+        self.good_of(rng, profile, steps)
+    }
+
+    pub fn good_of(&self, rng: &mut Rng, profile: i64, steps: usize) -> Chain {
+        let palettes: &[&str] = if profile == 2009 {
+            &["TB", "TB", "B", "T"]
+        } else {
+            &["TVBF", "TVBF", "TV", "B", "BF", "F", "T", "V"]
+        };
+        let palette = rng.pick(palettes);
         let begin = if palette.contains('F') && rng.below(4) != 0 {
             [rng.between(5, 9), numbers::epoch(rng)]
         } else {
-            numbers::realization(rng)
+            numbers::realization_of(rng, profile)
         };
-        let mut chain = Chain { rows: Vec::new(), begin, end: begin };
+        self.good_from(rng, profile, palette, begin, steps)
+    }
+
+    fn good_from(&self, rng: &mut Rng, profile: i64, palette: &str, begin: [i64; 2], steps: usize) -> Chain {
+        let mut chain = Chain { profile, rows: Vec::new(), begin, end: begin };
         for _ in 0..steps {
             let kind = possible(rng.pick(palette.as_bytes()), chain.end);
-            let row = self.row(rng, kind, chain.end);
+            let mut row = self.row(rng, kind, chain.end);
+            if profile == 2009 {
+                [row[4], row[5]] = numbers::realization_of(rng, profile);
+            }
             chain.end = [row[4], row[5]];
             chain.rows.push(row);
         }
@@ -118,6 +135,8 @@ fn possible(kind: u8, [datum, _]: [i64; 2]) -> u8 {
 
 #[derive(Clone, Debug)]
 pub struct Chain {
+    /// 2009 or 2021, where it is good.
+    pub profile: i64,
     pub rows: Vec<Row>,
     pub begin: [i64; 2],
     pub end: [i64; 2],
@@ -133,8 +152,14 @@ impl Chain {
         self.rows.iter().filter(counted).count() as i64
     }
 
-    /// One number or one rule of one step broken. An empty chain stays as it is.
+    /// One number or one rule of one step broken, or another year. An empty chain has the year alone.
     pub fn damage(&mut self, rng: &mut Rng) {
+        if rng.once_in(8) {
+            let years =
+                [2009, 2021, 2008, 2010, 2020, 2022, 0, -2009, 9, 2009 + (1 << 32), i64::MIN, i64::MAX];
+            self.profile = rng.pick(&years);
+            return;
+        }
         if self.rows.is_empty() {
             return;
         }

@@ -41,6 +41,10 @@ pub fn step(row: &Row) -> Vec<u8> {
     joined(&fields)
 }
 
+pub fn edition(year: i64) -> Vec<u8> {
+    format!("E\t{year}\n").into_bytes()
+}
+
 pub fn origin(numbers: &[i64; 5]) -> Vec<u8> {
     let mut fields = vec![b"O".to_vec()];
     fields.extend(texts(numbers));
@@ -80,7 +84,8 @@ const ODD_NUMBERS: &[&str] = &[
     "99999999999999999999999999999999999999999999999999",
 ];
 
-const PIECES: &[&str] = &["P", "S", "O", "G", "T", "V", "B", "F", "C", "R", "A1", "a", "\u{e9}", ""];
+const PIECES: &[&str] =
+    &["P", "S", "E", "O", "G", "T", "V", "B", "F", "C", "R", "A1", "a", "\u{e9}", "2009", "2021", ""];
 
 fn piece(rng: &mut Rng) -> Vec<u8> {
     match rng.below(6) {
@@ -135,7 +140,7 @@ pub fn several_faults(rng: &mut Rng, line: &[u8]) -> Vec<u8> {
 
 /// Fields put together at random behind one of the letters that begin a line.
 pub fn random(rng: &mut Rng) -> Vec<u8> {
-    let mut fields = vec![vec![rng.pick(b"PSOGPSOGRX")]];
+    let mut fields = vec![vec![rng.pick(b"PSEOGPSOGRX")]];
     for _ in 0..rng.below(15) {
         fields.push(piece(rng));
     }

@@ -65,5 +65,15 @@ pub fn epoch(rng: &mut Rng) -> i64 {
 /// A datum and an epoch that agree.
 pub fn realization(rng: &mut Rng) -> [i64; 2] {
     let datum = rng.between(DATUM.0, DATUM.1);
+    at(rng, datum)
+}
+
+/// The same, of a datum that the profile has.
+pub fn realization_of(rng: &mut Rng, profile: i64) -> [i64; 2] {
+    let datum = if profile == 2009 { rng.pick(&[1, 2, 3, 4, 5, 7]) } else { rng.between(DATUM.0, DATUM.1) };
+    at(rng, datum)
+}
+
+fn at(rng: &mut Rng, datum: i64) -> [i64; 2] {
     [datum, if datum <= 2 { 0 } else { epoch(rng) }]
 }

@@ -31,11 +31,23 @@ pub fn sheet(rng: &mut Rng, chains: &Chains) -> Vec<u8> {
 fn good(rng: &mut Rng, chains: &Chains) -> Vec<u8> {
     let length = rng.index(10);
     let chain = chains.good(rng, length);
-    let mut text: Vec<u8> = chain.rows.iter().flat_map(lines::step).collect();
+    let mut text = edition(rng, &chain);
+    text.extend(chain.rows.iter().flat_map(lines::step));
     for _ in 0..rng.below(20) {
         text.extend(point(rng, &chain));
     }
     text
+}
+
+/// A chain of 2009 says so on the first line, nearly always; one of 2021 now and then.
+fn edition(rng: &mut Rng, chain: &Chain) -> Vec<u8> {
+    let said = if chain.profile == 2009 { !rng.once_in(8) } else { rng.once_in(8) };
+    let year = if rng.once_in(16) { rng.pick(&[2009, 2021, 2010, 0, -2009]) } else { chain.profile };
+    if said {
+        lines::edition(year)
+    } else {
+        Vec::new()
+    }
 }
 
 fn point(rng: &mut Rng, chain: &Chain) -> Vec<u8> {
@@ -56,15 +68,19 @@ fn point(rng: &mut Rng, chain: &Chain) -> Vec<u8> {
 fn mixed(rng: &mut Rng, chains: &Chains) -> Vec<u8> {
     let length = 1 + rng.index(9);
     let chain = chains.good(rng, length);
-    let mut text = Vec::new();
+    let mut text = edition(rng, &chain);
+    if !text.is_empty() && rng.once_in(6) {
+        text = spoiled(rng, &text);
+    }
     let mut rows = chain.rows.iter();
     let points_from = if rng.once_in(2) { u64::MAX } else { rng.below(8) };
     let noise = rng.pick(&[3, 8, 30]);
     for place in 0..rng.below(16) {
         let next = if place >= points_from { None } else { rows.next() };
         let mut line = match next {
+            _ if rng.once_in(40) => lines::edition(rng.pick(&[2009, 2021, 2010])),
             Some(row) if rng.once_in(8) => {
-                let mut one = Chain { rows: vec![*row], begin: chain.begin, end: chain.end };
+                let mut one = Chain { rows: vec![*row], ..chain.clone() };
                 one.damage(rng);
                 lines::step(&one.rows[0])
             }

@@ -3,7 +3,7 @@
 use crate::rng::Rng;
 
 /// The bytes that mean something to either program.
-const ALPHABET: &[u8] = b"PSOGTVBFC\t\t\t\n\n0123456789-AZ a\r\0+";
+const ALPHABET: &[u8] = b"PSEOGTVBFC\t\t\t\n\n0123456789-AZ a\r\0+";
 
 pub fn byte(rng: &mut Rng) -> u8 {
     if rng.once_in(4) {

@@ -10,6 +10,10 @@ const CHAIN: [i64; 26] = [
     66, 67, 1, 0, 5, 2000000, -1100000, 85100000, 500000, 12500, -8300, 40250, -1350, //
     84, 0, 5, 2000000, 6, 2006586, -15832, -4363, -9706, 1, 2, 3, 4,
 ];
+const CHAIN_2009: [i64; 26] = [
+    66, 67, 1, 0, 5, 2000000, -1100000, 85100000, 500000, 12500, -8300, 40250, -1350, //
+    84, 0, 5, 2000000, 7, 2006586, -15832, -4363, -9706, 1, 2, 3, 4,
+];
 const ARAU_CHAIN: [i64; 52] = [
     84, 0, 6, 2000000, 6, 2006586, -15832, -4363, -9706, 0, 0, 0, 0, //
     86, 0, 6, 2006586, 6, 2010000, -1876, -90, -684, 0, 0, 0, 0, //
@@ -20,22 +24,25 @@ const PROJECTION: [i64; 8] =
     [3, 1234567890, 39876543210, 112345678901, 15432109876, 100123456789, -1234567890, 987654321];
 const ARAU: [i64; 7] = [1, 3, 6, 2000000, -113105165410, 623631179950, 71174811140];
 const POINT: [i64; 7] = [12, 4, 1, 0, -122145678901, 622012345678, 53876543210];
+const POINT_7: [i64; 7] = [12, 4, 7, 2006586, -122145678901, 622012345678, 53876543210];
 const FIRST: &[u8] = b"P\tARAU\t10\t2\t6\t2000000\t-113105165410\t623631179950\t71174811140\n";
 const SECOND: &[u8] = b"P\tARAU\t9\t1\t6\t2000000\t-113105165411\t623631179950\t71174811140\n";
 const BAD: &[u8] = b"P\tARAU\t9\t1\t6\t2000000\t-113105165411\t+623631179950\t71174811140\n";
 const OTHER: &[u8] = b"P\tARAV\t9\t1\t6\t2000000\t-113105165411\t623631179950\t71174811140\n";
 
 fn main() {
-    let there = numbers::forward(&CHAIN, &POINT).unwrap_or_default();
-    let home = numbers::inverse(&CHAIN, &there).unwrap_or_default();
+    let there = numbers::forward(2021, &CHAIN, &POINT).unwrap_or_default();
+    let home = numbers::inverse(2021, &CHAIN, &there).unwrap_or_default();
     println!(
         "/* Worked out by compare/paper: cargo run --manifest-path compare/Cargo.toml --bin paper-stored */"
     );
     whole("forward", &there);
     whole("inverse", &home);
-    let arau = numbers::forward(&ARAU_CHAIN, &ARAU).unwrap_or_default();
+    let arau = numbers::forward(2021, &ARAU_CHAIN, &ARAU).unwrap_or_default();
     whole("arau_forward", &arau);
-    whole("arau_inverse", &numbers::inverse(&ARAU_CHAIN, &arau).unwrap_or_default());
+    whole("arau_inverse", &numbers::inverse(2021, &ARAU_CHAIN, &arau).unwrap_or_default());
+    whole("forward_2009", &numbers::forward(2009, &CHAIN_2009, &POINT).unwrap_or_default());
+    whole("inverse_2009", &numbers::inverse(2009, &CHAIN_2009, &POINT_7).unwrap_or_default());
     bits("cartesian", &angle::cartesian(2, 1234567890, 36700000123, 456789).unwrap_or_default());
     whole("cartesian_units", &angle::cartesian_units(2, 1234567890, 36700000123, 456789).unwrap_or_default());
     whole("geodetic", &geodetic(2, [-131769233712, 622894736791, 37897691636]).unwrap_or_default());

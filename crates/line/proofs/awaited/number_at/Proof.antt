@@ -2,7 +2,6 @@
 use mathlib.Core.Path.{sym}
 use native.Mathlib.Omega.{arith}
 use Rattle.line.proofs.SecondLook as L
-use borrow.Author.Needs.{needs}
 use Rattle.line.proofs.awaited.number_at.Statement.{statement}
 use Rattle.line.proofs.awaited.number_at.Tie as tie
 

@@ -1,6 +1,5 @@
 -- `line::awaited::step_count` meets its contract. Assumes nothing.
 use borrow.Author.Tests.{eq-eqb, ne-eqb}
-use borrow.Author.Needs.{needs}
 use Rattle.line.proofs.awaited.step_count.Statement.{statement}
 use Rattle.line.proofs.awaited.step_count.Tie as tie
 

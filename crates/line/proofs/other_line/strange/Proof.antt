@@ -2,6 +2,7 @@
 use mathlib.Core.Path.{_∙_, ap}
 use lib.ListN.{take}
 use native.Mathlib.Omega.{arith}
+use Rattle.refusal.specs.Numbers as refusal
 use Rattle.line.specs.Malformed.{endOf, fault, faultOf}
 use Rattle.line.proofs.Malformed.{end-low}
 use Rattle.line.proofs.SecondLook as L
@@ -30,7 +31,9 @@ found-requires-2 c κs = omega (arith, c .end-of .ensures, end-low (c .before .b
 returns-2 : tie.Need-returns-2
 unfolding faultOf
 returns-2 c = let line = c .before .before .before .before .before .args .line .now in
-    c .found2 .ensures ∙ rw (L.body-none line (c .before .before .before .body-end .result) (c .before .before .before .body-end .ensures) (omega arith)) (ap (fault 18) (c .before .end-of .ensures))
+    c .found2 .ensures
+    ∙ rw (L.body-none line (c .before .before .before .body-end .result) (c .before .before .before .body-end .ensures) (omega arith))
+    (ap (fault refusal.length) (c .before .end-of .ensures))
 
 pub strange-spec : {M : Type 1} → statement M
 strange-spec =

@@ -23,7 +23,10 @@ add-result : tie.Need-add-result Inv-loop μ-loop
 add-result c = search needs
 
 returns : tie.Need-returns Inv-loop μ-loop
-returns c = let g = c .before .before .before .before .args in L.begun-tab (g .s .now) (g .at) (c .before .before .before .loop .i) (c .before .before .before .loop .inv) (omega arith) (c .if1 .taken)
+returns c =
+    let k = c .before .before .before in
+    let g = k .before .args in
+    L.begun-tab (g .s .now) (g .at) (k .loop .i) (k .loop .inv) (omega arith) (c .if1 .taken)
 
 add-i : tie.Need-add-i Inv-loop μ-loop
 add-i c = search needs
@@ -32,7 +35,10 @@ loop-less : tie.Need-loop-less Inv-loop μ-loop
 loop-less c = search needs
 
 loop-again : tie.Need-loop-again Inv-loop μ-loop
-loop-again c = let g = c .before .before .before .before .args in L.begun-on (g .s .now) (g .at) (c .before .before .before .loop .i) (c .before .before .before .loop .inv) (omega arith) (c .if1 .left)
+loop-again c =
+    let k = c .before .before .before in
+    let g = k .before .args in
+    L.begun-on (g .s .now) (g .at) (k .loop .i) (k .loop .inv) (omega arith) (c .if1 .left)
 
 add-result-2 : tie.Need-add-result-2 Inv-loop μ-loop
 add-result-2 c = search needs

@@ -4,6 +4,7 @@ use mathlib.Core.Path.{sym, _∙_, ap}
 use lib.ListN.{take}
 use lib.Seq.{length-take-le}
 use native.Mathlib.Omega.{arith}
+use Rattle.refusal.specs.Numbers as refusal
 use Rattle.line.specs.Fields.{fields}
 use Rattle.line.specs.Malformed.{fault, fieldsFault, faultOf}
 use Rattle.line.specs.SecondLook.{shapeOf}
@@ -35,7 +36,8 @@ returns c = let g = c .before .before .before .before .before .before .args in
     let end = c .before .before .before .body-end .result in
     let fs = fields (take end line) in
     c .fields-fault .ensures
-    ∙ rw (L.body-some line end (c .before .before .before .body-end .ensures) (omega arith)) (ap (λ (e : ℕ). fieldsFault (shapeOf (g .first) fs) e fs) (c .before .before .before .before .end-of .ensures))
+    ∙ rw (L.body-some line end (c .before .before .before .body-end .ensures) (omega arith))
+    (ap (λ (e : ℕ). fieldsFault (shapeOf (g .first) fs) e fs) (c .before .before .before .before .end-of .ensures))
 
 found-requires : tie.Need-found-requires
 found-requires c κs = omega (arith, c .before .before .end-of .ensures, end-low (c .before .before .before .before .args .line .now))
@@ -43,7 +45,9 @@ found-requires c κs = omega (arith, c .before .before .end-of .ensures, end-low
 returns-2 : tie.Need-returns-2
 unfolding faultOf
 returns-2 c = let line = c .before .before .before .before .before .args .line .now in
-    c .found .ensures ∙ rw (L.body-none line (c .before .before .body-end .result) (c .before .before .body-end .ensures) (omega arith)) (ap (fault 18) (c .before .before .before .end-of .ensures))
+    c .found .ensures
+    ∙ rw (L.body-none line (c .before .before .body-end .result) (c .before .before .body-end .ensures) (omega arith))
+    (ap (fault refusal.length) (c .before .before .before .end-of .ensures))
 
 pub fault-of-spec : {M : Type 1} → statement M
 fault-of-spec =

@@ -17,8 +17,11 @@ found-requires : tie.Need-found-requires
 found-requires c κs = search needs
 
 returns : tie.Need-returns
-returns c = let g = c .before .before .before .before .before .before .args in
-    c .found .ensures ∙ L.is-letter (c .before .before .before .look .ensures) (g .end) (c .before .if1 .taken) ∙ L.by-kind (g .first) (g .end) (fields (g .s .now)) (c .before .before .before .before .kind-of .ensures)
+returns c =
+    let k = c .before .before .before in
+    let g = k .before .before .before .args in
+    c .found .ensures ∙ L.is-letter (k .look .ensures) (g .end) (omega arith)
+    ∙ L.by-kind (g .first) (g .end) (fields (g .s .now)) (k .before .kind-of .ensures)
 
 count-of-requires : tie.Need-count-of-requires
 count-of-requires c κs = search needs
@@ -27,33 +30,48 @@ found-requires-2 : tie.Need-found-requires-2
 found-requires-2 c κs = search needs
 
 returns-2 : tie.Need-returns-2
-returns-2 c = let g = c .before .before .before .before .before .before .before .before .before .args in
-    c .found2 .ensures ∙ L.is-count (c .before .before .before .before .before .before .look .ensures) (g .end) (omega arith) (λ e. c .before .if2 .taken (e ∙ sym (c .before .before .before .count-of .ensures)))
-    ∙ L.by-kind (g .first) (g .end) (fields (g .s .now)) (c .before .before .before .before .before .before .before .kind-of .ensures)
+returns-2 c =
+    let n = c .before .before .before in
+    let k = n .before .before .before in
+    let g = k .before .before .before .args in
+    c .found2 .ensures ∙ L.is-count (k .look .ensures) (g .end) (omega arith) (λ e. c .before .if2 .taken (e ∙ sym (n .count-of .ensures)))
+    ∙ L.by-kind (g .first) (g .end) (fields (g .s .now)) (k .before .kind-of .ensures)
 
 found-requires-3 : tie.Need-found-requires-3
 found-requires-3 c κs = search needs
 
 returns-3 : tie.Need-returns-3
-returns-3 c = let g = c .before .before .before .before .before .before .before .before .before .before .before .args in
-    c .found3 .ensures ∙ L.is-id (c .before .before .before .before .before .before .before .before .look .ensures) (g .end) (omega arith) (c .before .before .before .if2 .left ∙ c .before .before .before .before .before .count-of .ensures) (c .before .if3 .taken)
-    ∙ L.by-kind (g .first) (g .end) (fields (g .s .now)) (c .before .before .before .before .before .before .before .before .before .kind-of .ensures)
+returns-3 c =
+    let w = c .before .before .before in
+    let n = w .before .before in
+    let k = n .before .before .before in
+    let g = k .before .before .before .args in
+    c .found3 .ensures ∙ L.is-id (k .look .ensures) (g .end) (omega arith) (w .if2 .left ∙ n .count-of .ensures) (omega arith)
+    ∙ L.by-kind (g .first) (g .end) (fields (g .s .now)) (k .before .kind-of .ensures)
 
 found-requires-4 : tie.Need-found-requires-4
 found-requires-4 c κs = search needs
 
 returns-4 : tie.Need-returns-4
-returns-4 c = let g = c .before .before .before .before .before .before .before .before .before .before .before .before .before .args in
-    c .found4 .ensures ∙ L.is-plain (c .before .before .before .before .before .before .before .before .before .before .look .ensures) (g .end) (omega arith) (c .before .before .before .before .before .if2 .left ∙ c .before .before .before .before .before .before .before .count-of .ensures) (omega arith) (c .before .if4 .taken)
-    ∙ L.by-kind (g .first) (g .end) (fields (g .s .now)) (c .before .before .before .before .before .before .before .before .before .before .before .kind-of .ensures)
+returns-4 c =
+    let w = c .before .before .before .before .before in
+    let n = w .before .before in
+    let k = n .before .before .before in
+    let g = k .before .before .before .args in
+    c .found4 .ensures ∙ L.is-plain (k .look .ensures) (g .end) (omega arith) (w .if2 .left ∙ n .count-of .ensures) (omega arith) (omega arith)
+    ∙ L.by-kind (g .first) (g .end) (fields (g .s .now)) (k .before .kind-of .ensures)
 
 found-requires-5 : tie.Need-found-requires-5
 found-requires-5 c κs = search needs
 
 returns-5 : tie.Need-returns-5
-returns-5 c = let g = c .before .before .before .before .before .before .before .before .before .before .before .before .before .args in
-    c .found5 .ensures ∙ L.is-none (c .before .before .before .before .before .before .before .before .before .before .look .ensures) (g .end) (omega arith) (c .before .before .before .before .before .if2 .left ∙ c .before .before .before .before .before .before .before .count-of .ensures) (omega arith) (omega arith)
-    ∙ L.by-kind (g .first) (g .end) (fields (g .s .now)) (c .before .before .before .before .before .before .before .before .before .before .before .kind-of .ensures)
+returns-5 c =
+    let w = c .before .before .before .before .before in
+    let n = w .before .before in
+    let k = n .before .before .before in
+    let g = k .before .before .before .args in
+    c .found5 .ensures ∙ L.is-none (k .look .ensures) (g .end) (omega arith) (w .if2 .left ∙ n .count-of .ensures) (omega arith) (omega arith)
+    ∙ L.by-kind (g .first) (g .end) (fields (g .s .now)) (k .before .kind-of .ensures)
 
 pub fields-fault-spec : {M : Type 1} → statement M
 fields-fault-spec =

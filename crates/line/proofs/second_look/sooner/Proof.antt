@@ -2,7 +2,6 @@
 use native.Mathlib.Omega.{arith}
 use borrow.Author.Tests.{le-leb, lt-leb, eq-eqb, ne-eqb}
 use lib.ListN.{length}
-use borrow.Author.Needs.{needs}
 use Rattle.line.proofs.second_look.sooner.Statement.{statement}
 use Rattle.line.proofs.second_look.sooner.Tie as tie
 

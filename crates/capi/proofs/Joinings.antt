@@ -22,7 +22,10 @@ sets-append l (x ∷ a) b i = let e : i + suc (length a) ≡ suc i + length a = 
 
 -- one row and then another, at the start of an array that has room for both
 pub one-after-another : (l a b : List ℤ) → length a + length b ≤ length l → sets (sets l 0 a) (length a) b ≡ (a ++ b) ++ drop (length (a ++ b)) l
-one-after-another l a b h = sets-append l a b 0 ∙ sets-eq (a ++ b) l 0 (omega (arith, length-append a b))
+one-after-another l a b h =
+    let e : length a ≡ 0 + length a = omega arith in
+    let f : 0 + length (a ++ b) ≡ length (a ++ b) = omega arith in
+    ap (λ (k : ℕ). sets (sets l 0 a) k b) e ∙ sets-append l a b 0 ∙ sets-eq (a ++ b) l 0 (omega (arith, length-append a b)) ∙ ap (λ (k : ℕ). (a ++ b) ++ drop k l) f
 
 both : (a b : Bool) → (a && b) ≡ true → (a ≡ true) × (b ≡ true)
 both true b e = (refl, e)

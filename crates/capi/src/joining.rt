@@ -45,7 +45,7 @@ pub extern "C" fn swivelcrane_join(
     second: &[i64],
     out: &mut [i64],
 ) -> i64
-    ensures { λ r. ⌜ Counted (joinCall first_profile (now (first .entry)) second_profile (now (second .entry)) (now (out .entry))) (now (out .entry)) (now (out .exit)) r ⌝ }
+    ensures { λ r. ⌜ Counted (joinCall «first_profile» (now (first .entry)) «second_profile» (now (second .entry)) (now (out .entry))) (now (out .entry)) (now (out .exit)) r ⌝ }
 {
     if !are_sized(first.len(), second.len(), out.len()) {
         return NO_ROOM;

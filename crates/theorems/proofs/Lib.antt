@@ -10,3 +10,4 @@ pub mod MarksApart
 pub mod MarksMeet
 pub mod Orders
 pub mod Joins
+pub mod LineOrders

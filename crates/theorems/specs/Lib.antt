@@ -9,3 +9,4 @@ pub mod MarksApart
 pub mod MarksMeet
 pub mod Orders
 pub mod Joins
+pub mod LineOrders

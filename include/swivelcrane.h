@@ -32,8 +32,8 @@ enum swivelcrane_refusal {
     SWIVELCRANE_REFUSAL_KIND = 4,      /* a velocity or a frame step that breaks the rule of its kind */
     SWIVELCRANE_REFUSAL_JOIN = 5,      /* a step that doesn't begin where the step before it ended */
     SWIVELCRANE_REFUSAL_NINTH = 6,     /* a ninth step */
-    SWIVELCRANE_REFUSAL_PLACE = 7,     /* a step after a point line; an origin line that is not the first line */
-    SWIVELCRANE_REFUSAL_EARLIER = 8,   /* an earlier step line was refused; no accepted origin */
+    SWIVELCRANE_REFUSAL_PLACE = 7,     /* a step after a point line; an edition or origin line that is not the first */
+    SWIVELCRANE_REFUSAL_EARLIER = 8,   /* an earlier step or edition line was refused; no accepted origin */
     SWIVELCRANE_REFUSAL_START = 9,     /* a point that is not at the chain's start (its end, for the inverse) */
     SWIVELCRANE_REFUSAL_AREA = 10,     /* a point outside the area */
     SWIVELCRANE_REFUSAL_LEFT = 11,     /* a position outside the area after some step */
@@ -142,7 +142,8 @@ int64_t swivelcrane_later_fault(const uint8_t *first, size_t first_length, const
 #define SWIVELCRANE_ROOM(n) (13 * ((n) < 65536 ? (size_t)(n) : (size_t)65536) + 9)
 
 /* A whole sheet, and a whole plan, from its bytes to what the program prints. The answer is the length of the text, whose
- * bytes stand at the start of out; the bytes past it are as they were. */
+ * bytes stand at the start of out; the bytes past it are as they were. A sheet is read under the profile that its first line
+ * names, `E`, tab, 2009 or 2021, and under 2021 where there is no such line. */
 int64_t swivelcrane_sheet(const uint8_t *input, size_t input_length, uint8_t *out, size_t out_length);
 int64_t swivelcrane_plan(const uint8_t *input, size_t input_length, uint8_t *out, size_t out_length);
 

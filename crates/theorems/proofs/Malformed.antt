@@ -1,6 +1,19 @@
--- A fault exactly where a line is not of its form, from the laws of crate line. Assumes nothing.
-use Rattle.line.proofs.GoodForm.{point-exactly, step-exactly, origin-exactly, geodetic-exactly}
-use Rattle.theorems.specs.Malformed.{Malformed}
+-- A fault exactly where a line is not of its form, and an edition's year as the line says it, from the laws of crate line. Assumes nothing.
+use native.Mathlib.Omega.{arith}
+use lib.IntN.{pos}
+use Rattle.ranges.specs.Ranges.{profileRange}
+use Rattle.line.specs.Reading.{cappedZ}
+use Rattle.line.specs.Readers.{readEdition}
+use Rattle.line.proofs.Capped.{Sure, sure-within, sure-either}
+use Rattle.line.proofs.GoodForm.{point-exactly, step-exactly, origin-exactly, geodetic-exactly, edition-exactly}
+use Rattle.theorems.specs.Malformed.{YearJudged, Malformed}
+
+sure-profile : Sure cappedZ profileRange
+sure-profile = sure-either (sure-within (pos 2009) (pos 2009) (omega arith) (omega arith)) (sure-within (pos 2021) (pos 2021) (omega arith) (omega arith))
+
+judged : YearJudged
+unfolding readEdition
+judged line year e = record { carried = cappedZ year; read = rw e; same = sure-profile .same year; kept = sure-profile .kept year }
 
 pub malformed : Malformed
-malformed = record { point = point-exactly; step = step-exactly; origin = origin-exactly; geodetic = geodetic-exactly }
+malformed = record { point = point-exactly; step = step-exactly; origin = origin-exactly; geodetic = geodetic-exactly; edition = edition-exactly; year = judged }

@@ -6,7 +6,7 @@
  *
  * Answers. A call answers 0 and writes its results, or answers a refusal number (enum swivelcrane_refusal) or
  * SWIVELCRANE_WRONG_LENGTH, and then writes nothing. swivelcrane_sheet and swivelcrane_plan answer the length of what
- * they wrote, or minus SWIVELCRANE_WRONG_LENGTH. Every input has its answer: nothing has to be checked beforehand.
+ * they wrote, or minus SWIVELCRANE_WRONG_LENGTH; swivelcrane_join the count of numbers, or minus the number. Every input has its answer: nothing has to be checked beforehand.
  *
  * Every array is handed over as a pointer and the number of its elements. A pointer must be valid for that many elements,
  * also where there are none; arrays that are written must not overlap others of the same call. There is no state: calls
@@ -23,7 +23,7 @@ extern "C" {
 
 /* The version of this interface: a function or a number that is added raises the minor, any other change the major. */
 #define SWIVELCRANE_VERSION_MAJOR 4
-#define SWIVELCRANE_VERSION_MINOR 0
+#define SWIVELCRANE_VERSION_MINOR 1
 
 /* The refusal numbers by name; README.md says of each what to do. 1 is not given. */
 enum swivelcrane_refusal {
@@ -74,6 +74,17 @@ int64_t swivelcrane_forward(int64_t profile, const int64_t *chain, size_t chain_
                             int64_t *out, size_t out_length);
 int64_t swivelcrane_inverse(int64_t profile, const int64_t *chain, size_t chain_length, const int64_t *point, size_t point_length,
                             int64_t *out, size_t out_length);
+
+/* Numbers to eight steps: the room that swivelcrane_join asks for. */
+#define SWIVELCRANE_JOINED_NUMBERS 104
+
+/* Two chains, each with its profile, made one: out has 104 elements, and the steps of the first and then of the second stand at its
+ * start as they were given; the elements past them are as they were. The answer is the number of numbers written, 13 a step, or minus
+ * the refusal number, or minus SWIVELCRANE_WRONG_LENGTH. Refusals: a bad chain's own number, the first chain's before the second's (2 for
+ * its year, 6, then each step 2, 3, 25, 4, 5); 5 where they don't join, then 6 where they have more than eight steps together, then 25
+ * for unlike profiles. A chain of no step joins every chain of its profile. */
+int64_t swivelcrane_join(int64_t first_profile, const int64_t *first, size_t first_length, int64_t second_profile,
+                         const int64_t *second, size_t second_length, int64_t *out, size_t out_length);
 
 /* Geodetic to Cartesian on an ellipsoid (1 GRS80, 2 WGS84, 3 Everest 1830 Modified, 4 Everest 1967): X, Y, Z in metres,
  * and in whole units. out has 3 elements. Refusals: 2 (ellipsoid), 12 (latitude, longitude, height), then 14. */

@@ -9,7 +9,7 @@
 #define STEP SWIVELCRANE_STEP_NUMBERS
 #define POINT SWIVELCRANE_POINT_NUMBERS
 #define CANARY INT64_C(-7777777777777)
-#define PLACES 16
+#define PLACES 112
 
 static int faults;
 
@@ -142,6 +142,46 @@ static void profiles(void) {
     refused(swivelcrane_forward(2010, nine, 9 * STEP, point, POINT, out, POINT), SWIVELCRANE_REFUSAL_RANGE, "a year that is no profile, before the ninth step: 2");
     refused(swivelcrane_inverse(0, nine, 9 * STEP, point, POINT, out, POINT), SWIVELCRANE_REFUSAL_RANGE, "no profile: 2");
     refused(swivelcrane_forward(2010, chain, 2 * STEP - 1, point, POINT, out, POINT), SWIVELCRANE_WRONG_LENGTH, "a length before the profile");
+}
+
+/* The two steps of the chain to datum 7, apart. */
+static void joins(void) {
+    int64_t steps[2 * STEP];
+    static const int64_t nine[9 * STEP];
+    int64_t four[4 * STEP];
+    const size_t room = SWIVELCRANE_JOINED_NUMBERS;
+    memcpy(steps, chain, sizeof chain);
+    steps[STEP + 4] = 7;
+    const int64_t *second = steps + STEP;
+    hold(swivelcrane_join(2009, steps, STEP, 2009, second, STEP, out, room) == 2 * STEP && memcmp(out, stored_join, sizeof stored_join) == 0 && untouched(2 * STEP), "join");
+    clear();
+    hold(swivelcrane_join(2009, steps, STEP, 2009, nine, 0, out, room) == STEP && memcmp(out, stored_join, STEP * sizeof *out) == 0 && untouched(STEP), "join, none after");
+    clear();
+    hold(swivelcrane_join(2009, nine, 0, 2009, second, STEP, out, room) == STEP && memcmp(out, stored_join + STEP, STEP * sizeof *out) == 0 && untouched(STEP), "join, none before");
+    clear();
+    refused(swivelcrane_join(2021, nine, 0, 2021, nine, 0, out, room), 0, "join, none and none");
+    refused(swivelcrane_join(2010, steps, STEP, 2009, nine, 9 * STEP, out, room), -SWIVELCRANE_REFUSAL_RANGE, "join: 2, the first chain's year before the second's ninth step");
+    refused(swivelcrane_join(2009, steps, STEP, 2010, nine, 9 * STEP, out, room), -SWIVELCRANE_REFUSAL_RANGE, "join: 2, the second's year");
+    refused(swivelcrane_join(2009, nine, 9 * STEP, 2010, steps, STEP, out, room), -SWIVELCRANE_REFUSAL_NINTH, "join: 6, the first chain's before the second's year");
+    refused(swivelcrane_join(2009, second, STEP, 2009, steps, STEP, out, room), -SWIVELCRANE_REFUSAL_JOIN, "join: 5");
+    for (size_t i = 0; i < 4; i++) {
+        memcpy(four + i * STEP, arau_chain, STEP * sizeof *four);
+        four[i * STEP + 5] = 2000000;
+    }
+    refused(swivelcrane_join(2021, four, 4 * STEP, 2009, second, STEP, out, room), -SWIVELCRANE_REFUSAL_JOIN, "join: 5 before 25");
+    hold(swivelcrane_join(2021, four, 4 * STEP, 2021, four, 4 * STEP, out, room) == (int64_t)room && untouched(room), "join, four and four");
+    hold(memcmp(out, four, sizeof four) == 0 && memcmp(out + 4 * STEP, four, sizeof four) == 0, "join, four and four");
+    memcpy(four, out, sizeof four);
+    static int64_t eight[8 * STEP];
+    memcpy(eight, out, sizeof eight);
+    clear();
+    refused(swivelcrane_join(2021, eight, 8 * STEP, 2021, four, STEP, out, room), -SWIVELCRANE_REFUSAL_NINTH, "join: 6");
+    refused(swivelcrane_join(2021, steps, STEP, 2009, second, STEP, out, room), -SWIVELCRANE_REFUSAL_PROFILE, "join: 25");
+    refused(swivelcrane_join(2009, nine, 0, 2021, nine, 0, out, room), -SWIVELCRANE_REFUSAL_PROFILE, "join, none and none: 25");
+    refused(swivelcrane_join(2009, steps, STEP - 1, 2010, second, STEP, out, room), -SWIVELCRANE_WRONG_LENGTH, "join, a part of a step");
+    refused(swivelcrane_join(2009, steps, STEP, 2009, second, STEP + 1, out, room), -SWIVELCRANE_WRONG_LENGTH, "join, a part of a step after");
+    refused(swivelcrane_join(2009, steps, STEP, 2009, second, STEP, out, room - 1), -SWIVELCRANE_WRONG_LENGTH, "join, room for a number less");
+    refused(swivelcrane_join(2009, steps, STEP, 2009, second, STEP, out, room + 1), -SWIVELCRANE_WRONG_LENGTH, "join, room for a number more");
 }
 
 /* The shift to the north leaves the area: Z is 0 to 90,000,000,000. */
@@ -298,7 +338,7 @@ static void numbers(void) {
     hold(SWIVELCRANE_ROOM(0) == 9 && SWIVELCRANE_ROOM(1 + 1) == 35 && SWIVELCRANE_ROOM(65535) == 851964, "the room");
     hold(SWIVELCRANE_ROOM(65536) == 851977 && SWIVELCRANE_ROOM(65537) == 851977, "the most room");
     hold(STEP == 13 && POINT == 7 && SWIVELCRANE_WRONG_LENGTH == 255, "numbers to a step, to a point, a wrong length");
-    hold(SWIVELCRANE_VERSION_MAJOR == 4 && SWIVELCRANE_VERSION_MINOR == 0, "the version");
+    hold(SWIVELCRANE_VERSION_MAJOR == 4 && SWIVELCRANE_VERSION_MINOR == 1, "the version");
     hold(SWIVELCRANE_REFUSAL_PLACE == 7 && SWIVELCRANE_REFUSAL_EARLIER == 8 && SWIVELCRANE_REFUSAL_LONG == 15, "the numbers that only a text has");
 }
 
@@ -308,6 +348,7 @@ int main(void) {
     conversions();
     refused_conversions();
     profiles();
+    joins();
     leaves_the_area();
     geodetic();
     to_angles();

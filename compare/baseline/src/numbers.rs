@@ -41,6 +41,49 @@ fn convert(
     Ok([issue, order, place.datum, place.epoch, x, y, z])
 }
 
+/// Two chains as one, the rows as they stand.
+pub fn join(first_profile: i64, first: &[i64], second_profile: i64, second: &[i64]) -> Result<Vec<i64>, u8> {
+    if !first.len().is_multiple_of(13) || !second.len().is_multiple_of(13) {
+        return Err(WRONG_LENGTH);
+    }
+    let profile = sound(first_profile, first)?;
+    let other = sound(second_profile, second)?;
+    let meets = match (first.last_chunk::<13>(), second.first_chunk::<13>()) {
+        (Some(last), Some(next)) => last[4..6] == next[2..4],
+        _ => true,
+    };
+    if !meets {
+        Err(JOIN)
+    } else if first.len() + second.len() > 8 * 13 {
+        Err(NINTH)
+    } else if profile != other {
+        Err(PROFILE)
+    } else {
+        Ok([first, second].concat())
+    }
+}
+
+/// The chain's own faults, without making it ready.
+fn sound(profile: i64, rows: &[i64]) -> Result<Profile, u8> {
+    let profile = Profile::of(profile)?;
+    if rows.len() > 8 * 13 {
+        return Err(NINTH);
+    }
+    let mut last = None;
+    for row in rows.chunks_exact(13) {
+        let step = step(row);
+        let fault = check::step(profile, &step);
+        if fault != 0 {
+            return Err(fault);
+        }
+        if last.is_some_and(|after| after != step.before) {
+            return Err(JOIN);
+        }
+        last = Some(step.after);
+    }
+    Ok(profile)
+}
+
 fn chain(profile: Profile, rows: &[i64]) -> Result<Chain, u8> {
     if rows.len() > 8 * 13 {
         return Err(NINTH);

@@ -26,6 +26,16 @@ mod c {
             out: *mut i64,
             out_len: usize,
         ) -> i64;
+        pub fn swivelcrane_join(
+            first_profile: i64,
+            first: *const i64,
+            first_len: usize,
+            second_profile: i64,
+            second: *const i64,
+            second_len: usize,
+            out: *mut i64,
+            out_len: usize,
+        ) -> i64;
         pub fn swivelcrane_cartesian(
             ellipsoid: i64,
             latitude: i64,
@@ -139,6 +149,21 @@ pub fn inverse(profile: i64, chain: &[i64], point: &[i64], out: &mut [i64]) -> i
     }
 }
 
+pub fn join([one, two]: [i64; 2], first: &[i64], second: &[i64], out: &mut [i64]) -> i64 {
+    unsafe {
+        c::swivelcrane_join(
+            one,
+            first.as_ptr(),
+            first.len(),
+            two,
+            second.as_ptr(),
+            second.len(),
+            out.as_mut_ptr(),
+            out.len(),
+        )
+    }
+}
+
 pub fn cartesian(n: &[i64; 4], out: &mut [f64]) -> i64 {
     unsafe { c::swivelcrane_cartesian(n[0], n[1], n[2], n[3], out.as_mut_ptr(), out.len()) }
 }
@@ -214,6 +239,9 @@ pub fn room(input: &[u8]) -> usize {
     13 * input.len().min(65_536) + 9
 }
 
+/// The numbers of eight steps: the room for a joined chain.
+pub const JOINED: usize = 104;
+
 pub const MARK: i64 = 0x5a5a_a5a5_1234_4321;
 pub const FLOAT_MARK: f64 = -1.25e300;
 
@@ -261,6 +289,19 @@ impl Subject for Product {
     }
     fn inverse(&self, profile: i64, chain: &[i64], point: &PointRow) -> Answer<PointRow> {
         lend(MARK, |out| inverse(profile, chain, point, out))
+    }
+    fn join(&self, profiles: [i64; 2], first: &[i64], second: &[i64]) -> Answer<Vec<i64>> {
+        let mut places = [MARK; JOINED + 2];
+        let answer = join(profiles, first, second, &mut places[1..=JOINED]);
+        let written = usize::try_from(answer).unwrap_or(0);
+        if places[0] != MARK || written > JOINED || places[1 + written..].iter().any(|place| *place != MARK) {
+            return Err(WROTE);
+        }
+        match answer {
+            0.. => Ok(places[1..=written].to_vec()),
+            -255 | -25..=-2 => Err(-answer as u8),
+            _ => Err(STRANGE),
+        }
     }
     fn cartesian(&self, n: &[i64; 4]) -> Answer<[f64; 3]> {
         lend(FLOAT_MARK, |out| cartesian(n, out))

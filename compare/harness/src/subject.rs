@@ -16,6 +16,8 @@ pub trait Subject {
     fn name(&self) -> &'static str;
     fn forward(&self, profile: i64, chain: &[i64], point: &PointRow) -> Answer<PointRow>;
     fn inverse(&self, profile: i64, chain: &[i64], point: &PointRow) -> Answer<PointRow>;
+    /// Two chains, each with its profile, made one: the numbers of its steps.
+    fn join(&self, profiles: [i64; 2], first: &[i64], second: &[i64]) -> Answer<Vec<i64>>;
     fn cartesian(&self, numbers: &[i64; 4]) -> Answer<[f64; 3]>;
     fn cartesian_units(&self, numbers: &[i64; 4]) -> Answer<[i64; 3]>;
     /// Code, X, Y, Z to latitude, longitude, height.
@@ -49,6 +51,9 @@ impl Subject for Paper {
     }
     fn inverse(&self, profile: i64, chain: &[i64], point: &PointRow) -> Answer<PointRow> {
         paper::numbers::inverse(profile, chain, point)
+    }
+    fn join(&self, [one, two]: [i64; 2], first: &[i64], second: &[i64]) -> Answer<Vec<i64>> {
+        paper::numbers::join(one, first, two, second)
     }
     fn cartesian(&self, n: &[i64; 4]) -> Answer<[f64; 3]> {
         paper::angle::cartesian(n[0], n[1], n[2], n[3])
@@ -106,6 +111,9 @@ impl Subject for Baseline {
     }
     fn inverse(&self, profile: i64, chain: &[i64], point: &PointRow) -> Answer<PointRow> {
         baseline::numbers::inverse(profile, chain, point)
+    }
+    fn join(&self, [one, two]: [i64; 2], first: &[i64], second: &[i64]) -> Answer<Vec<i64>> {
+        baseline::numbers::join(one, first, two, second)
     }
     fn cartesian(&self, n: &[i64; 4]) -> Answer<[f64; 3]> {
         baseline::angle::cartesian(n[0], n[1], n[2], n[3])

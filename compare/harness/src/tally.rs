@@ -6,6 +6,7 @@ use std::fmt;
 pub enum Function {
     Forward,
     Inverse,
+    Join,
     Cartesian,
     CartesianUnits,
     Geodetic,
@@ -28,6 +29,7 @@ const FUNCTIONS: usize = Plan as usize + 1;
 const REACHABLE: [(Function, &str, &[u8]); FUNCTIONS] = [
     (Forward, "forward", &[0, 2, 3, 4, 5, 6, 9, 10, 11, 25]),
     (Inverse, "inverse", &[0, 2, 3, 4, 5, 6, 9, 10, 11, 25]),
+    (Join, "join", &[0, 2, 3, 4, 5, 6, 25]),
     (Cartesian, "cartesian", &[0, 2, 12]),
     (CartesianUnits, "cartesian units", &[0, 2, 12]),
     (Geodetic, "from Cartesian", &[0, 2, 10, 12]),

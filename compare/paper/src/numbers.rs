@@ -4,6 +4,7 @@
 //! Point: issue, order, datum, epoch, X, Y, Z.
 
 use crate::chain::{self, Point};
+use crate::join::{self, Given};
 use crate::refusal::Refusal;
 use crate::step::{Convention, Kind, Realization, Step};
 
@@ -19,6 +20,20 @@ pub fn forward(profile: i64, chain: &[i64], point: &[i64]) -> Result<PointRow, R
 
 pub fn inverse(profile: i64, chain: &[i64], point: &[i64]) -> Result<PointRow, Refusal> {
     convert(chain::inverse, profile, chain, point)
+}
+
+/// Two chains made one: the rows as they stand.
+pub fn join(
+    first_profile: i64,
+    first: &[i64],
+    second_profile: i64,
+    second: &[i64],
+) -> Result<Vec<i64>, Refusal> {
+    let (one, two) = (steps(first).ok_or(WRONG_LENGTH)?, steps(second).ok_or(WRONG_LENGTH)?);
+    let one = Given { year: first_profile, steps: &one };
+    let two = Given { year: second_profile, steps: &two };
+    join::join(one, two)?;
+    Ok([first, second].concat())
 }
 
 type Conversion = fn(i64, &[Step], Point) -> Result<Point, Refusal>;

@@ -48,6 +48,33 @@ macro_rules! conversion {
 conversion!(swivelcrane_forward, baseline::numbers::forward);
 conversion!(swivelcrane_inverse, baseline::numbers::inverse);
 
+/// # Safety
+/// Each pointer and length are a live slice.
+#[no_mangle]
+pub unsafe extern "C" fn swivelcrane_join(
+    first_profile: i64,
+    first: *const i64,
+    first_len: usize,
+    second_profile: i64,
+    second: *const i64,
+    second_len: usize,
+    out: *mut i64,
+    out_len: usize,
+) -> i64 {
+    if out_len != 104 {
+        return -WRONG_LENGTH;
+    }
+    let first = slice::from_raw_parts(first, first_len);
+    let second = slice::from_raw_parts(second, second_len);
+    match baseline::numbers::join(first_profile, first, second_profile, second) {
+        Ok(rows) => {
+            slice::from_raw_parts_mut(out, rows.len()).copy_from_slice(&rows);
+            rows.len() as i64
+        }
+        Err(number) => -i64::from(number),
+    }
+}
+
 macro_rules! cartesian {
     ($name:ident, $call:path, $number:ty) => {
         /// # Safety

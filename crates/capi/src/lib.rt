@@ -4,6 +4,7 @@ pub mod conversion;
 mod decode;
 pub mod from_xyz;
 pub mod geodetic;
+pub mod joining;
 pub mod later;
 pub mod printing;
 pub mod projected;

@@ -10,3 +10,4 @@ pub mod Prepared
 pub mod Places
 pub mod Cases
 pub mod Keeping
+pub mod Joins

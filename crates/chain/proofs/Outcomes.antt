@@ -26,13 +26,13 @@ use Rattle.chain.proofs.Accepted.{Sound, Held, converted}
 
 -- ---- a converted point
 -- a datum at an epoch, as a line under a profile may say it
-record Dated (y : ℤ) (r : Realization) : Type 0 where
-  range : realizationRange r ≡ true
-  agree : agrees r ≡ true
-  had : hasDatum y r ≡ true
+pub record Dated (y : ℤ) (r : Realization) : Type 0 where
+  pub range : realizationRange r ≡ true
+  pub agree : agrees r ≡ true
+  pub had : hasDatum y r ≡ true
 
 -- where a chain ends
-end-dated : (y : ℤ) (r : Realization) (ss : List Step) → Sound ss → Held y ss → Dated y r → Dated y (endOf r ss)
+pub end-dated : (y : ℤ) (r : Realization) (ss : List Step) → Sound ss → Held y ss → Dated y r → Dated y (endOf r ss)
 unfolding endOf hasStep
 end-dated y r [] ok had d = d
 end-dated y r (s ∷ ss) ok had d =
@@ -41,11 +41,11 @@ end-dated y r (s ∷ ss) ok had d =
     end-dated y (s .after) ss (ok .1) (had .1) (record { range = o .after; agree = o .agreed; had = h .2 })
 
 -- the area lies within the range of a coordinate
-area-given : (p : Position) → inArea p ≡ true → givenPosition p ≡ true
+pub area-given : (p : Position) → inArea p ≡ true → givenPosition p ≡ true
 unfolding givenPosition
 area-given p h = let s = area-small p h in rw (up-to-holds 640000000000 (p .x) (s .on onX), up-to-holds 640000000000 (p .y) (s .on onY), up-to-holds 640000000000 (p .z) (s .on onZ))
 
-faultless : (y : ℤ) (p : Point) → labelRange (p .label) ≡ true → Dated y (p .realization) → givenPosition (p .position) ≡ true → pointFault y p ≡ 0
+pub faultless : (y : ℤ) (p : Point) → labelRange (p .label) ≡ true → Dated y (p .realization) → givenPosition (p .position) ≡ true → pointFault y p ≡ 0
 unfolding pointFault pointRange
 faultless y p i d g = rw (i, d .range, g, d .agree, d .had)
 

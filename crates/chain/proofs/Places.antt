@@ -11,20 +11,16 @@ use lib.Seq.{take-suc, drop-cons, getD-take}
 use Rattle.refusal.specs.Order.{first}
 use Rattle.chain.specs.declared.Position.{Position}
 use Rattle.chain.specs.declared.Realization.{Realization}
-use Rattle.chain.specs.declared.Kind.the-variants.{Shift}
 use Rattle.chain.specs.declared.Step.{Step}
 use Rattle.chain.specs.Faults.{StepOk, stepTests, joinTest, laterTests, stepsTests}
+use Rattle.chain.specs.Join.{noStep}
 use Rattle.chain.specs.Convert.{onward, arrive, walk, startOf, endOf}
 use Rattle.refusal.proofs.Orders.{orElse, first-append}
 use Rattle.chain.proofs.Accepted.{Sound}
 
 -- what a place past the end reads as
 abbrev pub no-step : Step
-no-step = record {
-  kind = Shift (record { dx = pos 0; dy = pos 0; dz = pos 0 });
-  before = record { datum = pos 0; epoch = pos 0 };
-  after = record { datum = pos 0; epoch = pos 0 };
-}
+no-step = noStep
 
 -- a step that follows another: its tests and the join, then the rest
 pub later-first : (y : ℤ) (s t : Step) (ts : List Step) → first (laterTests y s (t ∷ ts)) ≡ orElse (first (stepTests y t ++ (joinTest s t ∷ []))) (first (laterTests y t ts))

@@ -4,6 +4,7 @@ pub mod Parts
 pub mod Axes
 pub mod Ready
 pub mod Convert
+pub mod Join
 pub mod Cases
 pub mod MoreCases
 pub mod RangeCases

@@ -11,6 +11,7 @@ pub use crate::faults::point_fault;
 pub use crate::faults::step_fault;
 pub use crate::steps::convert::forward;
 pub use crate::steps::convert::inverse;
+pub use crate::steps::convert::join::join;
 pub use crate::steps::kept::extend;
 pub use crate::steps::kept::forward_prepared;
 pub use crate::steps::kept::inverse_prepared;
@@ -114,4 +115,10 @@ pub type Prepared = [i64; 72];
 pub enum Answer {
     Converted(Point),
     Refused(u8),
+}
+
+// What joining two chains answers: the joined chain, and refusal number 0; or a chain of no steps, and the number.
+pub struct Joined {
+    pub chain: Chain,
+    pub refusal: u8,
 }

@@ -9,4 +9,5 @@ pub mod Apart
 pub mod MarksApart
 pub mod MarksMeet
 pub mod Orders
+pub mod Joins
 pub mod LineOrders

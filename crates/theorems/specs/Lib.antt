@@ -8,4 +8,5 @@ pub mod Malformed
 pub mod MarksApart
 pub mod MarksMeet
 pub mod Orders
+pub mod Joins
 pub mod LineOrders

@@ -53,6 +53,7 @@ fn main() -> ExitCode {
     linear(&mut rng, &chains);
     plans(&mut report, &mut rng);
     conversions(&mut report, &mut rng, &chains);
+    joins(&mut report, &mut rng, &chains);
     angles(&mut report, &mut rng);
     from_cartesian(&mut report, &mut rng);
     oblique_mercator(&mut report, &mut rng);
@@ -167,6 +168,19 @@ fn conversions(report: &mut Report, rng: &mut Rng, chains: &Chains) {
         &end,
         |point| _ = black_box(product::inverse(2021, &chain, point, &mut out)),
         |point| _ = black_box(baseline::numbers::inverse(2021, &chain, point)),
+    );
+}
+
+/// Four steps and four.
+fn joins(report: &mut Report, rng: &mut Rng, chains: &Chains) {
+    let pairs: Vec<Vec<i64>> = (0..CALLS).map(|_| full::rows(rng, chains, "BBBBBBBB").concat()).collect();
+    let mut out = [0; product::JOINED];
+    calls(
+        report,
+        "join, four B steps and four",
+        &pairs,
+        |rows| _ = black_box(product::join([2021, 2021], &rows[..52], &rows[52..], &mut out)),
+        |rows| _ = black_box(baseline::numbers::join(2021, &rows[..52], 2021, &rows[52..])),
     );
 }
 

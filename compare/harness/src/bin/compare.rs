@@ -4,7 +4,9 @@
 //! 1 at the first difference, after printing the input.
 
 use harness::arguments;
-use harness::checks::{angles, conversions, geodetic, later, roundings, rso, rso_causes, texts, trips};
+use harness::checks::{
+    angles, conversions, geodetic, joins, later, roundings, rso, rso_causes, texts, trips,
+};
 use harness::compare::{Comparison, Outcome};
 use harness::programs::Programs;
 use harness::subject::{Baseline, Subject};
@@ -14,6 +16,7 @@ use std::time::Instant;
 struct Sizes {
     conversions: u64,
     trips: u64,
+    joins: u64,
     roundings: u64,
     angles: u64,
     geodetic: u64,
@@ -26,6 +29,7 @@ struct Sizes {
 const SHORT: Sizes = Sizes {
     conversions: 300_000,
     trips: 200_000,
+    joins: 40_000,
     roundings: 1_000_000,
     angles: 200_000,
     geodetic: 200_000,
@@ -38,6 +42,7 @@ const SHORT: Sizes = Sizes {
 const LONG: Sizes = Sizes {
     conversions: 10_000_000,
     trips: 10_000_000,
+    joins: 3_000_000,
     roundings: 20_000_000,
     angles: 2_000_000,
     geodetic: 5_000_000,
@@ -91,6 +96,7 @@ fn run(c: &mut Comparison, sizes: &Sizes) -> Outcome {
     })?;
     timed(&format!("{} conversions each way", sizes.conversions), || conversions::run(c, sizes.conversions))?;
     timed(&format!("{} round trips that came home", sizes.trips), || round_trips(c, sizes.trips))?;
+    timed(&format!("{} pairs and triples of chains", sizes.joins), || joined(c, sizes.joins))?;
     timed(&format!("{} roundings", sizes.roundings), || roundings::run(c, sizes.roundings))?;
     timed(&format!("{} geodetic and as many Cassini points", sizes.angles), || angles::run(c, sizes.angles))?;
     timed(&format!("{} positions to angles", sizes.geodetic), || from_cartesian(c, sizes.geodetic))?;
@@ -105,6 +111,12 @@ fn round_trips(c: &mut Comparison, count: u64) -> Outcome {
     let trips = trips::run(c, count)?;
     let largest = trips.largest;
     println!("  {} more were refused; largest difference by B and F steps: {largest:?}", trips.refused);
+    Ok(())
+}
+
+fn joined(c: &mut Comparison, count: u64) -> Outcome {
+    let tried = joins::run(c, count)?;
+    println!("  {tried:?}");
     Ok(())
 }
 

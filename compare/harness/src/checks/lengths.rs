@@ -7,6 +7,7 @@ use crate::product::{self, FLOAT_MARK, MARK};
 pub fn run(c: &mut Comparison, count: u64) -> Outcome {
     for _ in 0..count {
         conversions(c)?;
+        joins(c)?;
         others(c)?;
         projections(c)?;
         texts(c)?;
@@ -41,6 +42,26 @@ fn conversions(c: &mut Comparison) -> Outcome {
     let mut out = vec![MARK; out.len()];
     let number = product::inverse(profile, &chain, &point, &mut out);
     decide(&format!("inverse {what}"), number, wrong, &out, MARK)
+}
+
+fn joins(c: &mut Comparison) -> Outcome {
+    let rows = |rng: &mut crate::rng::Rng| {
+        let steps = rng.index(5);
+        let mut rows = c.chains.good(rng, steps).numbers();
+        if rng.once_in(3) {
+            rows.truncate(rng.index(rows.len() + 1));
+        }
+        rows
+    };
+    let (first, second) = (rows(&mut c.rng), rows(&mut c.rng));
+    let room = if c.rng.once_in(2) { 104 } else { c.rng.index(120) };
+    let wrong = !first.len().is_multiple_of(13) || !second.len().is_multiple_of(13) || room != 104;
+    let mut out = vec![MARK; room];
+    let profiles = [c.rng.pick(&[2009, 2021, 2010]), c.rng.pick(&[2009, 2021])];
+    let number = product::join(profiles, &first, &second, &mut out);
+    let number = if number == -255 { 255 } else { number.min(254) };
+    let what = format!("join of {} and {} numbers with room for {room}", first.len(), second.len());
+    decide(&what, number, wrong, &out, MARK)
 }
 
 fn others(c: &mut Comparison) -> Outcome {

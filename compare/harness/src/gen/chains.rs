@@ -64,6 +64,12 @@ impl Chains {
         self.good_from(rng, profile, palette, begin, steps)
     }
 
+    /// A good chain that begins where the other ends, of its profile.
+    pub fn good_after(&self, rng: &mut Rng, other: &Chain, steps: usize) -> Chain {
+        let palette = if other.profile == 2009 { "TB" } else { "TVBF" };
+        self.good_from(rng, other.profile, palette, other.end, steps)
+    }
+
     fn good_from(&self, rng: &mut Rng, profile: i64, palette: &str, begin: [i64; 2], steps: usize) -> Chain {
         let mut chain = Chain { profile, rows: Vec::new(), begin, end: begin };
         for _ in 0..steps {

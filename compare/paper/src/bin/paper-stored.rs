@@ -43,6 +43,7 @@ fn main() {
     whole("arau_inverse", &numbers::inverse(2021, &ARAU_CHAIN, &arau).unwrap_or_default());
     whole("forward_2009", &numbers::forward(2009, &CHAIN_2009, &POINT).unwrap_or_default());
     whole("inverse_2009", &numbers::inverse(2009, &CHAIN_2009, &POINT_7).unwrap_or_default());
+    whole("join", &numbers::join(2009, &CHAIN_2009[..13], 2009, &CHAIN_2009[13..]).unwrap_or_default());
     bits("cartesian", &angle::cartesian(2, 1234567890, 36700000123, 456789).unwrap_or_default());
     whole("cartesian_units", &angle::cartesian_units(2, 1234567890, 36700000123, 456789).unwrap_or_default());
     whole("geodetic", &geodetic(2, [-131769233712, 622894736791, 37897691636]).unwrap_or_default());

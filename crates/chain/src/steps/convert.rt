@@ -16,6 +16,8 @@ use crate::checks;
 use crate::points;
 use crate::steps;
 
+pub mod join;
+
 fn forward_step(step: Step, p: Position) -> Position
     requires { ⌜ (StepOk step) × (inArea p ≡ true) ⌝ }
     ensures { λ q. ⌜ q ≡ forwardStep step p ⌝ }

@@ -1,0 +1,140 @@
+-- Two chains joined: what decides, and what stands at each place. Assumes nothing.
+use mathlib.Core.Path.{_≡_, refl, sym, _∙_, ap}
+use mathlib.Core.Bool.{true}
+use mathlib.Core.List.{List, [], _∷_, _++_}
+use Prim.Native.Nat.{ℕ, zero, suc, _+_, _-_, _<_, _≤_}
+use native.Mathlib.Nat as NatL
+use native.Mathlib.Omega.{arith}
+use borrow.Author.Tests.{ltb-false, eq-eqb, ne-eqb}
+use lib.Dec.{T, ltb}
+use lib.ListN.{length, getD, take, drop, length-take, length-append, length-drop}
+use lib.Seq.{getD-append-add, getD-take, getD-drop}
+use Rattle.refusal.specs.Order.{first}
+use Rattle.refusal.proofs.Orders.{numbered, passed, stop, on, both-pass, head-holds, step-passed}
+use Rattle.chain.specs.declared.Realization.{Realization}
+use Rattle.chain.specs.declared.Step.{Step}
+use Rattle.chain.specs.declared.Chain.{Chain}
+use Rattle.chain.specs.Faults.{sameRealization, chainTests, stepsOf}
+use Rattle.chain.specs.Convert.{startOf, endOf}
+use Rattle.chain.specs.Join.{noStep, meet, together, pairTests, joinTests, joinedSteps, joinedOf, noneOf, joinFault, joinOf}
+use Rattle.chain.proofs.Keeping.{same-self}
+use Rattle.chain.proofs.Accepted.{numbered-steps, chain-passed}
+
+-- ---- whether they meet, as the code finds it
+pub met : (z : Realization) (ss ts : List Step) → sameRealization (endOf (startOf z ts) ss) (startOf (endOf (startOf z ts) ss) ts) ≡ meet ss ts
+unfolding startOf
+met z ss [] = same-self (endOf z ss)
+met z ss (t ∷ ts) = refl
+
+-- ---- what decides
+module _ (c d : Chain) where
+  all-first : T (numbered (chainTests c))
+  all-first = numbered-steps (c .profile) (stepsOf c)
+
+  all-second : T (numbered (chainTests d))
+  all-second = numbered-steps (d .profile) (stepsOf d)
+
+  pub by-first : (first (chainTests c) ≡ 0 → ⊥) → first (chainTests c) ≡ joinFault c d
+  unfolding joinFault
+  by-first h = sym (stop (chainTests c) _ h)
+
+  module _ (good : first (chainTests c) ≡ 0) where
+    past-first : first (joinTests c d) ≡ first (chainTests d ++ pairTests c d)
+    past-first = on (chainTests c) _ (passed (chainTests c) all-first good)
+
+    pub by-second : (first (chainTests d) ≡ 0 → ⊥) → first (chainTests d) ≡ joinFault c d
+    unfolding joinFault
+    by-second h = sym (past-first ∙ stop (chainTests d) _ h)
+
+    pub by-pair : first (chainTests d) ≡ 0 → first (pairTests c d) ≡ joinFault c d
+    unfolding joinFault
+    by-pair other = sym (past-first ∙ on (chainTests d) _ (passed (chainTests d) all-second other))
+
+  -- what two chains keep that are not refused: each at most eight steps, and so the two
+  pub accepted-few : joinFault c d ≡ 0 → (c .length ≤ 8) × (d .length ≤ 8) × (together c d ≤ 8)
+  unfolding joinFault
+  accepted-few e =
+      let p = both-pass (chainTests c) _ all-first e in
+      let q = both-pass (chainTests d) _ all-second (p .1) in
+      let m = head-holds (meet (stepsOf c) (stepsOf d)) _ _ (q .1) in
+      let n = step-passed (ltb 8 (together c d)) _ _ tt (m .1) in
+      (chain-passed c (p .0) .0, chain-passed d (q .0) .0, ltb-false 8 (together c d) (n .0))
+
+  pub accepted-lengths : joinOf c d .refusal ≡ 0 → (c .length ≤ 8) × (d .length ≤ 8) × (together c d ≤ 8)
+  unfolding joinOf
+  accepted-lengths e = accepted-few e
+
+  pub refused-is : (joinFault c d ≡ 0 → ⊥) → joinOf c d ≡ record { chain = noneOf c; refusal = joinFault c d }
+  unfolding joinOf
+  refused-is h = rw (ne-eqb (joinFault c d) 0 h)
+
+  pub accepted-is : joinFault c d ≡ 0 → joinOf c d ≡ record { chain = joinedOf c d; refusal = joinFault c d }
+  unfolding joinOf
+  accepted-is e = rw (eq-eqb (joinFault c d) 0 e)
+
+-- ---- what stands where
+append-below : (xs ys : List Step) (i : ℕ) → i < length xs → getD (xs ++ ys) i noStep ≡ getD xs i noStep
+append-below [] ys i h = absurd (NatL.not-suc-le-zero h)
+append-below (x ∷ xs) ys zero h = refl
+append-below (x ∷ xs) ys (suc i) h = append-below xs ys i (NatL.le-of-suc-le-suc h)
+
+pub within : (c : Chain) → length (c .steps) ≡ 8 → c .length ≤ 8 → length (stepsOf c) ≡ c .length
+within c l h = omega (arith, length-take (c .length) (c .steps))
+
+module _ (c d : Chain) (lc : length (c .steps) ≡ 8) (ld : length (d .steps) ≡ 8) (few : c .length + d .length ≤ 8) where
+  nc : length (stepsOf c) ≡ c .length
+  nc = within c lc (omega arith)
+
+  nd : length (stepsOf d) ≡ d .length
+  nd = within d ld (omega arith)
+
+  pub counted : c .length + d .length ≡ together c d
+  counted = omega (arith, nc, nd)
+
+  pub eight-places : length (joinedSteps c d) ≡ 8
+  unfolding joinedSteps
+  eight-places =
+      omega (arith, length-append (stepsOf c) (stepsOf d ++ drop (together c d) (c .steps)), length-append (stepsOf d) (drop (together c d) (c .steps)), length-drop (together c d) (c .steps), nc, nd)
+
+  module _ (i : ℕ) where
+    pub in-first : i < c .length → getD (c .steps) i noStep ≡ getD (joinedSteps c d) i noStep
+    unfolding joinedSteps
+    in-first h = sym (append-below (stepsOf c) _ i (omega (arith, nc)) ∙ getD-take (c .length) (c .steps) i noStep h)
+
+    -- past the first chain's steps
+    beyond : c .length ≤ i → getD (joinedSteps c d) i noStep ≡ getD (stepsOf d ++ drop (together c d) (c .steps)) (i - c .length) noStep
+    unfolding joinedSteps
+    beyond h =
+        let e : i ≡ length (stepsOf c) + (i - c .length) = omega (arith, nc) in
+        ap (λ (k : ℕ). getD (stepsOf c ++ (stepsOf d ++ drop (together c d) (c .steps))) k noStep) e ∙ getD-append-add (stepsOf c) _ (i - c .length) noStep
+
+    pub in-second : c .length ≤ i → i - c .length < d .length → getD (d .steps) (i - c .length) noStep ≡ getD (joinedSteps c d) i noStep
+    in-second h l = sym (beyond h ∙ append-below (stepsOf d) _ (i - c .length) (omega (arith, nd)) ∙ getD-take (d .length) (d .steps) (i - c .length) noStep l)
+
+    pub in-neither : c .length ≤ i → d .length ≤ i - c .length → getD (c .steps) i noStep ≡ getD (joinedSteps c d) i noStep
+    in-neither h l =
+        let e : i - c .length ≡ length (stepsOf d) + (i - c .length - d .length) = omega (arith, nd) in
+        let f : together c d + (i - c .length - d .length) ≡ i = omega (arith, nc, nd) in
+        sym (beyond h
+        ∙ ap (λ (k : ℕ). getD (stepsOf d ++ drop (together c d) (c .steps)) k noStep) e ∙ getD-append-add (stepsOf d) _ (i - c .length - d .length) noStep
+        ∙ getD-drop (together c d) (c .steps) (i - c .length - d .length) noStep ∙ ap (λ (k : ℕ). getD (c .steps) k noStep) f)
+
+-- eight places, one by one
+pub each : (l : List Step) → length l ≡ 8
+    → getD l 0 noStep ∷ getD l 1 noStep ∷ getD l 2 noStep ∷ getD l 3 noStep ∷ getD l 4 noStep ∷ getD l 5 noStep ∷ getD l 6 noStep ∷ getD l 7 noStep ∷ [] ≡ l
+each [] e = absurd (omega arith)
+each (a ∷ []) e = absurd (omega arith)
+each (a ∷ b ∷ []) e = absurd (omega arith)
+each (a ∷ b ∷ c ∷ []) e = absurd (omega arith)
+each (a ∷ b ∷ c ∷ d ∷ []) e = absurd (omega arith)
+each (a ∷ b ∷ c ∷ d ∷ f ∷ []) e = absurd (omega arith)
+each (a ∷ b ∷ c ∷ d ∷ f ∷ g ∷ []) e = absurd (omega arith)
+each (a ∷ b ∷ c ∷ d ∷ f ∷ g ∷ h ∷ []) e = absurd (omega arith)
+each (a ∷ b ∷ c ∷ d ∷ f ∷ g ∷ h ∷ i ∷ []) e = refl
+each (a ∷ b ∷ c ∷ d ∷ f ∷ g ∷ h ∷ i ∷ j ∷ l) e = absurd (omega arith)
+
+-- two chains that are accepted have at most eight steps by their lengths
+pub few-together : (c d : Chain) → length (c .steps) ≡ 8 → length (d .steps) ≡ 8 → joinFault c d ≡ 0 → c .length + d .length ≤ 8
+few-together c d lc ld e =
+    let a = accepted-few c d e in
+    omega (arith, a .2, within c lc (a .0), within d ld (a .1))

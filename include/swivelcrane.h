@@ -6,7 +6,8 @@
  *
  * Answers. A call answers 0 and writes its results, or answers a refusal number (enum swivelcrane_refusal) or
  * SWIVELCRANE_WRONG_LENGTH, and then writes nothing. swivelcrane_sheet and swivelcrane_plan answer the length of what
- * they wrote, or minus SWIVELCRANE_WRONG_LENGTH; swivelcrane_join the count of numbers, or minus the number. Every input has its answer: nothing has to be checked beforehand.
+ * they wrote, or minus SWIVELCRANE_WRONG_LENGTH; swivelcrane_join the count of numbers, or minus the number. Every input has
+ * its answer: nothing has to be checked beforehand.
  *
  * Every array is handed over as a pointer and the number of its elements. A pointer must be valid for that many elements,
  * also where there are none; arrays that are written must not overlap others of the same call. There is no state: calls
@@ -67,9 +68,9 @@ enum swivelcrane_refusal {
 #define SWIVELCRANE_POINT_NUMBERS 7
 
 /* Converts a point along a chain (forward) or back (inverse). The profile is the edition of the circular that the chain is made
- * under: 2021, or 2009, which has datums 1, 2, 3, 4, 5 and 7 and steps 'T' and 'B' alone. The chain has 13 numbers a step; no step
- * at all is a chain too, and more than eight are refused with 6. Refusals: the profile's year 2; chain 6, then each step 2, 3, 25,
- * 4, 5; point 2, 3, 25, 9, 10; then 11. */
+ * under: 2021, also where the job names none, or 2009, which has datums 1, 2, 3, 4, 5 and 7 and steps 'T' and 'B' alone. The chain
+ * has 13 numbers a step; no step at all is a chain too, and more than eight are refused with 6. Refusals: the profile's year 2; chain
+ * 6, then each step 2, 3, 25, 4, 5; point 2, 3, 25, 9, 10; then 11. */
 int64_t swivelcrane_forward(int64_t profile, const int64_t *chain, size_t chain_length, const int64_t *point, size_t point_length,
                             int64_t *out, size_t out_length);
 int64_t swivelcrane_inverse(int64_t profile, const int64_t *chain, size_t chain_length, const int64_t *point, size_t point_length,

@@ -13,6 +13,46 @@ use Rattle.line.specs.Readers.{judged, readAs}
 use Rattle.line.specs.Reading.{TellsLine, Told, Framed}
 use Rattle.line.proofs.Walk as W
 
+-- ---- whatever a line that says this is answered
+module _ {A R : Type 0} (answer : Option A → R) (form : Form A) (line : List ℕ) (end : ℕ) (framed : Framed line end (body line)) where
+  -- too long, or no line feed at its end
+  pub no-frame : length line ≤ end → answer none ≡ answer (said form line)
+  no-frame h = go (body line) framed
+    where
+      go : (o : Option (List ℕ)) → Framed line end o → answer none ≡ answer (inBody form o)
+      go none f = refl
+      go (some s) f = absurd (omega arith)
+
+  module _ {C : Type 0} (h : end < length line) {carried : A → C} {v : C} {next : ℕ} (told : Told (take end line) carried form 0 v next) where
+    by-frame : (x : R) → ((o : Option A) → TellsLine (take end line) carried o v next → x ≡ answer o) → x ≡ answer (said form line)
+    by-frame x k = go (body line) framed
+      where
+        go : (o : Option (List ℕ)) → Framed line end o → x ≡ answer (inBody form o)
+        go none f = absurd (omega arith)
+        go (some s) f =
+            rw (← f .1)
+            (k (filled form (fields (take end line)))
+            (rw (W.from-start (take end line)) at (told .tells)))
+
+    body-length : length (take end line) ≡ end
+    body-length = length-take-le end line (omega arith)
+
+    -- a field bad, missing or left over
+    pub no-form : (next ≡ end + 1 → ⊥) → answer none ≡ answer (said form line)
+    no-form n = by-frame (answer none) go
+      where
+        go : (o : Option A) → TellsLine (take end line) carried o v next → answer none ≡ answer o
+        go none t = refl
+        go (some a) t = absurd (n (t .1 ∙ ap (λ (k : ℕ). k + 1) body-length))
+
+    pub of-form : (x : R) → next ≡ end + 1 → ((a : A) → v ≡ carried a → x ≡ answer (some a)) → x ≡ answer (said form line)
+    of-form x n e = by-frame x go
+      where
+        go : (o : Option A) → TellsLine (take end line) carried o v next → x ≡ answer o
+        go none t = absurd (t (n ∙ ap (λ (k : ℕ). k + 1) (sym body-length)))
+        go (some a) t = e a (t .0)
+
+-- ---- a line whose record is judged by its fault
 -- a fault that cannot tell a record from the record as it is carried, and finds none only where the two are one
 pub record Careful {A : Type 0} (faultOf : A → ℕ) (carried : A → A) : Type 0 where
   pub same : (a : A) → faultOf (carried a) ≡ faultOf a
@@ -46,41 +86,12 @@ module _ {A R : Type 0} (faultOf : A → ℕ) (good : A → R) (refused : ℕ �
       abbrev Answer : R
       Answer = readAs faultOf good refused malformed (said form line)
 
-      -- too long, or no line feed at its end
       pub bad-frame : length line ≤ end → malformed ≡ Answer
-      bad-frame h = go (body line) framed
-        where
-          go : (o : Option (List ℕ)) → Framed line end o → malformed ≡ readAs faultOf good refused malformed (inBody form o)
-          go none f = refl
-          go (some s) f = absurd (omega arith)
+      bad-frame h = no-frame (readAs faultOf good refused malformed) form line end framed h
 
       module _ (h : end < length line) {v : A} {next : ℕ} (told : Told (take end line) carried form 0 v next) where
-        by-frame : (x : R)
-            → ((o : Option A) → TellsLine (take end line) carried o v next → x ≡ readAs faultOf good refused malformed o)
-            → x ≡ Answer
-        by-frame x k = go (body line) framed
-          where
-            go : (o : Option (List ℕ)) → Framed line end o → x ≡ readAs faultOf good refused malformed (inBody form o)
-            go none f = absurd (omega arith)
-            go (some s) f =
-                rw (← f .1)
-                (k (filled form (fields (take end line)))
-                (rw (W.from-start (take end line)) at (told .tells)))
-
-        body-length : length (take end line) ≡ end
-        body-length = length-take-le end line (omega arith)
-
-        -- a field bad, missing or left over
         pub bad-form : (next ≡ end + 1 → ⊥) → malformed ≡ Answer
-        bad-form n = by-frame (malformed) go
-          where
-            go : (o : Option A) → TellsLine (take end line) carried o v next → malformed ≡ readAs faultOf good refused malformed o
-            go none t = refl
-            go (some a) t = absurd (n (t .1 ∙ ap (λ (k : ℕ). k + 1) body-length))
+        bad-form n = no-form (readAs faultOf good refused malformed) form line end framed h told n
 
         pub good-form : (x : R) → next ≡ end + 1 → x ≡ judged faultOf good refused v → x ≡ Answer
-        good-form x n e = by-frame x go
-          where
-            go : (o : Option A) → TellsLine (take end line) carried o v next → x ≡ readAs faultOf good refused malformed o
-            go none t = absurd (t (n ∙ ap (λ (k : ℕ). k + 1) (sym body-length)))
-            go (some a) t = e ∙ ap (judged faultOf good refused) (t .0) ∙ judged-same a
+        good-form x n e = of-form (readAs faultOf good refused malformed) form line end framed h told x n (λ a q. e ∙ ap (judged faultOf good refused) q ∙ judged-same a)

@@ -1,4 +1,4 @@
--- Something is found wrong with a line exactly where the line is not of its form. The form's fields and their classes are held side by side, once for all four.
+-- Something is found wrong with a line exactly where the line is not of its form. The form's fields and their classes are held side by side, once for all five.
 -- Assumes nothing.
 use Prim.Native.Nat.{ℕ, suc, _+_, _<_}
 use mathlib.Core.Path.{_≡_, refl, sym, ap, _∙_}
@@ -17,8 +17,8 @@ use Rattle.line.specs.Bytes.{letterT, letterV, letterB, letterF, letterP
 use Rattle.line.specs.Fields.{body, fields, Form, ends, field, either, into, taken, onward, filled, inBody, said, single, oneOf, letterOf}
 use Rattle.line.specs.Name.{nameOf}
 use Rattle.line.specs.Number.{numberOf}
-use Rattle.line.specs.Forms.{pointForm, stepOf, threeForm, shift, velocity, bursaWolfForm, frameForm, kindForm, stepForm, originForm, geodeticForm}
-use Rattle.line.specs.Malformed.{Class, letters, identifier, number, Shape, numbers, pointShape, originShape, geodeticShape, byteOf, kindShape, stepShape, unread, fieldFault, offending, endOf, miscounted, orNext, fieldsFault, bodyFault, faultOf}
+use Rattle.line.specs.Forms.{pointForm, stepOf, threeForm, shift, velocity, bursaWolfForm, frameForm, kindForm, stepForm, originForm, geodeticForm, editionForm}
+use Rattle.line.specs.Malformed.{Class, letters, identifier, number, Shape, numbers, pointShape, originShape, geodeticShape, editionShape, byteOf, kindShape, stepShape, unread, fieldFault, offending, endOf, miscounted, orNext, fieldsFault, bodyFault, faultOf}
 use Rattle.line.proofs.Malformed.{nothing}
 
 -- ---- a field is good, and all of them are
@@ -161,7 +161,7 @@ filled-good (field read k) (c ∷ cs) (f ∷ fs) h = go (read f) (h .0) (λ b e.
     go none e on = rw (← e)
     go (some b) e on = rw (← e) (on b refl)
 
--- ---- the four forms
+-- ---- the five forms
 read-good : {A : Type 0} (n : ℕ) (o : Option A) → 0 < n → isSome o ≡ eqb (unread n o) 0
 read-good n none h = sym (ne-eqb n 0 (λ e. omega arith))
 read-good n (some a) h = refl
@@ -186,6 +186,10 @@ origin-like fs = (a-letter _, λ _. (a-number, λ _. (a-number, λ _. (a-number,
 geodetic-like : (fs : List (List ℕ)) → Like geodeticForm (geodeticShape fs)
 unfolding Like geodeticForm
 geodetic-like fs = (a-letter _, λ _. (an-id, λ _. (a-number, λ _. (a-number, λ _. tt))))
+
+edition-like : (fs : List (List ℕ)) → Like editionForm (editionShape fs)
+unfolding Like editionForm
+edition-like fs = (a-letter _, λ _. (a-number, λ _. tt))
 
 kind-like : (t v b : Bool)
     → Like (either t (threeForm shift) (either v (threeForm velocity) (either b bursaWolfForm frameForm))) (pick t (numbers 3) (pick v (numbers 3) (pick b (letters (letterP ∷ letterC ∷ []) ∷ numbers 7) [])))
@@ -273,3 +277,6 @@ origin-exactly = law originForm originShape (λ fs. like-on originForm (originSh
 
 pub geodetic-exactly : (line : List ℕ) → Exactly (said geodeticForm line) (faultOf geodeticShape line)
 geodetic-exactly = law geodeticForm geodeticShape (λ fs. like-on geodeticForm (geodeticShape fs) fs (geodetic-like fs))
+
+pub edition-exactly : (line : List ℕ) → Exactly (said editionForm line) (faultOf editionShape line)
+edition-exactly = law editionForm editionShape (λ fs. like-on editionForm (editionShape fs) fs (edition-like fs))

@@ -27,12 +27,14 @@ use Rattle.line.specs.declared.OriginLine.{OriginLine}
 use Rattle.line.specs.declared.OriginLine.the-variants as origin-line
 use Rattle.line.specs.declared.GeodeticLine.{GeodeticLine}
 use Rattle.line.specs.declared.GeodeticLine.the-variants as geodetic-line
+use Rattle.line.specs.declared.EditionLine.{EditionLine}
+use Rattle.line.specs.declared.EditionLine.the-variants as edition-line
 use Rattle.line.specs.Fields.{longestLine, body, fields, Form, ends, field, taken, onward, filled, inBody, said}
 use Rattle.line.specs.Name.{nameOf}
 use Rattle.line.specs.Number.{numberOf}
-use Rattle.line.specs.Forms.{pointForm, stepForm, originForm, geodeticForm}
-use Rattle.line.specs.Malformed.{Shape, unknownShape, faultOf}
-use Rattle.line.specs.Readers.{strangeFault, readAs, readPoint, readStep, readOrigin, geodeticFault, readGeodetic}
+use Rattle.line.specs.Forms.{pointForm, stepForm, originForm, geodeticForm, editionForm}
+use Rattle.line.specs.Malformed.{Shape, editionShape, unknownShape, faultOf}
+use Rattle.line.specs.Readers.{strangeFault, readAs, readPoint, readStep, readOrigin, geodeticFault, readGeodetic, editionAs, readEdition}
 use Rattle.line.proofs.Malformed.{nothing, spread, fields-spread, body-length, fault-short, fault-inside, fault-low}
 
 -- ---- a form of n fields, none of which is read from no bytes
@@ -129,6 +131,14 @@ origin-outcome P line G M B = outcome originFault origin-fault-short origin-line
 pub geodetic-outcome : (P : GeodeticLine → Type 0) (line : List ℕ) → ((g : Geodetic) → 8 ≤ length line → P (geodetic-line.Geodetic g)) → ((f : Fault) → Small line f → P (geodetic-line.Malformed f)) → ((n : ℕ) → n < 100 → P (geodetic-line.Refused n)) → P (readGeodetic line)
 unfolding readGeodetic
 geodetic-outcome P line G M B = outcome geodeticFault geodetic-fault-short geodetic-line.Geodetic geodetic-line.Refused _ P (said geodeticForm line) (λ g e f. G g (geodetic-long line g e)) (M _ (fault-small _ line)) B
+
+pub edition-outcome : (P : EditionLine → Type 0) (line : List ℕ) → ((y : ℤ) → P (edition-line.Edition y)) → ((f : Fault) → Small line f → P (edition-line.Malformed f)) → P (readEdition line)
+unfolding readEdition
+edition-outcome P line G M = go (said editionForm line)
+  where
+    go : (o : Option ℤ) → P (editionAs (edition-line.Malformed (faultOf editionShape line)) o)
+    go none = M _ (fault-small _ line)
+    go (some y) = G _
 
 -- ---- a reader that gives a record has found no fault
 pub point-sound : (y : ℤ) (line : List ℕ) (p : Point) → readPoint y line ≡ point-line.Point p → pointFault y p ≡ 0

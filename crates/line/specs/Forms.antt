@@ -13,7 +13,7 @@ use Rattle.chain.specs.declared.Kind.the-variants.{Shift, Velocity, BursaWolf, 
 use Rattle.chain.specs.declared.Step.{Step}
 use Rattle.angle.specs.declared.OriginNumbers.{OriginNumbers}
 use Rattle.line.specs.declared.Geodetic.{Geodetic}
-use Rattle.line.specs.Bytes.{letterP, letterS, letterT, letterV, letterB, letterF, letterC, letterO, letterG}
+use Rattle.line.specs.Bytes.{letterP, letterS, letterT, letterV, letterB, letterF, letterC, letterO, letterG, letterE}
 use Rattle.line.specs.Fields.{Form, ends, field, either, into, letter, letterOf}
 use Rattle.line.specs.Name.{nameOf}
 use Rattle.line.specs.Number.{numberOf}
@@ -104,3 +104,10 @@ geodeticForm =
     field numberOf λ latitude.
     field numberOf λ longitude.
     ends (record { id = id; latitude = latitude; longitude = longitude })
+
+-- E, year
+unfoldable pub editionForm : Form ℤ
+editionForm =
+    field (letter letterE) λ _.
+    field numberOf λ year.
+    ends year

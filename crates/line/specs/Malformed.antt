@@ -8,7 +8,7 @@ use lib.ListN.{length, getD, replicate}
 use Rattle.refusal.specs.Numbers as refusal
 use Rattle.refusal.specs.Order.{pick}
 use Rattle.line.specs.declared.Fault.{Fault}
-use Rattle.line.specs.Bytes.{lineFeed, letterP, letterS, letterT, letterV, letterB, letterF, letterC, letterO, letterG}
+use Rattle.line.specs.Bytes.{lineFeed, letterP, letterS, letterT, letterV, letterB, letterF, letterC, letterO, letterG, letterE}
 use Rattle.line.specs.Fields.{longestLine, body, fields, single, letterOf}
 use Rattle.line.specs.Name.{nameOf}
 use Rattle.line.specs.Number.{numberOf}
@@ -38,6 +38,10 @@ originShape fs = letters (letterO ∷ []) ∷ numbers 5
 -- G, id, latitude, longitude
 abbrev pub geodeticShape : Shape
 geodeticShape fs = letters (letterG ∷ []) ∷ identifier ∷ numbers 2
+
+-- E, year
+abbrev pub editionShape : Shape
+editionShape fs = letters (letterE ∷ []) ∷ numbers 1
 
 -- a line that begins with no letter which its program reads
 abbrev pub unknownShape : Shape

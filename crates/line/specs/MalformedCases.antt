@@ -12,7 +12,7 @@ use Rattle.refusal.specs.Numbers as refusal
 use Rattle.refusal.specs.Order.{pick}
 use Rattle.line.specs.declared.Fault.{Fault}
 use Rattle.line.specs.Bytes.{tab, lineFeed, letterP}
-use Rattle.line.specs.Malformed.{Shape, pointShape, originShape, geodeticShape, stepShape, unknownShape, fault, faultOf}
+use Rattle.line.specs.Malformed.{Shape, pointShape, originShape, geodeticShape, editionShape, stepShape, unknownShape, fault, faultOf}
 
 -- bytes as they stand
 abbrev bytes : String → List ℕ
@@ -47,6 +47,7 @@ good =
     ∷ trial stepShape (line "S|F|9|2010000|10|2010000") 0 0
     ∷ trial originShape (line "O|3|1440000000|36720000000|0|0") 0 0
     ∷ trial geodeticShape (line "G|A1|1440000000|36720000000") 0 0
+    ∷ trial editionShape (line "E|2009") 0 0
     ∷ []
 
 -- no line feed, over 200 bytes with it (the place is never past 200), and an unknown letter besides; a line of 200 bytes is not too long
@@ -67,6 +68,7 @@ letterCases =
     trial unknownShape (line "") refusal.letter 0
     ∷ trial pointShape (line "") refusal.letter 0
     ∷ trial pointShape (line "PP|A1|1|1|6|2000000|1|2|3") refusal.letter 0
+    ∷ trial editionShape (line "E2009") refusal.letter 0
     ∷ trial stepShape (line "S|X|6") refusal.letter 2
     ∷ trial stepShape (line "S||6|2000000|6|2006586|1|2|3") refusal.letter 2
     ∷ trial stepShape (line "S|B|1|0|5|2000000|X|1|2|3|4|5|6|7") refusal.letter 18
@@ -82,6 +84,7 @@ counts =
     ∷ trial stepShape (line "S|F|9|2010000|10|2010000|") refusal.count 25
     ∷ trial pointShape (line "P|a1|01|1|6|2000000|1|2") refusal.count 23
     ∷ trial pointShape (line "P|A1|1|6|2000000|1|2|3") refusal.count 22
+    ∷ trial editionShape (line "E|02009|") refusal.count 8
     ∷ []
 
 -- an id, also where a number is bad; and numbers: the leftmost, document 01's line 4, and a line feed more at the end, which is a byte of the last field
@@ -91,6 +94,7 @@ fieldCases =
     ∷ trial geodeticShape (line "G||01|36720000000") refusal.id 2
     ∷ trial pointShape (line "P|A3|01|1|6|2000000|-113105165410|623631179950|71174811140") refusal.plain 5
     ∷ trial originShape (line "O|3|-0|+2|0|0") refusal.plain 4
+    ∷ trial editionShape (line "E|") refusal.plain 2
     ∷ trial geodeticShape (line "G|A1|1440000000|36720000000" ++ (lineFeed ∷ [])) refusal.plain 16
     ∷ []
 

@@ -18,9 +18,12 @@ use Rattle.line.specs.declared.OriginLine.the-variants as O
 use Rattle.line.specs.declared.Geodetic.{Geodetic}
 use Rattle.line.specs.declared.GeodeticLine.{GeodeticLine}
 use Rattle.line.specs.declared.GeodeticLine.the-variants as G
+use Rattle.line.specs.declared.EditionLine.{EditionLine}
+use Rattle.line.specs.declared.EditionLine.the-variants as E
 use Rattle.line.specs.Fields.{said}
-use Rattle.line.specs.Forms.{pointForm, stepForm, originForm, geodeticForm}
-use Rattle.line.specs.Malformed.{pointShape, stepShape, originShape, geodeticShape, unknownShape, faultOf}
+use Rattle.line.specs.Forms.{pointForm, stepForm, originForm, geodeticForm, editionForm}
+use Rattle.line.specs.Malformed.{pointShape, stepShape, originShape, geodeticShape, editionShape, unknownShape, faultOf}
+use Rattle.line.specs.Reading.{cappedZ}
 
 -- a line whose first letter its program does not know
 abbrev pub strangeFault : List ℕ → Fault
@@ -53,3 +56,11 @@ geodeticFault g = anglesFault (g .latitude) (g .longitude)
 -- 18 to 22, 12
 unfoldable pub readGeodetic : List ℕ → GeodeticLine
 readGeodetic line = readAs geodeticFault G.Geodetic G.Refused (G.Malformed (faultOf geodeticShape line)) (said geodeticForm line)
+
+-- 18 to 22. What the year is comes after where the line stands, so it is not examined here; it is carried up to the cap, which is no edition's year
+abbrev pub editionAs : EditionLine → Option ℤ → EditionLine
+editionAs malformed none = malformed
+editionAs malformed (some year) = E.Edition (cappedZ year)
+
+unfoldable pub readEdition : List ℕ → EditionLine
+readEdition line = editionAs (E.Malformed (faultOf editionShape line)) (said editionForm line)

@@ -9,7 +9,7 @@ use Rattle.refusal.specs.Numbers as refusal
 use Rattle.refusal.specs.Order.{pick}
 use Rattle.line.specs.declared.awaited.Awaited.{Awaited}
 use Rattle.line.specs.declared.awaited.Awaited.the-variants.{Letter, Kind, Convention, Identifier, Number, Nothing}
-use Rattle.line.specs.Bytes.{letterP, letterS, letterT, letterV, letterB, letterF, letterC, letterO, letterG}
+use Rattle.line.specs.Bytes.{letterP, letterS, letterT, letterV, letterB, letterF, letterC, letterO, letterG, letterE}
 use Rattle.line.specs.Fields.{fields}
 use Rattle.line.specs.Malformed.{Class, letters, identifier, number, Shape, numbers, kindOf, kindShape, fieldFault, offending}
 use Rattle.line.specs.Reading.{from}
@@ -23,7 +23,8 @@ restOf first kind =
     pick (eqb first letterP) (identifier ∷ numbers 7)
     (pick (eqb first letterS) (stepRest kind)
     (pick (eqb first letterO) (numbers 5)
-    (pick (eqb first letterG) (identifier ∷ numbers 2) [])))
+    (pick (eqb first letterG) (identifier ∷ numbers 2)
+    (pick (eqb first letterE) (numbers 1) []))))
 
 abbrev pub classesOf : ℕ → ℕ → List Class
 classesOf first kind = letters (first ∷ []) ∷ restOf first kind

@@ -90,6 +90,9 @@ pub fn class_at(first: u8, kind: u8, index: usize) -> Awaited
     if first == b'G' {
         return named_at(i, 2);
     }
+    if first == b'E' {
+        return number_at(i, 1);
+    }
     Awaited::Nothing
 }
 
@@ -119,5 +122,8 @@ pub fn count_of(first: u8, kind: u8) -> usize
     if first == b'O' {
         return 6;
     }
-    if first == b'G' { 4 } else { 1 }
+    if first == b'G' {
+        return 4;
+    }
+    if first == b'E' { 2 } else { 1 }
 }

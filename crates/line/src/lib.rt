@@ -4,6 +4,7 @@
 // of any length. What is refused is refused for its form first, whatever its numbers are.
 mod awaited;
 mod compare;
+mod edition_line;
 mod ends;
 mod field;
 mod geodetic_line;
@@ -19,6 +20,7 @@ mod write;
 pub use compare::later_fault;
 pub use compare::later_of_two;
 pub use compare::later_verdict;
+pub use edition_line::read_edition;
 pub use ends::line_end;
 pub use geodetic_line::read_geodetic;
 pub use origin_line::read_origin;
@@ -72,6 +74,13 @@ pub enum GeodeticLine {
     Geodetic(Geodetic),
     Malformed(Fault),
     Refused(u8),
+}
+
+// E: the edition of the circular that a job is under, by its year. The year is not examined: that is for whoever knows where the line may stand. It is carried up
+// to 10^13 in size, and a larger one as 10^13.
+pub enum EditionLine {
+    Edition(i64),
+    Malformed(Fault),
 }
 
 // Why neither of two point lines is the later one: a number of the refusal table; the line it is given for, 1 or 2, or 0 where neither alone is at fault; and the

@@ -2,6 +2,7 @@
 // hand from document 01. An accepted line prints what was read of it, a refused one its number.
 mod show;
 
+use crate::show::edition;
 use crate::show::geodetic;
 use crate::show::later;
 use crate::show::origin;
@@ -269,6 +270,21 @@ fn orders() {
     );
 }
 
+// Editions: the year is not examined by its reader, and is carried up to 10^13.
+fn editions() {
+    edition(b"E\t2009\n");
+    edition(b"E\t2010\n");
+    edition(b"E\t-2009\n");
+    edition(b"E\t99999999999999999999\n");
+    edition(b"E\t2009");
+    edition(b"E2009\n");
+    edition(b"EE\t02009\t\n");
+    edition(b"E\n");
+    edition(b"E\t02009\t\n");
+    edition(b"E\t02009\n");
+    edition(b"E\t\n");
+}
+
 fn main() {
     good_points();
     points_of_bad_form();
@@ -283,4 +299,5 @@ fn main() {
     numbers_and_names();
     faults_in_order();
     orders();
+    editions();
 }

@@ -1,6 +1,7 @@
 // How each reader's answer is printed: what was read of an accepted line; the number of a refused one, and the place of a malformed one after it; of two lines the
 // number, the line and the place.
 use libc::STDOUT_FILENO;
+use line::EditionLine;
 use line::Fault;
 use line::GeodeticLine;
 use line::LaterFault;
@@ -126,6 +127,13 @@ pub(crate) fn geodetic(l: &[u8]) {
             let id = g.id;
             projected(id, g.latitude, g.longitude);
         }
+    }
+}
+
+pub(crate) fn edition(l: &[u8]) {
+    match line::read_edition(l) {
+        EditionLine::Malformed(f) => malformed(f),
+        EditionLine::Edition(year) => pair(year, 0),
     }
 }
 

@@ -12,7 +12,7 @@ use Rattle.line.specs.Lines.{lines, lineEnd}
 use Rattle.line.specs.Text.{Wrote, refusalText}
 use Rattle.line.proofs.Lines.{piece, lines-none}
 use Rattle.line.proofs.Texts.{«then», nothing}
-use Rattle.listing.specs.Fold.{Rules, run, longestInput, printed, byLetter}
+use Rattle.listing.specs.Fold.{Rules, run, longestInput, printed, byLetter, byLetters}
 
 -- ---- a whole input: one that is too long, and any other
 module _ {S R : Type 0} (r : Rules S R) (s : S) (input : List ℕ) where
@@ -49,3 +49,10 @@ by-letter P one other line a b neither x y z = go (eqb (getD line 0 0) one) (eqb
     go true u = x
     go false true = y
     go false false = z
+
+pub by-letters : {A : Type 0} (P : A → Type 0) (one other third : ℕ) (line : List ℕ) (a b c none : A) → P a → P b → P c → P none → P (byLetters one other third line a b c none)
+by-letters P one other third line a b c none x y z w = by-letter P one other line a b _ x y (go (eqb (getD line 0 0) third))
+  where
+    go : (t : Bool) → P (pick t c none)
+    go true = z
+    go false = w

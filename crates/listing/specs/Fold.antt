@@ -41,3 +41,7 @@ pub record Prints (text input before after : List ℕ) (r : ℕ) : Type 0 where
 -- a program reads lines of two letters, told by their first byte
 abbrev pub byLetter : {A : Type 0} → ℕ → ℕ → List ℕ → A → A → A → A
 byLetter one other line a b neither = pick (eqb (getD line 0 0) one) a (pick (eqb (getD line 0 0) other) b neither)
+
+-- or of three
+abbrev pub byLetters : {A : Type 0} → ℕ → ℕ → ℕ → List ℕ → A → A → A → A → A
+byLetters one other third line a b c none = byLetter one other line a b (pick (eqb (getD line 0 0) third) c none)

@@ -11,7 +11,7 @@ use Rattle.refusal.proofs.Orders.{first-short}
 use Rattle.chain.specs.declared.Point.{Point}
 use Rattle.chain.specs.declared.Step.{Step}
 use Rattle.chain.specs.declared.Answer.{Answer}
-use Rattle.chain.specs.Faults.{latest, pointFault}
+use Rattle.chain.specs.Faults.{pointFault}
 use Rattle.chain.specs.Convert.{forwardOf}
 use Rattle.chain.specs.Prepared.{chainOf}
 use Rattle.chain.proofs.Outcomes as conversion
@@ -19,16 +19,17 @@ use Rattle.line.specs.declared.Fault.{Fault}
 use Rattle.line.specs.declared.StepLine.{StepLine}
 use Rattle.line.specs.declared.PointLine.{PointLine}
 use Rattle.line.specs.declared.PointLine.the-variants as point-line
-use Rattle.line.specs.Bytes.{letterS, letterP}
-use Rattle.line.specs.Readers.{strangeFault, readPoint, readStep}
+use Rattle.line.specs.declared.EditionLine.{EditionLine}
+use Rattle.line.specs.Bytes.{letterS, letterP, letterE}
+use Rattle.line.specs.Readers.{strangeFault, readPoint, readStep, readEdition}
 use Rattle.line.proofs.Lengths.{length-point}
-use Rattle.line.proofs.Readers.{Small, strange-small, point-outcome, step-outcome}
-use Rattle.listing.proofs.Fold.{by-letter}
+use Rattle.line.proofs.Readers.{Small, strange-small, point-outcome, step-outcome, edition-outcome}
+use Rattle.listing.proofs.Fold.{by-letters}
 use Rattle.listing.specs.Fold.{roomFor}
 use Rattle.listing.proofs.Room.{Roomy, refusal-fits, printed-fits}
 use Rattle.sheet_rules.specs.declared.Reply.{Reply}
 use Rattle.sheet_rules.specs.declared.Reply.the-variants as reply
-use Rattle.sheet_rules.specs.Sheet.{Sheet, fresh, rules, replyText, refuse, malformed, stepTests, stepReply, conversionReply, pointReply, replyOf, sheetOf}
+use Rattle.sheet_rules.specs.Sheet.{Sheet, fresh, rules, replyText, refuse, malformed, stepTests, stepReply, conversionReply, pointReply, editionTests, editionReply, replyOf, sheetOf}
 use Rattle.sheet_rules.proofs.Laws.{next-line}
 
 -- a reply is within the room of a line of n bytes
@@ -42,28 +43,32 @@ module _ (s : Sheet) (l : List ℕ) (some : 0 < length l) (few : s .line < 10000
   bad-form : (f : Fault) → Small l f → Fits (length l) (malformed s f)
   bad-form f h = refusal-fits l (s .line) (f .number) (f .place) some few (h .number) (h .inside) (h .low)
 
-  step : Fits (length l) (stepReply s (readStep latest l))
-  step = step-outcome latest (λ (r : StepLine). Fits (length l) (stepReply s r)) l (λ t f. good (first (stepTests s t)) (first-short (stepTests s t) tt)) bad-form refused
-    where
-      good : (n : ℕ) → n < 100 → Fits (length l) (unless n (refuse s) reply.Nothing)
-      good zero h = omega arith
-      good (suc n) h = refused (suc n) h
+  -- what is accepted prints nothing
+  unless-refused : (n : ℕ) → n < 100 → Fits (length l) (unless n (refuse s) reply.Nothing)
+  unless-refused zero h = omega arith
+  unless-refused (suc n) h = refused (suc n) h
+
+  step : Fits (length l) (stepReply s (readStep (s .profile) l))
+  step = step-outcome (s .profile) (λ (r : StepLine). Fits (length l) (stepReply s r)) l (λ t f. unless-refused (first (stepTests s t)) (first-short (stepTests s t) tt)) bad-form refused
+
+  edition : Fits (length l) (editionReply s (readEdition l))
+  edition = edition-outcome (λ (r : EditionLine). Fits (length l) (editionReply s r)) l (λ y. unless-refused (first (editionTests s y)) (first-short (editionTests s y) tt)) bad-form
 
   -- a good point line has 18 bytes or more, and the point's new line at most 80
-  point : Fits (length l) (pointReply s (readPoint latest l))
-  point = point-outcome latest (λ (r : PointLine). Fits (length l) (pointReply s r)) l good bad-form refused
+  point : Fits (length l) (pointReply s (readPoint (s .profile) l))
+  point = point-outcome (s .profile) (λ (r : PointLine). Fits (length l) (pointReply s r)) l good bad-form refused
     where
-      good : (p : Point) → pointFault latest p ≡ 0 → 18 ≤ length l → Fits (length l) (pointReply s (point-line.Point p))
+      good : (p : Point) → pointFault (s .profile) p ≡ 0 → 18 ≤ length l → Fits (length l) (pointReply s (point-line.Point p))
       good p f h = go (s .refused)
         where
-          go : (b : Bool) → Fits (length l) (pick b (refuse s refusal.earlier) (conversionReply s (forwardOf (chainOf latest (s .steps)) p)))
+          go : (b : Bool) → Fits (length l) (pick b (refuse s refusal.earlier) (conversionReply s (forwardOf (chainOf (s .profile) (s .steps)) p)))
           go true = refused refusal.earlier (omega arith)
           go false =
-              conversion.outcome (chainOf latest (s .steps)) p (λ (a : Answer). Fits (length l) (conversionReply s a)) f (λ q k. omega (arith, length-point latest q k)) refused
+              conversion.outcome (chainOf (s .profile) (s .steps)) p (λ (a : Answer). Fits (length l) (conversionReply s a)) f (λ q k. omega (arith, length-point (s .profile) q k)) refused
 
   short : Fits (length l) (replyOf s l)
   unfolding replyOf
-  short = by-letter (Fits (length l)) letterS letterP l _ _ _ step point (bad-form (strangeFault l) (strange-small l))
+  short = by-letters (Fits (length l)) letterS letterP letterE l _ _ _ _ step point edition (bad-form (strangeFault l) (strange-small l))
 
 pub roomy : Roomy rules (λ (s : Sheet). s .line)
 roomy = record { counts = next-line; short = short }

@@ -2,9 +2,9 @@
 use mathlib.Core.Path.{_≡_}
 use mathlib.Core.Bool.{Bool}
 use mathlib.Core.List.{List}
-use Prim.Native.Nat.{ℕ, _+_}
+use Prim.Native.Nat.{ℕ, _+_, _<_}
 use lib.IntN.{ℤ}
-use Rattle.chain.specs.Faults.{latest}
+use lib.ListN.{length}
 use Rattle.chain.specs.Prepared as prepared
 use Rattle.sheet_rules.specs.declared.State.{State}
 use Rattle.sheet_rules.specs.declared.Reply.{Reply}
@@ -15,9 +15,12 @@ use Rattle.sheet_rules.specs.Sheet.{Sheet}
 -- the state and the numbers hold the sheet
 pub record Holds (st : State) (numbers : List ℤ) (s : Sheet) : Type 0 where
   pub line : st .line ≡ s .line
+  pub profile : st .profile ≡ s .profile
   pub refused : st .refused ≡ s .refused
   pub closed : st .closed ≡ s .closed
-  pub chain : prepared.Holds latest numbers (s .steps)
+  pub chain : prepared.Holds (st .profile) numbers (s .steps)
+  -- no line gave more than one step: on the first there is none yet, so that an edition has none to judge
+  pub counted : length (s .steps) < s .line
 
 -- what was decided on a line: the reply to it, and the sheet after it held
 pub record Gave (answer : Reply) (next : Sheet) (numbers : List ℤ) (r : Decided) : Type 0 where
@@ -26,7 +29,7 @@ pub record Gave (answer : Reply) (next : Sheet) (numbers : List ℤ) (r : Decide
 
 -- the state after a line, and what is decided on a refused one
 unfoldable pub afterIn : State → Bool → Bool → State
-afterIn st refused closed = record { line = st .line + 1; refused = refused; closed = closed }
+afterIn st refused closed = record { line = st .line + 1; profile = st .profile; refused = refused; closed = closed }
 
 unfoldable pub refusedIn : State → ℕ → ℕ → Bool → Bool → Decided
 refusedIn st number place refused closed = record { reply = reply.Refused (st .line) number place; state = afterIn st refused closed }

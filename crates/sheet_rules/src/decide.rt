@@ -1,12 +1,15 @@
 // One line decided by value, with nothing printed. The whole input is a module below this one, so that what these functions ask of their caller stays theirs.
 ghost use mathlib.Core.Path.{_≡_};
 ghost use Prim.Native.Nat.{_<_};
+ghost use lib.IntN.{ℤ};
 ghost use lib.ListN.{length};
-ghost use Rattle.chain.specs.Faults.{latest, pointFault, stepFault};
-ghost use Rattle.line.specs.Readers.{readPoint, readStep};
+ghost use mathlib.Core.List.{List};
+ghost use Rattle.chain.specs.Faults.{pointFault, stepFault};
+ghost use Rattle.line.specs.Readers.{readPoint, readStep, readEdition};
 ghost use Rattle.line.specs.declared.StepLine.the-variants as step-line;
 ghost use Rattle.line.specs.declared.PointLine.the-variants as point-line;
-ghost use Rattle.sheet_rules.specs.Sheet.{Sheet, stepReply, afterStep, pointReply, afterPoint, replyOf, nextOf};
+ghost use Rattle.line.specs.declared.EditionLine.the-variants as edition-line;
+ghost use Rattle.sheet_rules.specs.Sheet.{Sheet, stepReply, afterStep, pointReply, afterPoint, editionReply, afterEdition, replyOf, nextOf};
 ghost use Rattle.sheet_rules.specs.State.{Holds, Gave, afterIn, refusedIn};
 use crate::Decided;
 use crate::Reply;
@@ -15,6 +18,7 @@ use chain::Answer;
 use chain::Point;
 use chain::Prepared;
 use chain::Step;
+use line::EditionLine;
 use line::Fault;
 use line::PointLine;
 use line::StepLine;
@@ -28,6 +32,7 @@ fn after(state: State, refused: bool, closed: bool) -> State
 {
     State {
         line: state.line + 1,
+        profile: state.profile,
         refused: refused,
         closed: closed,
     }
@@ -59,7 +64,7 @@ fn malformed(state: State, fault: Fault, refused: bool, closed: bool) -> Decided
 
 // A step whose line is good by itself.
 fn take_step(state: State, step: Step, numbers: &mut Prepared) -> Decided
-    requires { ⌜ (state .line < 1000000) × (stepFault latest step ≡ 0) ⌝ }
+    requires { ⌜ (state .line < 1000000) × (stepFault (state .profile) step ≡ 0) ⌝ }
     ensures { λ r. ⌜ ((s : Sheet) → Holds state (now (numbers .entry)) s → Gave (stepReply s (step-line.Step step)) (afterStep s (step-line.Step step)) (now (numbers .exit)) r) ⌝ }
 {
     if state.refused {
@@ -68,7 +73,7 @@ fn take_step(state: State, step: Step, numbers: &mut Prepared) -> Decided
     if state.closed {
         return refuse(state, refusal::MISPLACED, true, true);
     }
-    let number = chain::extend(chain::LATEST, step, numbers);
+    let number = chain::extend(state.profile, step, numbers);
     if number != 0 {
         return refuse(state, number, true, false);
     }
@@ -82,9 +87,9 @@ fn take_step(state: State, step: Step, numbers: &mut Prepared) -> Decided
 // A line that begins with S.
 fn decide_step(state: State, numbers: &mut Prepared, text: &[u8]) -> Decided
     requires { ⌜ state .line < 1000000 ⌝ }
-    ensures { λ r. ⌜ ((s : Sheet) → Holds state (now (numbers .entry)) s → Gave (stepReply s (readStep latest (now (text .entry)))) (afterStep s (readStep latest (now (text .entry)))) (now (numbers .exit)) r) ⌝ }
+    ensures { λ r. ⌜ ((s : Sheet) → Holds state (now (numbers .entry)) s → Gave (stepReply s (readStep (s .profile) (now (text .entry)))) (afterStep s (readStep (s .profile) (now (text .entry)))) (now (numbers .exit)) r) ⌝ }
 {
-    match line::read_step(chain::LATEST, text) {
+    match line::read_step(state.profile, text) {
         StepLine::Malformed(fault) => malformed(state, fault, true, state.closed),
         StepLine::Refused(number) => refuse(state, number, true, state.closed),
         StepLine::Step(step) => take_step(state, step, numbers),
@@ -93,7 +98,7 @@ fn decide_step(state: State, numbers: &mut Prepared, text: &[u8]) -> Decided
 
 // A point whose line is good by itself.
 fn convert_point(state: State, numbers: &Prepared, point: Point) -> Decided
-    requires { ⌜ (state .line < 1000000) × (pointFault latest point ≡ 0) ⌝ }
+    requires { ⌜ (state .line < 1000000) × (pointFault (state .profile) point ≡ 0) ⌝ }
     ensures { λ r. ⌜ ((s : Sheet) → Holds state (now (numbers .entry)) s → Gave (pointReply s (point-line.Point point)) (afterPoint s (point-line.Point point)) (now (numbers .entry)) r) ⌝ }
 {
     if state.refused {
@@ -114,12 +119,45 @@ fn convert_point(state: State, numbers: &Prepared, point: Point) -> Decided
 // A line that begins with P. A malformed one leaves the chain open; refused for what it says, it closes it.
 fn decide_point(state: State, numbers: &Prepared, text: &[u8]) -> Decided
     requires { ⌜ state .line < 1000000 ⌝ }
-    ensures { λ r. ⌜ ((s : Sheet) → Holds state (now (numbers .entry)) s → Gave (pointReply s (readPoint latest (now (text .entry)))) (afterPoint s (readPoint latest (now (text .entry)))) (now (numbers .entry)) r) ⌝ }
+    ensures { λ r. ⌜ ((s : Sheet) → Holds state (now (numbers .entry)) s → Gave (pointReply s (readPoint (s .profile) (now (text .entry)))) (afterPoint s (readPoint (s .profile) (now (text .entry)))) (now (numbers .entry)) r) ⌝ }
 {
-    match line::read_point(chain::LATEST, text) {
+    match line::read_point(state.profile, text) {
         PointLine::Malformed(fault) => malformed(state, fault, state.refused, state.closed),
         PointLine::Refused(number) => refuse(state, number, state.refused, true),
         PointLine::Point(point) => convert_point(state, numbers, point),
+    }
+}
+
+// An edition line of good form: accepted on the first line, where its year is a profile.
+fn take_edition(state: State, year: i64) -> Decided
+    requires { ⌜ state .line < 1000000 ⌝ }
+    ensures { λ r. ⌜ ((s : Sheet) (numbers : List ℤ) → Holds state numbers s → Gave (editionReply s (edition-line.Edition year)) (afterEdition s (edition-line.Edition year)) numbers r) ⌝ }
+{
+    if state.line != 1 {
+        return refuse(state, refusal::MISPLACED, true, state.closed);
+    }
+    if !ranges::is_profile(year) {
+        return refuse(state, refusal::RANGE, true, state.closed);
+    }
+    Decided {
+        reply: Reply::Nothing,
+        state: State {
+            line: state.line + 1,
+            profile: year,
+            refused: state.refused,
+            closed: state.closed,
+        },
+    }
+}
+
+// A line that begins with E. Refused, it counts as a refused step.
+fn decide_edition(state: State, text: &[u8]) -> Decided
+    requires { ⌜ state .line < 1000000 ⌝ }
+    ensures { λ r. ⌜ ((s : Sheet) (numbers : List ℤ) → Holds state numbers s → Gave (editionReply s (readEdition (now (text .entry)))) (afterEdition s (readEdition (now (text .entry)))) numbers r) ⌝ }
+{
+    match line::read_edition(text) {
+        EditionLine::Malformed(fault) => malformed(state, fault, true, state.closed),
+        EditionLine::Edition(year) => take_edition(state, year),
     }
 }
 
@@ -134,6 +172,9 @@ fn decide(state: State, numbers: &mut Prepared, text: &[u8]) -> Decided
     }
     if letter == b'P' {
         return decide_point(state, numbers, text);
+    }
+    if letter == b'E' {
+        return decide_edition(state, text);
     }
     let fault = line::strange(text);
     malformed(state, fault, state.refused, state.closed)

@@ -5,7 +5,7 @@ pub use decide::whole::sheet;
 
 // The reply to a line.
 enum Reply {
-    // An accepted step prints nothing.
+    // An accepted step or edition prints nothing.
     Nothing,
     // A point's new line.
     Point(chain::Point),
@@ -17,7 +17,9 @@ enum Reply {
 struct State {
     // The number of the line to come, from 1.
     line: u64,
-    // A line beginning with S was refused.
+    // The edition of the circular that the chain is under, 2009 or 2021.
+    profile: i64,
+    // A line beginning with S or E was refused.
     refused: bool,
     // A point line of good form was read.
     closed: bool,

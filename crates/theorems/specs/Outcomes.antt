@@ -1,6 +1,7 @@
 -- What is promised of conversions beside demand 3: what comes out can be handed in again, a refusal has a number of the table, and a prepared chain of a profile,
 -- extended step by step from none, answers as the conversion does, forward and inverse.
 use mathlib.Core.Path.{_≡_}
+use mathlib.Core.Bool.{true}
 use mathlib.Core.List.{List, [], _∷_, _++_}
 use Prim.Native.Nat.{ℕ, _<_}
 use lib.IntN.{ℤ, pos}

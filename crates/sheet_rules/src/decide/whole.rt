@@ -15,6 +15,7 @@ fn fresh() -> State
 {
     State {
         line: 1,
+        profile: chain::LATEST,
         refused: false,
         closed: false,
     }

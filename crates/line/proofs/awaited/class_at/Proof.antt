@@ -57,11 +57,14 @@ returns-5 c =
     c .named-at2 .ensures ∙ rest (g .first) (g .kind) (g .index) (identifier ∷ numbers 2)
     (rw (ne-eqb _ _ (c .before .before .before .before .if2 .left), ne-eqb _ _ (c .before .before .before .if3 .left), ne-eqb _ _ (c .before .before .if4 .left), eq-eqb _ _ (c .before .if5 .taken))) (omega arith)
 
+number-at-requires-2 : tie.Need-number-at-requires-2
+number-at-requires-2 c κs = search needs
+
 returns-6 : tie.Need-returns-6
-returns-6 c =
-    let g = c .before .before .before .before .before .args in
-    rest (g .first) (g .kind) (g .index) []
-    (rw (ne-eqb _ _ (c .before .before .before .if2 .left), ne-eqb _ _ (c .before .before .if3 .left), ne-eqb _ _ (c .before .if4 .left), ne-eqb _ _ (c .if5 .left))) (omega arith)
+returns-6 c = let g = c .before .before .before .before .before .before .before .args in c .number-at2 .ensures ∙ rest (g .first) (g .kind) (g .index) (numbers 1) (rw (ne-eqb _ _ (c .before .before .before .before .before .if2 .left), ne-eqb _ _ (c .before .before .before .before .if3 .left), ne-eqb _ _ (c .before .before .before .if4 .left), ne-eqb _ _ (c .before .before .if5 .left), eq-eqb _ _ (c .before .if6 .taken))) (omega arith)
+
+returns-7 : tie.Need-returns-7
+returns-7 c = let g = c .before .before .before .before .before .before .args in rest (g .first) (g .kind) (g .index) [] (rw (ne-eqb _ _ (c .before .before .before .before .if2 .left), ne-eqb _ _ (c .before .before .before .if3 .left), ne-eqb _ _ (c .before .before .if4 .left), ne-eqb _ _ (c .before .if5 .left), ne-eqb _ _ (c .if6 .left))) (omega arith)
 
 pub class-at-spec : {M : Type 1} → statement M
 class-at-spec =
@@ -77,4 +80,6 @@ class-at-spec =
     returns-4
     named-at-requires-2
     returns-5
-    returns-6)
+    number-at-requires-2
+    returns-6
+    returns-7)

@@ -1,6 +1,6 @@
 -- `sheet_rules::decide::decide` meets its contract. Assumes nothing.
 use borrow.Author.Tests.{eq-eqb, ne-eqb}
-use Rattle.line.specs.Bytes.{letterS, letterP}
+use Rattle.line.specs.Bytes.{letterS, letterP, letterE}
 use Rattle.sheet_rules.specs.Sheet.{replyOf, nextOf}
 use Rattle.sheet_rules.proofs.Laws.{gave-malformed}
 use borrow.Author.Needs.{needs}
@@ -24,15 +24,22 @@ returns-2 : tie.Need-returns-2
 unfolding replyOf nextOf
 returns-2 c = λ s h. rw (ne-eqb _ letterS (c .before .before .before .if1 .left), eq-eqb _ letterP (c .before .before .if2 .taken)) (c .decide-point .ensures s h)
 
+decide-edition-requires : tie.Need-decide-edition-requires
+decide-edition-requires c κs = search needs
+
+returns-3 : tie.Need-returns-3
+unfolding replyOf nextOf
+returns-3 c = λ s h. rw (ne-eqb _ letterS (c .before .before .before .if1 .left), ne-eqb _ letterP (c .before .before .if2 .left), eq-eqb _ letterE (c .before .if3 .taken)) (c .decide-edition .ensures s _ h)
+
 strange-requires : tie.Need-strange-requires
 strange-requires c κs = search needs
 
 malformed-requires : tie.Need-malformed-requires
 malformed-requires c κs = search needs
 
-returns-3 : tie.Need-returns-3
+returns-4 : tie.Need-returns-4
 unfolding replyOf nextOf
-returns-3 c = λ s h. rw (ne-eqb _ letterS (c .before .before .before .if1 .left), ne-eqb _ letterP (c .before .before .if2 .left)) (gave-malformed h _ _ _ _ (h .refused) (h .closed) (c .before .strange .ensures) _ (c .malformed .ensures))
+returns-4 c = λ s h. rw (ne-eqb _ letterS (c .before .before .before .before .if1 .left), ne-eqb _ letterP (c .before .before .before .if2 .left), ne-eqb _ letterE (c .before .before .if3 .left)) (gave-malformed h _ _ _ _ (h .refused) (h .closed) (c .before .strange .ensures) _ (c .malformed .ensures))
 
 pub decide-spec : {M : Type 1} → statement M
 decide-spec =
@@ -43,6 +50,8 @@ decide-spec =
     returns
     decide-point-requires
     returns-2
+    decide-edition-requires
+    returns-3
     strange-requires
     malformed-requires
-    returns-3)
+    returns-4)

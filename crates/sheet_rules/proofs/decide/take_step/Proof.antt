@@ -1,6 +1,8 @@
 -- `sheet_rules::decide::take_step` meets its contract. Assumes nothing.
-use mathlib.Core.Path.{refl, sym, _∙_}
+use mathlib.Core.Path.{_≡_, refl, sym, _∙_}
 use Rattle.sheet_rules.proofs.Laws.{gave-earlier, gave-misplaced, gave-no-step, gave-step}
+use mir.Syntax.{w64}
+use mir.Val.{toZ, ofZ}
 use borrow.Author.Needs.{needs}
 use Rattle.sheet_rules.proofs.decide.take_step.Statement.{statement}
 use Rattle.sheet_rules.proofs.decide.take_step.Tie as tie
@@ -25,18 +27,20 @@ refuse-requires-3 c κs = search needs
 
 returns-3 : tie.Need-returns-3
 returns-3 c = λ s h.
-    let a = c .before .before .before .before .before .before in
+    let a = c .before .before .before .before .before .before .before in
     let x = c .before .before in
-    gave-no-step h (a .args .step) (c .before .before .before .before .before .if1 .left) (c .before .before .before .before .if2 .left) (a .pre .1) _ (x .extend .ensures .0) (c .before .if3 .taken) _ (x .extend .ensures .1) _ (c .refuse3 .ensures)
+    let y : toZ w64 (ofZ w64 (a .args .state .profile)) ≡ a .args .state .profile = search needs in
+    gave-no-step h (a .args .step) (c .before .before .before .before .before .before .if1 .left) (c .before .before .before .before .before .if2 .left) (a .pre .1) _ (rw y at (x .extend .ensures .0)) (c .before .if3 .taken) _ (rw y at (x .extend .ensures .1)) _ (c .refuse3 .ensures)
 
 after-requires : tie.Need-after-requires
 after-requires c κs = search needs
 
 returns-4 : tie.Need-returns-4
 returns-4 c = λ s h.
-    let a = c .before .before .before .before .before .before in
+    let a = c .before .before .before .before .before .before .before in
     let x = c .before .before in
-    gave-step h (a .args .step) (c .before .before .before .before .before .if1 .left) (c .before .before .before .before .if2 .left) (a .pre .1) (sym (x .extend .ensures .0) ∙ c .before .if3 .left) _ (x .extend .ensures .1) _ refl (c .after .ensures)
+    let y : toZ w64 (ofZ w64 (a .args .state .profile)) ≡ a .args .state .profile = search needs in
+    gave-step h (a .args .step) (c .before .before .before .before .before .before .if1 .left) (c .before .before .before .before .before .if2 .left) (a .pre .1) (sym (rw y at (x .extend .ensures .0)) ∙ c .before .if3 .left) _ (rw y at (x .extend .ensures .1)) _ refl (c .after .ensures)
 
 pub take-step-spec : {M : Type 1} → statement M
 take-step-spec =

@@ -1,0 +1,27 @@
+-- `line::edition_line::edition_fields` meets its contract. Assumes nothing.
+use mathlib.Core.Path.{_≡_, _∙_}
+use mir.Syntax.{w64}
+use mir.Val.{toZ, ofZ}
+use Rattle.line.proofs.Walk as W
+use Rattle.line.specs.Forms.{editionForm}
+use borrow.Author.Needs.{needs}
+use Rattle.line.proofs.edition_line.edition_fields.Statement.{statement}
+use Rattle.line.proofs.edition_line.edition_fields.Tie as tie
+
+letter-requires : tie.Need-letter-requires
+letter-requires c κs = search needs
+
+number-requires : tie.Need-number-requires
+number-requires c κs = search needs
+
+returns : tie.Need-returns
+unfolding editionForm
+returns c =
+    let n = c .before .number in
+    let e : toZ w64 (ofZ w64 (n .result .value)) ≡ n .result .value = search needs in
+    W.more (c .before .before .letter .ensures) (W.lost (n .ensures)) λ _ _ _.
+    W.more (n .ensures) (λ h. h) λ z q b.
+    W.done (e ∙ q) b
+
+pub edition-fields-spec : {M : Type 1} → statement M
+edition-fields-spec = tie.close (tie.spec letter-requires number-requires returns)

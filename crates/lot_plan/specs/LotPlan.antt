@@ -10,6 +10,8 @@ use Rattle.refusal.specs.Numbers as refusal
 use Rattle.refusal.specs.Order.{pick, first, unless}
 use Rattle.chain.specs.declared.Step.{Step}
 use Rattle.chain.specs.declared.Label.{Label}
+use Rattle.chain.specs.declared.Point.{Point}
+use Rattle.chain.specs.declared.Chain.{Chain}
 use Rattle.chain.specs.declared.Answer.{Answer}
 use Rattle.chain.specs.declared.Answer.the-variants as answer
 use Rattle.chain.specs.Faults.{latest, profileFault}
@@ -70,35 +72,48 @@ withLines isFirst y ss (l ∷ ls) = onward (withLine isFirst y ss l) (λ z ts. w
 unfoldable pub chainText : List ℕ → Chained
 chainText text = withLines true latest [] (lines text)
 
--- ---- the parts, one after another
--- easting and northing in millimetres
-abbrev pub onPlane : Label → ProjectedMillimetres → Lot
-onPlane l (millimetres.Refused n) = lot.Refused n
-onPlane l (millimetres.Millimetres e n) = lot.Laid l e n
+-- ---- the parts, one after another: each goes on with the next, or is refused
+abbrev pub onChain : Chained → (ℤ → List Step → Lot) → Lot
+onChain (refused n) next = lot.Refused n
+onChain (chain y ss) next = next y ss
+
+abbrev pub onPoint : PointLine → (Point → Lot) → Lot
+onPoint (point-line.Malformed f) next = lot.Refused (f .number)
+onPoint (point-line.Refused n) next = lot.Refused n
+onPoint (point-line.Point p) next = next p
+
+abbrev pub onAnswer : Answer → (Point → Lot) → Lot
+onAnswer (answer.Refused n) next = lot.Refused n
+onAnswer (answer.Converted p) next = next p
+
+-- the height is not asked for any more
+abbrev pub onGeodetic : GeodeticUnits → (ℤ → ℤ → Lot) → Lot
+onGeodetic (geodetic.Refused n) next = lot.Refused n
+onGeodetic (geodetic.Units latitude longitude height) next = next latitude longitude
+
+abbrev pub onPlane : ProjectedMillimetres → (ℤ → ℤ → Lot) → Lot
+onPlane (millimetres.Refused n) next = lot.Refused n
+onPlane (millimetres.Millimetres e n) next = next e n
 
 -- latitude and longitude, onto the grid
-abbrev pub onGeodetic : OriginNumbers → Label → GeodeticUnits → Lot
-onGeodetic o l (geodetic.Refused n) = lot.Refused n
-onGeodetic o l (geodetic.Units latitude longitude height) = onPlane l (cassiniMillimetresOf o latitude longitude)
+abbrev pub laidAt : OriginNumbers → Label → ℤ → ℤ → Lot
+laidAt o l latitude longitude = onPlane (cassiniMillimetresOf o latitude longitude) (lot.Laid l)
 
--- the point at the chain's end, to latitude and longitude on the origin's ellipsoid
-abbrev pub onAnswer : OriginNumbers → Answer → Lot
-onAnswer o (answer.Refused n) = lot.Refused n
-onAnswer o (answer.Converted p) = onGeodetic o (p .label) (geodeticUnitsOf (o .ellipsoid) (p .position .x) (p .position .y) (p .position .z))
+-- a point, its position to latitude and longitude on the origin's ellipsoid, and then that
+abbrev pub laidFrom : OriginNumbers → Point → Lot
+laidFrom o p = onGeodetic (geodeticUnitsOf (o .ellipsoid) (p .position .x) (p .position .y) (p .position .z)) (laidAt o (p .label))
 
--- the point, along the chain
-abbrev pub onPoint : OriginNumbers → ℤ → List Step → PointLine → Lot
-onPoint o y ss (point-line.Malformed f) = lot.Refused (f .number)
-onPoint o y ss (point-line.Refused n) = lot.Refused n
-onPoint o y ss (point-line.Point p) = onAnswer o (forwardOf (chainOf y ss) p)
+-- a point, along the chain, and then that
+abbrev pub laidAlong : OriginNumbers → Chain → Point → Lot
+laidAlong o c p = onAnswer (forwardOf c p) (laidFrom o)
 
--- the chain, with the point's line
-abbrev pub onChain : OriginNumbers → List ℕ → Chained → Lot
-onChain o point (refused n) = lot.Refused n
-onChain o point (chain y ss) = onPoint o y ss (readPoint y point)
+-- a point line under the chain's profile, and then that
+abbrev pub laidOf : OriginNumbers → List ℕ → ℤ → List Step → Lot
+laidOf o point y ss = onPoint (readPoint y point) (laidAlong o (chainOf y ss))
 
+-- the chain's text, and then that
 unfoldable pub lotOf : List ℕ → List ℕ → OriginNumbers → Lot
-lotOf text point o = onChain o point (chainText text)
+lotOf text point o = onChain (chainText text) (laidOf o point)
 
 -- ---- the call
 -- an origin by its numbers

@@ -2,13 +2,11 @@
 ghost use mathlib.Core.Path.{_≡_};
 ghost use mathlib.Core.List.{List};
 ghost use Prim.Native.Nat.{_≤_};
+ghost use lib.IntN.{pos, negℤ};
 ghost use lib.ListN.{length};
 ghost use Rattle.chain.specs.declared.Step.{Step};
-ghost use Rattle.chain.specs.declared.Answer.the-variants as answer;
 ghost use Rattle.chain.specs.Prepared.{Holds, forwardPrepared};
-ghost use Rattle.angle.specs.Cassini.{cassiniMillimetresOf};
-ghost use Rattle.line.specs.Readers.{readPoint};
-ghost use Rattle.lot_plan.specs.LotPlan.{onPlane, onAnswer, onPoint, lotOf, lotPlanOf, originFrom};
+ghost use Rattle.lot_plan.specs.LotPlan.{onAnswer, laidAt, laidFrom, laidOf, lotOf, lotPlanOf, originFrom};
 ghost use Rattle.lot_plan.specs.Drawn.{Drawn};
 use crate::Lot;
 use crate::Read;
@@ -27,7 +25,7 @@ const ROOM: usize = 200;
 
 // A latitude and longitude onto the grid.
 fn lay(o: OriginNumbers, label: Label, latitude: i64, longitude: i64) -> Lot
-    ensures { λ r. ⌜ r ≡ onPlane label (cassiniMillimetresOf o latitude longitude) ⌝ }
+    ensures { λ r. ⌜ r ≡ laidAt o label latitude longitude ⌝ }
 {
     match angle::cassini_millimetres(o, latitude, longitude) {
         ProjectedMillimetres::Refused(number) => Lot::Refused(number),
@@ -37,7 +35,7 @@ fn lay(o: OriginNumbers, label: Label, latitude: i64, longitude: i64) -> Lot
 
 // A point at the chain's end: its position to latitude and longitude, and these onto the grid.
 fn place(o: OriginNumbers, point: Point) -> Lot
-    ensures { λ r. ⌜ r ≡ onAnswer o (answer.Converted point) ⌝ }
+    ensures { λ r. ⌜ r ≡ laidFrom o point ⌝ }
 {
     let at = point.position;
     match angle::geodetic_units(o.ellipsoid, at.x, at.y, at.z) {
@@ -48,7 +46,7 @@ fn place(o: OriginNumbers, point: Point) -> Lot
 
 // A point whose line is good by itself, along the chain.
 fn carry(o: OriginNumbers, numbers: &Prepared, point: Point) -> Lot
-    ensures { λ r. ⌜ r ≡ onAnswer o (forwardPrepared (now (numbers .entry)) point) ⌝ }
+    ensures { λ r. ⌜ r ≡ onAnswer (forwardPrepared (now (numbers .entry)) point) (laidFrom o) ⌝ }
 {
     match chain::forward_prepared(numbers, point) {
         Answer::Refused(number) => Lot::Refused(number),
@@ -58,7 +56,7 @@ fn carry(o: OriginNumbers, numbers: &Prepared, point: Point) -> Lot
 
 // A point line under the chain's profile.
 fn take_point(o: OriginNumbers, profile: i64, numbers: &Prepared, text: &[u8]) -> Lot
-    ensures { λ r. ⌜ ((ss : List Step) → Holds profile (now (numbers .entry)) ss → r ≡ onPoint o profile ss (readPoint profile (now (text .entry)))) ⌝ }
+    ensures { λ r. ⌜ ((ss : List Step) → Holds profile (now (numbers .entry)) ss → r ≡ laidOf o (now (text .entry)) profile ss) ⌝ }
 {
     match line::read_point(profile, text) {
         PointLine::Malformed(fault) => Lot::Refused(fault.number),
@@ -78,13 +76,20 @@ fn lot_of(chain: &[u8], point: &[u8], o: OriginNumbers) -> Lot
     }
 }
 
+// A refusal's answer.
+fn negated(number: u8) -> i64
+    ensures { λ r. ⌜ r ≡ negℤ (pos number) ⌝ }
+{
+    0 - (number as i64)
+}
+
 // Writes a lot's line at the start of `out`: its length, or the refusal number negated and nothing written.
 fn write(lot: Lot, out: &mut [u8]) -> i64
     requires { ⌜ 200 ≤ length (now out) ⌝ }
     ensures { λ r. ⌜ Drawn lot (now (out .entry)) (now (out .exit)) r ⌝ }
 {
     match lot {
-        Lot::Refused(number) => 0 - (number as i64),
+        Lot::Refused(number) => negated(number),
         Lot::Laid(label, e, n) => line::write_lot(out, 0, label, e, n) as i64,
     }
 }
@@ -106,7 +111,7 @@ pub extern "C" fn swivelcrane_lot_plan(
     ensures { λ r. ⌜ Drawn (lotPlanOf (now (chain .entry)) (now (point .entry)) (originFrom ellipsoid «origin_latitude» «origin_longitude» «false_easting» «false_northing») (now (out .entry))) (now (out .entry)) (now (out .exit)) r ⌝ }
 {
     if out.len() < ROOM {
-        return 0 - (refusal::BUFFER as i64);
+        return negated(refusal::BUFFER);
     }
     let o = OriginNumbers {
         ellipsoid,

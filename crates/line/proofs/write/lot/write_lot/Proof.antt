@@ -1,43 +1,62 @@
+-- `line::write::lot::write_lot` meets its contract. Assumes nothing.
+use mir.Syntax.{w64}
+use mir.Val.{toZ, ofZ}
+use mathlib.Core.Path.{_≡_}
+use Rattle.line.proofs.Texts as T
+use Rattle.line.proofs.Lots.{lot-is}
 use borrow.Author.Needs.{needs}
 use Rattle.line.proofs.write.lot.write_lot.Statement.{statement}
 use Rattle.line.proofs.write.lot.write_lot.Tie as tie
-use Rattle.line.proofs.write.lot.write_lot.Reads as reads
-use Rattle.line.proofs.write.lot.write_lot.Lts as lts
-use Rattle.line.proofs.write.letter.Reads as letter-reads
-use Rattle.line.proofs.write.name.Reads as name-reads
-use Rattle.line.proofs.write.whole.Reads as whole-reads
 
--- src/write/lot.rt:14:9
 letter-requires : tie.Need-letter-requires
 letter-requires c κs = search needs
 
--- src/write/lot.rt:15:9
 name-requires : tie.Need-name-requires
 name-requires c κs = search needs
 
--- src/write/lot.rt:16:9
 whole-requires : tie.Need-whole-requires
 whole-requires c κs = search needs
 
--- src/write/lot.rt:17:9
 whole-requires-2 : tie.Need-whole-requires-2
 whole-requires-2 c κs = search needs
 
--- src/write/lot.rt:18:9
 whole-requires-3 : tie.Need-whole-requires-3
 whole-requires-3 c κs = search needs
 
--- src/write/lot.rt:19:5
 whole-requires-4 : tie.Need-whole-requires-4
 whole-requires-4 c κs = search needs
 
--- src/write/lot.rt:11:1
 same-length : tie.Need-same-length
 same-length c = search needs
 
--- src/write/lot.rt:11:1
+-- the numbers, as the machine reads them
+module _ (s : tie.Start) where
+  issue : toZ w64 (ofZ w64 (s .args .label .issue)) ≡ s .args .label .issue
+  issue = search needs
+
+  order : toZ w64 (ofZ w64 (s .args .label .order)) ≡ s .args .label .order
+  order = search needs
+
+  easting : toZ w64 (ofZ w64 (s .args .e)) ≡ s .args .e
+  easting = search needs
+
+  northing : toZ w64 (ofZ w64 (s .args .n)) ≡ s .args .n
+  northing = search needs
+
 returns : tie.Need-returns
-returns c = ?
+returns c =
+    let c2 = c .before .before in
+    let c6 = c2 .before .before .before .before in
+    let c10 = c6 .before .before .before .before in
+    let c15 = c10 .before .before .before .before .before in
+    let c20 = c15 .before .before .before .before .before in
+    let c24 = c20 .before .before .before .before in
+    let s = c24 .before .before .before in
+    T.says
+    (T.«then» (c24 .letter .ensures)
+    (T.«then» (c20 .name .ensures)
+    (T.«then» (c15 .whole .ensures) (T.«then» (c10 .whole2 .ensures) (T.«then» (c6 .whole3 .ensures) (c2 .whole4 .ensures))))))
+    (rw (issue s, order s, easting s, northing s) (lot-is (s .args .label) (s .args .e) (s .args .n)))
 
 pub write-lot-spec : {M : Type 1} → statement M
 write-lot-spec =

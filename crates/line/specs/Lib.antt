@@ -8,6 +8,7 @@ pub mod MalformedCases
 pub mod Readers
 pub mod Lines
 pub mod Text
+pub mod Lot
 pub mod Later
 pub mod Reading
 pub mod SecondLook

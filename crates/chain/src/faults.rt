@@ -50,5 +50,9 @@ pub fn step_fault(profile: i64, step: Step) -> u8
 pub fn profile_fault(profile: i64) -> u8
     ensures { λ r. ⌜ r ≡ profileFault profile ⌝ }
 {
-    if ranges::is_profile(profile) { 0 } else { refusal::RANGE }
+    if ranges::is_profile(profile) {
+        0
+    } else {
+        refusal::RANGE
+    }
 }

@@ -3,12 +3,12 @@ use Prim.Native.Nat.{ℕ, zero, suc, _^_, _≤_, _<_}
 use mathlib.Core.Path.{_≡_, refl, sym, ap, _∙_}
 use mathlib.Core.Bool.{Bool, true, false}
 use mathlib.Core.List.{List, [], _∷_, _++_}
-use lib.IntN.{ℤ, pos, negsuc, natAbs}
+use lib.IntN.{ℤ, pos, negsuc, negℤ, natAbs, _-ℤ_, +ℤ-idl}
 use lib.ListN.{length}
 use native.Mathlib.Omega.{arith}
 use mir.Syntax.{w64}
-use mir.Val.{SFits, toZ}
-use mir.ValLaws.{toZ-pos}
+use mir.Val.{SFits, toZ, ofZ}
+use mir.ValLaws.{toZ-pos, toZ-ofZ}
 use Rattle.refusal.specs.Order.{first, unless}
 use Rattle.refusal.proofs.Orders.{unless-none, unless-some}
 use Rattle.chain.specs.declared.Step.{Step}
@@ -49,6 +49,21 @@ took-edition true v y ss l none h = go (profileFault v) refl
     go : (k : ℕ) → profileFault v ≡ k → Took (unless k refused (chain v [])) l (unless k Refused (Profile v))
     go zero e = (refl, holds-under y v l (rw (none refl) at h) e)
     go (suc k) e = refl
+
+-- ---- a refusal's number, negated, fits an i64
+negated-fits : (n : ℕ) → n < 2 ^ 63 → SFits w64 (negℤ (pos n))
+negated-fits zero h = record { sfits = omega arith }
+negated-fits (suc n) h = record { sfits = omega arith }
+
+zero-less : (n : ℕ) → pos 0 -ℤ pos n ≡ negℤ (pos n)
+zero-less n = +ℤ-idl (negℤ (pos n))
+
+module _ (n : ℕ) (h : n < 2 ^ 63) where
+  pub less-fits : SFits w64 (pos 0 -ℤ toZ w64 n)
+  less-fits = rw (toZ-pos w64 n h, zero-less n) (negated-fits n h)
+
+  pub less-is : toZ w64 (ofZ w64 (pos 0 -ℤ toZ w64 n)) ≡ negℤ (pos n)
+  less-is = toZ-ofZ w64 _ less-fits ∙ rw (toZ-pos w64 n h) (zero-less n)
 
 -- ---- an i64 has at most 19 digits
 size : (z : ℤ) → SFits w64 z → natAbs z < 10 ^ 19

@@ -54,6 +54,23 @@ never e = let z : _≡_ {A = ℕ} 0 1 = cc in omega arith
 no-number : (n : ℕ) (y : ℤ) → Refused n ≡ Profile y → ⊥
 no-number n y e = let z : _≡_ {A = ℕ} 0 1 = cc in omega arith
 
+-- ---- what was read, and what it says of the text
+pub record Found (said : Chained) (y : ℤ) (numbers : List ℤ) : Type 0 where
+  pub steps : List Step
+  pub is : said ≡ chain y steps
+  pub holds : Holds y numbers steps
+
+pub found : (said : Chained) (numbers : List ℤ) (r : Read) (y : ℤ) → Took said numbers r → r ≡ Profile y → Found said y numbers
+found (chain v ss) numbers r y t q =
+    let e : v ≡ y = cc (t .0) in
+    record { steps = ss; is = rw e; holds = rw e at (t .1) }
+found (refused n) numbers r y t q = absurd (no-number n y (sym t ∙ q))
+
+pub missed : (said : Chained) (numbers : List ℤ) (r : Read) (n : ℕ) → Took said numbers r → r ≡ Refused n → said ≡ refused n
+missed (chain v ss) numbers r n t q = absurd (no-number n v (sym q ∙ t .0))
+missed (refused m) numbers r n t q = cc
+
+-- ---- a turn of the loop
 module _ (text : List ℕ) (y : ℤ) (before after : List ℤ) (from e : ℕ) (r : Read)
     (ended : e ≡ lineEnd text from) (more : from < length text)
     (taken : (ss : List Step) → (eqb from 0 ≡ true → ss ≡ []) → Holds y before ss → Took (withLine (eqb from 0) y ss (take (e - from) (drop from text))) after r)
@@ -69,27 +86,19 @@ module _ (text : List ℕ) (y : ℤ) (before after : List ℤ) (from e : ℕ) (r
   here = ap (withLines (eqb from 0) y (k .steps)) (sym (piece text from e ended more .others)) ∙ k .left
 
   pub goes-on : (z : ℤ) → r ≡ Profile z → Midway text z after e
-  goes-on z q = go said refl (taken (k .steps) (k .none) (k .holds))
-    where
-      p : from < e
-      p = piece text from e ended more .some
-
-      go : (w : Chained) → said ≡ w → Took w after r → Midway text z after e
-      go (chain v ts) i t =
-          let same : v ≡ z = cc in
-          let later = ne-eqb e 0 (λ o. omega (arith, o, p)) in
-          record {
-            steps = ts;
-            holds = rw same at (t .1);
-            left = rw (later, ← same) (sym (on (eqb from 0) y (k .steps) line (lines (drop e text)) v ts i) ∙ here);
-            inside = piece text from e ended more .inside;
-            none = λ o. absurd (never (sym later ∙ o));
-          }
-      go (refused n) i t = absurd (no-number n z (sym t ∙ q))
+  goes-on z q =
+      let f = found said after r z (taken (k .steps) (k .none) (k .holds)) q in
+      let l = piece text from e ended more in
+      let later = ne-eqb e 0 (λ o. omega (arith, o, l .some)) in
+      record {
+        steps = f .steps;
+        holds = f .holds;
+        left = rw later (sym (on (eqb from 0) y (k .steps) line (lines (drop e text)) z (f .steps) (f .is)) ∙ here);
+        inside = l .inside;
+        none = λ o. absurd (never (sym later ∙ o));
+      }
 
   pub stops : (n : ℕ) → r ≡ Refused n → Took (chainText text) after (Refused n)
-  stops n q = go said refl (taken (k .steps) (k .none) (k .holds))
-    where
-      go : (w : Chained) → said ≡ w → Took w after r → Took (chainText text) after (Refused n)
-      go (chain v ts) i t = absurd (no-number n v (sym q ∙ t .0))
-      go (refused m) i t = rw (sym (sym (stop (eqb from 0) y (k .steps) line (lines (drop e text)) m i) ∙ here)) (sym q ∙ t)
+  stops n q =
+      let m = missed said after r n (taken (k .steps) (k .none) (k .holds)) q in
+      rw (sym (sym (stop (eqb from 0) y (k .steps) line (lines (drop e text)) n m) ∙ here)) refl

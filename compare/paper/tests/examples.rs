@@ -1,7 +1,9 @@
 //! The stored answers of the examples in C, worked out again.
 
+use paper::angle::Origin;
 use paper::decimal::round;
 use paper::geodetic::geodetic;
+use paper::lot_plan::lot_plan;
 use paper::rso::{self, Parameters};
 
 /// The text stands among what the examples in C print.
@@ -66,6 +68,33 @@ fn onto_rso_and_back() {
         on_rso("Sabah", borneo, 2476245022, 42064758835),
         on_rso("document 004", timbalai, 1939411290, 41689981960),
         format!("too far\trefused: {}\n", too_far.expect_err("23")),
+    ];
+    stored(&text.concat());
+}
+
+#[test]
+fn lines_of_a_lot_plan() {
+    let chain =
+        "E|2021\nS|T|6|2000000|6|2006586|-15832|-4363|-9706\nS|V|6|2006586|6|2010000|-1876|-90|-684\n\
+        S|F|6|2010000|10|2010000\nS|V|10|2010000|10|2020000|-1874|-169|-502\n"
+            .replace('|', "\t");
+    let kedah = Origin {
+        ellipsoid: 1,
+        latitude: 2147282155,
+        longitude: 36229093860,
+        false_easting: 0,
+        false_northing: 0,
+    };
+    let show =
+        |point: &str| match lot_plan(chain.as_bytes(), point.replace('|', "\t").as_bytes(), &kedah, 200) {
+            Ok(line) => line,
+            Err(number) => format!("refused: {number}\n"),
+        };
+    let text = [
+        show("P|ARAU|1|1|6|2000000|-113105165410|623631179950|71174811140\n"),
+        show("P|PEG-2|1|4|6|2000000|-113104712345|623631254321|71174899999\n"),
+        show("P|PEG-1|2|4|5|2000000|-113105165410|623631179950|71174811140\n"),
+        show("P|PEG-3|1|6|2000000|-113105165410|623631179950|71174811140\n"),
     ];
     stored(&text.concat());
 }

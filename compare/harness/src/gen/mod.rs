@@ -7,6 +7,7 @@ pub mod full;
 pub mod geodetic;
 pub mod halves;
 pub mod lines;
+pub mod lots;
 pub mod numbers;
 pub mod pairs;
 pub mod plans;

@@ -1,5 +1,6 @@
-/* A small job tracker: it reads a job's chain and a point from files and shows the point's line of the lot plan, on the state origin of Kedah and Perlis; then what
- * three mistakes are refused with. It links both libraries, and shows the position at the chain's end by the other one's call.
+/* A small job tracker: it reads a job's chain and a point from files and shows the point's line of the lot plan, on the state origin of
+ * Kedah and Perlis; then what three mistakes are refused with. It links both libraries, and shows the position at the chain's end by the
+ * other one's call.
  * Build and run: bash examples/run-c */
 #include <inttypes.h>
 #include <stdio.h>

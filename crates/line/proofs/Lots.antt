@@ -26,14 +26,16 @@ unfolding lotText lineText
 lot-is l e n = simp tabbed
 
 -- of whatever i64: at most 103 bytes
-pub length-lot : (l : Label) (e n : ℤ) → natAbs (l .issue) < 10 ^ 19 → natAbs (l .order) < 10 ^ 19 → natAbs e < 10 ^ 19 → natAbs n < 10 ^ 19 → length (lotText l e n) ≤ 103
+pub length-lot : (l : Label) (e n : ℤ) → natAbs (l .issue) < 10 ^ 19 → natAbs (l .order) < 10 ^ 19 → natAbs e < 10 ^ 19 → natAbs n < 10 ^ 19
+    → length (lotText l e n) ≤ 103
 length-lot l e n h i j k =
     rw (sym (lot-is l e n))
     (simp length-append
     (omega (arith, length-name (l .id), length-integer 18 (l .issue) h, length-integer 18 (l .order) i, length-integer 18 e j, length-integer 18 n k)))
 
 -- a text that fits a slice, written from its start: all of it, and past it everything as it was
-pub wrote-whole : {before text after : List ℕ} {r : ℕ} → length text ≤ length before → Wrote before 0 text after r → (r ≡ length text) × (after ≡ text ++ drop (length text) before)
+pub wrote-whole : {before text after : List ℕ} {r : ℕ} → length text ≤ length before → Wrote before 0 text after r
+    → (r ≡ length text) × (after ≡ text ++ drop (length text) before)
 wrote-whole {before} {text} h w =
     let e : 0 + length text ≡ length text = omega arith in
     (omega (arith, w .place), w .list ∙ sets-eq text before 0 (omega arith) ∙ ap (λ (k : ℕ). text ++ drop k before) e)

@@ -42,7 +42,8 @@ module _ (y : ℤ) (l : List ℤ) (ss : List Step) (h : Holds y l ss) (s : Step)
       rw (unless-none (first (moreTests ss s)) refused (chain y (ss ++ (s ∷ []))) (sym tests ∙ z), i) (refl, extend-holds y l ss s h z)
 
 -- ---- an edition's year, on the first line and on any other
-pub took-edition : (isFirst : Bool) (v y : ℤ) (ss : List Step) (l : List ℤ) → (isFirst ≡ true → ss ≡ []) → Holds y l ss → Took (withEdition isFirst (edition-line.Edition v)) l (editionRead isFirst v)
+pub took-edition : (isFirst : Bool) (v y : ℤ) (ss : List Step) (l : List ℤ) → (isFirst ≡ true → ss ≡ []) → Holds y l ss
+    → Took (withEdition isFirst (edition-line.Edition v)) l (editionRead isFirst v)
 took-edition false v y ss l none h = refl
 took-edition true v y ss l none h = go (profileFault v) refl
   where
@@ -71,7 +72,8 @@ size (pos n) f = omega (arith, f .sfits)
 size (negsuc n) f = omega (arith, f .sfits)
 
 -- the line in a buffer of 200 bytes or more
-pub drawn : {before after : List ℕ} {r : ℕ} (l : Label) (e n : ℤ) → SFits w64 (l .issue) → SFits w64 (l .order) → SFits w64 e → SFits w64 n → 200 ≤ length before → Wrote before 0 (lotText l e n) after r → Drawn (lot.Laid l e n) before after (toZ w64 r)
+pub drawn : {before after : List ℕ} {r : ℕ} (l : Label) (e n : ℤ) → SFits w64 (l .issue) → SFits w64 (l .order) → SFits w64 e → SFits w64 n
+    → 200 ≤ length before → Wrote before 0 (lotText l e n) after r → Drawn (lot.Laid l e n) before after (toZ w64 r)
 drawn {r = r} l e n h i j k room w =
     let short = length-lot l e n (size (l .issue) h) (size (l .order) i) (size e j) (size n k) in
     let a = wrote-whole (omega (arith, short, room)) w in

@@ -31,7 +31,8 @@ unfolding chainText
 begins text numbers h = record { steps = []; holds = h; left = refl; inside = omega arith; none = λ _. refl }
 
 -- at the end of the text
-nothing-left : (text : List ℕ) (y : ℤ) (numbers : List ℤ) (from : ℕ) → length text ≤ from → (k : Midway text y numbers from) → chain y (k .steps) ≡ chainText text
+nothing-left : (text : List ℕ) (y : ℤ) (numbers : List ℤ) (from : ℕ) → length text ≤ from → (k : Midway text y numbers from)
+    → chain y (k .steps) ≡ chainText text
 unfolding withLines
 nothing-left text y numbers from h k = ap (withLines (eqb from 0) y (k .steps)) (sym (lines-none text from h)) ∙ k .left
 
@@ -73,7 +74,8 @@ missed (refused m) numbers r n t q = cc
 -- ---- a turn of the loop
 module _ (text : List ℕ) (y : ℤ) (before after : List ℤ) (from e : ℕ) (r : Read)
     (ended : e ≡ lineEnd text from) (more : from < length text)
-    (taken : (ss : List Step) → (eqb from 0 ≡ true → ss ≡ []) → Holds y before ss → Took (withLine (eqb from 0) y ss (take (e - from) (drop from text))) after r)
+    (taken : (ss : List Step) → (eqb from 0 ≡ true → ss ≡ []) → Holds y before ss
+    → Took (withLine (eqb from 0) y ss (take (e - from) (drop from text))) after r)
     (k : Midway text y before from) where
   abbrev line : List ℕ
   line = take (e - from) (drop from text)

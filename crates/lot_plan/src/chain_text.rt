@@ -1,5 +1,5 @@
-// The text of a chain, its E and S lines, into a prepared chain. It has any length. The lot is a module below this one, so that what these functions ask of their
-// caller stays theirs.
+// The text of a chain, its E and S lines, into a prepared chain. It has any length. The lot is a module below this one, so that what these functions ask of
+// their caller stays theirs.
 ghost use mathlib.Core.Path.{_≡_};
 ghost use mathlib.Core.Bool.{true};
 ghost use mathlib.Core.List.{List, []};
@@ -24,7 +24,9 @@ pub mod lot;
 // A step whose line is good by itself.
 fn add_step(profile: i64, step: Step, numbers: &mut Prepared) -> Read
     requires { ⌜ stepFault profile step ≡ 0 ⌝ }
-    ensures { λ r. ⌜ ((ss : List Step) → Holds profile (now (numbers .entry)) ss → Took (withStep profile ss (step-line.Step step)) (now (numbers .exit)) r) ⌝ }
+    ensures { λ r.
+        ⌜ ((ss : List Step) → Holds profile (now (numbers .entry)) ss
+        → Took (withStep profile ss (step-line.Step step)) (now (numbers .exit)) r) ⌝ }
 {
     let number = chain::extend(profile, step, numbers);
     if number != 0 {
@@ -35,7 +37,9 @@ fn add_step(profile: i64, step: Step, numbers: &mut Prepared) -> Read
 
 // A line that begins with S.
 fn take_step(profile: i64, numbers: &mut Prepared, text: &[u8]) -> Read
-    ensures { λ r. ⌜ ((ss : List Step) → Holds profile (now (numbers .entry)) ss → Took (withStep profile ss (readStep profile (now (text .entry)))) (now (numbers .exit)) r) ⌝ }
+    ensures { λ r.
+        ⌜ ((ss : List Step) → Holds profile (now (numbers .entry)) ss
+        → Took (withStep profile ss (readStep profile (now (text .entry)))) (now (numbers .exit)) r) ⌝ }
 {
     match line::read_step(profile, text) {
         StepLine::Malformed(fault) => Read::Refused(fault.number),
@@ -60,7 +64,9 @@ fn judge_edition(first: bool, year: i64) -> Read
 
 // A line that begins with E.
 fn take_edition(first: bool, text: &[u8]) -> Read
-    ensures { λ r. ⌜ ((y : ℤ) (ss : List Step) (l : List ℤ) → (first ≡ true → ss ≡ []) → Holds y l ss → Took (withEdition first (readEdition (now (text .entry)))) l r) ⌝ }
+    ensures { λ r.
+        ⌜ ((y : ℤ) (ss : List Step) (l : List ℤ) → (first ≡ true → ss ≡ []) → Holds y l ss
+        → Took (withEdition first (readEdition (now (text .entry)))) l r) ⌝ }
 {
     match line::read_edition(text) {
         EditionLine::Malformed(fault) => Read::Refused(fault.number),
@@ -71,7 +77,9 @@ fn take_edition(first: bool, text: &[u8]) -> Read
 // Any line but the empty piece, by its first byte.
 fn take_line(first: bool, profile: i64, numbers: &mut Prepared, text: &[u8]) -> Read
     requires { ⌜ 0 < length (now text) ⌝ }
-    ensures { λ r. ⌜ ((ss : List Step) → (first ≡ true → ss ≡ []) → Holds profile (now (numbers .entry)) ss → Took (withLine first profile ss (now (text .entry))) (now (numbers .exit)) r) ⌝ }
+    ensures { λ r.
+        ⌜ ((ss : List Step) → (first ≡ true → ss ≡ []) → Holds profile (now (numbers .entry)) ss
+        → Took (withLine first profile ss (now (text .entry))) (now (numbers .exit)) r) ⌝ }
 {
     let letter = text[0];
     if letter == b'S' {

@@ -1,16 +1,17 @@
-//! Lot plans: the line, and that it equals each program's own parts one after another.
+//! Lot plans: every clash of two refusals; the line, and that it equals each program's own parts one after another.
 
 use crate::compare::{shown, Comparison, Mismatch, Outcome};
-use crate::gen::lots;
+use crate::gen::{clashes, lots};
 use crate::subject::{Answer, Lot, Subject};
 use crate::tally::Function;
 
 pub fn run(c: &mut Comparison, count: u64) -> Outcome {
+    clash(c)?;
     for _ in 0..count {
         let lot = lots::lot(&mut c.rng, &c.chains);
         let expected = c.reference.lot_plan(&lot);
         c.tally.count(Function::LotPlan, &expected);
-        let input = || format!("{} {} {:?} {}", shown(&lot.text), shown(&lot.line), lot.origin, lot.room);
+        let input = || input(&lot);
         c.hold("lot plan", input, &expected, |s| s.lot_plan(&lot))?;
         if lot.room >= 200 && expected.is_ok() {
             for s in c.all() {
@@ -23,6 +24,29 @@ pub fn run(c: &mut Comparison, count: u64) -> Outcome {
                 }
             }
         }
+    }
+    Ok(())
+}
+
+fn input(lot: &Lot) -> String {
+    format!("{} {} {:?} {}", shown(&lot.text), shown(&lot.line), lot.origin, lot.room)
+}
+
+/// One cause of a refusal or two at once: every program gives the number of the one that comes first.
+fn clash(c: &mut Comparison) -> Outcome {
+    for clashes::Clash { lot, number } in clashes::clashes() {
+        for s in c.all() {
+            let (name, given) = (s.name(), s.lot_plan(&lot));
+            if given.as_ref().err().copied() != number {
+                return Err(Mismatch(format!(
+                    "lot plan, two refusals {}\n  {name} {given:?}\n  by their order {number:?}",
+                    input(&lot)
+                )));
+            }
+        }
+        let expected = c.reference.lot_plan(&lot);
+        c.tally.count(Function::LotPlan, &expected);
+        c.hold("lot plan", || input(&lot), &expected, |s| s.lot_plan(&lot))?;
     }
     Ok(())
 }

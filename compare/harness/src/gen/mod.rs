@@ -2,6 +2,7 @@
 
 pub mod angles;
 pub mod chains;
+pub mod clashes;
 pub mod floats;
 pub mod full;
 pub mod geodetic;

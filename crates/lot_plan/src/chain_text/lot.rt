@@ -94,9 +94,9 @@ fn write(lot: Lot, out: &mut [u8]) -> i64
     }
 }
 
-// A line of the lot plan: `chain` is the text of a chain's E and S lines, `point` a point line; the origin's angles in units of 0.00001", its false easting and northing
-// in millimetres. The answer is the line's length with its line feed, or the refusal number negated: BUFFER where `out` has fewer than 200 bytes; then the chain's
-// first refused line; then the point's, of its line and along the chain; then that of latitude and longitude; then the grid's.
+// A line of the lot plan: `chain` is the text of a chain's E and S lines, `point` a point line; the origin's angles in units of 0.00001", its false easting and
+// northing in millimetres. The answer is the line's length with its line feed, or the refusal number negated: BUFFER where `out` has fewer than 200 bytes; then
+// the chain's first refused line; then the point's, of its line and along the chain; then that of latitude and longitude; then the grid's.
 #[no_mangle]
 pub extern "C" fn swivelcrane_lot_plan(
     chain: &[u8],
@@ -108,7 +108,11 @@ pub extern "C" fn swivelcrane_lot_plan(
     false_northing: i64,
     out: &mut [u8],
 ) -> i64
-    ensures { λ r. ⌜ Drawn (lotPlanOf (now (chain .entry)) (now (point .entry)) (originFrom ellipsoid «origin_latitude» «origin_longitude» «false_easting» «false_northing») (now (out .entry))) (now (out .entry)) (now (out .exit)) r ⌝ }
+    ensures { λ r.
+        ⌜ Drawn
+        (lotPlanOf (now (chain .entry)) (now (point .entry))
+        (originFrom ellipsoid «origin_latitude» «origin_longitude» «false_easting» «false_northing») (now (out .entry)))
+        (now (out .entry)) (now (out .exit)) r ⌝ }
 {
     if out.len() < ROOM {
         return negated(refusal::BUFFER);

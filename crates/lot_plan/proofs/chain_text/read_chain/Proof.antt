@@ -40,7 +40,9 @@ enum-known-number c = search needs
 
 returns : tie.Need-returns Inv-loop μ-loop
 returns c =
-    stops _ _ _ _ _ _ _ (c .before .before .before .before .before .before .line-end .ensures) (omega (arith, c .before .before .before .before .before .before .before .loop-test .taken)) (c .before .before .before .take-line .ensures) (c .before .before .before .before .before .before .before .before .loop .inv) _ (c .before .number .given .1)
+    let e = c .before .before .before .before .before .before in
+    stops _ _ _ _ _ _ _ (e .line-end .ensures) (omega (arith, e .before .loop-test .taken)) (c .before .before .before .take-line .ensures) (e .before .before .loop .inv) _
+    (c .before .number .given .1)
 
 enum-known-year : tie.Need-enum-known-year Inv-loop μ-loop
 enum-known-year c = search needs
@@ -52,8 +54,10 @@ loop-again : tie.Need-loop-again Inv-loop μ-loop
 loop-again c =
     let v = c .before .year .given .0 .0 in
     let q : toZ w64 (ofZ w64 v) ≡ v = search needs in
+    let e = c .before .before .before .before .before .before in
     rw q
-    (goes-on _ _ _ _ _ _ _ (c .before .before .before .before .before .before .line-end .ensures) (omega (arith, c .before .before .before .before .before .before .before .loop-test .taken)) (c .before .before .before .take-line .ensures) (c .before .before .before .before .before .before .before .before .loop .inv) v (c .before .year .given .1))
+    (goes-on _ _ _ _ _ _ _ (e .line-end .ensures) (omega (arith, e .before .loop-test .taken)) (c .before .before .before .take-line .ensures) (e .before .before .loop .inv) v
+    (c .before .year .given .1))
 
 returns-2 : tie.Need-returns-2 Inv-loop μ-loop
 returns-2 c = ends _ _ _ _ (omega (arith, c .loop-test .left)) (c .before .loop .inv)

@@ -26,7 +26,8 @@ returns-2 : tie.Need-returns-2
 returns-2 c = λ y ss l none h.
     let v = c .before .before .year .given .0 .0 in
     let q : toZ w64 (ofZ w64 v) ≡ v = search needs in
-    rw (sym (c .before .before .before .before .read-edition .ensures) ∙ c .before .before .year .given .1, rw q at (c .judge-edition .ensures)) (took-edition _ v y ss l none h)
+    let e = sym (c .before .before .before .before .read-edition .ensures) ∙ c .before .before .year .given .1 in
+    rw (e, rw q at (c .judge-edition .ensures)) (took-edition _ v y ss l none h)
 
 pub take-edition-spec : {M : Type 1} → statement M
 take-edition-spec =

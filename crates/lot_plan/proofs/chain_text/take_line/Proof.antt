@@ -23,21 +23,26 @@ take-step-requires c κs = search needs
 
 returns : tie.Need-returns
 unfolding withLine
-returns c = λ ss none h. rw (eq-eqb _ letterS (c .before .before .if1 .taken)) ((rw (profile (c .before .before .before .before .before)) at (c .take-step .ensures)) ss h)
+returns c = λ ss none h.
+    let t = rw (profile (c .before .before .before .before .before)) at (c .take-step .ensures) in
+    rw (eq-eqb _ letterS (c .before .before .if1 .taken)) (t ss h)
 
 take-edition-requires : tie.Need-take-edition-requires
 take-edition-requires c κs = search needs
 
 returns-2 : tie.Need-returns-2
 unfolding withLine
-returns-2 c = λ ss none h. rw (ne-eqb _ letterS (c .before .before .if1 .left), eq-eqb _ letterE (c .before .if2 .taken)) (c .take-edition .ensures _ ss _ none h)
+returns-2 c = λ ss none h.
+    rw (ne-eqb _ letterS (c .before .before .if1 .left), eq-eqb _ letterE (c .before .if2 .taken)) (c .take-edition .ensures _ ss _ none h)
 
 strange-requires : tie.Need-strange-requires
 strange-requires c κs = search needs
 
 returns-3 : tie.Need-returns-3
 unfolding withLine
-returns-3 c = λ ss none h. rw (ne-eqb _ letterS (c .before .before .if1 .left), ne-eqb _ letterE (c .before .if2 .left)) (ap (λ (f : Fault). Refused (f .number)) (c .strange .ensures))
+returns-3 c = λ ss none h.
+    rw (ne-eqb _ letterS (c .before .before .if1 .left), ne-eqb _ letterE (c .before .if2 .left))
+    (ap (λ (f : Fault). Refused (f .number)) (c .strange .ensures))
 
 pub take-line-spec : {M : Type 1} → statement M
 take-line-spec =

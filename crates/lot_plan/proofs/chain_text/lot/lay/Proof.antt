@@ -2,6 +2,7 @@
 use mathlib.Core.Path.{_≡_, sym, _∙_}
 use mir.Syntax.{w64}
 use mir.Val.{toZ, ofZ}
+use Rattle.angle.specs.declared.ProjectedMillimetres.{ProjectedMillimetres}
 use Rattle.angle.specs.Cassini.{cassiniMillimetresOf}
 use borrow.Author.Needs.{needs}
 use Rattle.lot_plan.proofs.chain_text.lot.lay.Statement.{statement}
@@ -15,7 +16,11 @@ module _ (s : tie.Start) where
   longitude : toZ w64 (ofZ w64 (s .args .longitude)) ≡ s .args .longitude
   longitude = search needs
 
-said : (c : tie.After-cassini-millimetres) → cassiniMillimetresOf (c .before .args .o) (c .before .args .latitude) (c .before .args .longitude) ≡ c .cassini-millimetres .result
+-- the grid's answer, by its definition
+abbrev asked : tie.Start → ProjectedMillimetres
+asked s = cassiniMillimetresOf (s .args .o) (s .args .latitude) (s .args .longitude)
+
+said : (c : tie.After-cassini-millimetres) → asked (c .before) ≡ c .cassini-millimetres .result
 said c = sym (rw (latitude (c .before), longitude (c .before)) at (c .cassini-millimetres .ensures))
 
 cassini-millimetres-requires : tie.Need-cassini-millimetres-requires

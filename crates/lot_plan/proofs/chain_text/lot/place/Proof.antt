@@ -2,6 +2,7 @@
 use mathlib.Core.Path.{_≡_, sym, _∙_}
 use mir.Syntax.{w64}
 use mir.Val.{toZ, ofZ}
+use Rattle.angle.specs.declared.GeodeticUnits.{GeodeticUnits}
 use Rattle.angle.specs.Geodetic.{geodeticUnitsOf}
 use Rattle.chain.specs.declared.Position.{Position}
 use borrow.Author.Needs.{needs}
@@ -25,7 +26,11 @@ module _ (s : tie.Start) where
   third : toZ w64 (ofZ w64 (at .z)) ≡ at .z
   third = search needs
 
-said : (c : tie.After-geodetic-units) → geodeticUnitsOf (c .before .before .before .before .before .before .args .o .ellipsoid) (at (c .before .before .before .before .before .before) .x) (at (c .before .before .before .before .before .before) .y) (at (c .before .before .before .before .before .before) .z) ≡ c .geodetic-units .result
+-- the angles' answer, by its definition
+abbrev asked : tie.Start → GeodeticUnits
+asked s = geodeticUnitsOf (s .args .o .ellipsoid) (at s .x) (at s .y) (at s .z)
+
+said : (c : tie.After-geodetic-units) → asked (c .before .before .before .before .before .before) ≡ c .geodetic-units .result
 said c = let s = c .before .before .before .before .before .before in sym (rw (ellipsoid s, first s, second s, third s) at (c .geodetic-units .ensures))
 
 geodetic-units-requires : tie.Need-geodetic-units-requires

@@ -35,7 +35,8 @@ returns-2 c =
     let g = c .before .before .before .before .before .lot2 .given in
     let e : toZ w64 (ofZ w64 (g .0 .1 .0)) ≡ g .0 .1 .0 = search needs in
     let n : toZ w64 (ofZ w64 (g .0 .1 .1 .0)) ≡ g .0 .1 .1 .0 = search needs in
-    rw (g .1) (drawn _ _ _ (search needs) (search needs) (search needs) (search needs) (c .before .before .before .before .before .before .before .before .pre) (rw (e, n) at (c .before .before .write-lot .ensures)))
+    let w = rw (e, n) at (c .before .before .write-lot .ensures) in
+    rw (g .1) (drawn _ _ _ (search needs) (search needs) (search needs) (search needs) (c .before .before .before .before .before .before .before .before .pre) w)
 
 pub write-spec : {M : Type 1} → statement M
 write-spec =

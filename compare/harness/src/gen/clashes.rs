@@ -66,10 +66,7 @@ fn good(profile: i64) -> Parts {
     let texts = |line: &str| line.split('|').map(str::to_string).collect();
     Parts {
         room: 200,
-        lines: vec![
-            format!("E|{profile}\n"),
-            "S|T|5|2000000|7|2006586|-15832|-4363|-9706\n".to_string(),
-        ],
+        lines: vec![format!("E|{profile}\n"), "S|T|5|2000000|7|2006586|-15832|-4363|-9706\n".to_string()],
         fields: texts("P|ARAU|7|3|5|2000000|-113105165410|623631179950|71174811140"),
         feed: "\n",
         origin: [1, 2_149_440_000, 36_243_000_000, 50_000, -25_000],

@@ -12,12 +12,13 @@
 /* GRS80; Gunung Perak's origin, as examples/kedah.plan has it. */
 static const int64_t ellipsoid = 1, latitude = 2147282155, longitude = 36229093860;
 
+/* The bytes of a file; 0 where it can't be read, is empty, or does not fit. */
 static size_t read_file(const char *name, uint8_t *text, size_t room) {
     FILE *file = fopen(name, "rb");
     const size_t length = file ? fread(text, 1, room, file) : 0;
     if (file)
         fclose(file);
-    return length;
+    return length < room ? length : 0;
 }
 
 /* A lot plan's line, or its refusal. */
@@ -32,12 +33,13 @@ static void show(const char *what, const uint8_t *chain, size_t chain_length, co
 }
 
 int main(int argc, char **argv) {
-    static uint8_t chain[8000], point[200], sheet[8200], converted[SWIVELCRANE_ROOM(8200)];
-    if (argc != 3)
+    static uint8_t chain[8000], point[201], sheet[8201], converted[SWIVELCRANE_ROOM(8201)];
+    const size_t steps = argc == 3 ? read_file(argv[1], chain, sizeof chain) : 0;
+    const size_t bytes = argc == 3 ? read_file(argv[2], point, sizeof point) : 0;
+    if (steps == 0 || bytes == 0) {
+        fprintf(stderr, "tracker CHAIN POINT: two files, a chain of up to 7,999 bytes and a point line\n");
         return 2;
-    const size_t steps = read_file(argv[1], chain, sizeof chain), bytes = read_file(argv[2], point, sizeof point);
-    if (steps == 0 || bytes == 0)
-        return 2;
+    }
     show("lot", chain, steps, point, bytes, latitude);
     /* Chain and point together are a sheet: the point as it is at the chain's end. */
     memcpy(sheet, chain, steps);

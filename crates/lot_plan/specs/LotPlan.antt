@@ -1,7 +1,7 @@
 -- A line of the lot plan: the chain's text, the point's line, the conversion, latitude and longitude, Cassini, one after another, each by its own definition.
 -- The first that refuses decides.
 use Prim.Native.Nat.{ℕ}
-use mathlib.Core.Bool.{Bool, true, false, not}
+use mathlib.Core.Bool.{Bool, true, false}
 use mathlib.Core.List.{List, [], _∷_, _++_}
 use lib.Dec.{eqb, leb}
 use lib.IntN.{ℤ}

@@ -6,7 +6,7 @@ use mir.Val.{toZ, ofZ}
 use borrow.Author.Tests.{not-true, not-false}
 use Rattle.refusal.proofs.Orders.{unless-none, unless-some}
 use Rattle.chain.specs.Faults.{profileFault}
-use Rattle.lot_plan.specs.declared.Read.the-variants.{Profile, Refused}
+use Rattle.lot_plan.specs.declared.Read.the-variants.{Refused}
 use borrow.Author.Needs.{needs}
 use Rattle.lot_plan.proofs.chain_text.judge_edition.Statement.{statement}
 use Rattle.lot_plan.proofs.chain_text.judge_edition.Tie as tie

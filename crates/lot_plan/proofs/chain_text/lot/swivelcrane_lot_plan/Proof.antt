@@ -1,10 +1,9 @@
 -- `lot_plan::chain_text::lot::swivelcrane_lot_plan` meets its contract. Assumes nothing.
 use mathlib.Core.Path.{_≡_, refl, _∙_}
-use native.Mathlib.Omega.{arith}
 use borrow.Author.Tests.{le-leb, lt-leb}
 use mir.Syntax.{w64}
 use mir.Val.{toZ, ofZ}
-use Rattle.lot_plan.specs.LotPlan.{least, lotOf, lotPlanOf, originFrom}
+use Rattle.lot_plan.specs.LotPlan.{least, lotPlanOf}
 use borrow.Author.Needs.{needs}
 use Rattle.lot_plan.proofs.chain_text.lot.swivelcrane_lot_plan.Statement.{statement}
 use Rattle.lot_plan.proofs.chain_text.lot.swivelcrane_lot_plan.Tie as tie

@@ -4,7 +4,6 @@ use mir.Syntax.{w64}
 use mir.Val.{toZ, ofZ}
 use Rattle.chain.specs.declared.Answer.{Answer}
 use Rattle.chain.proofs.Keeping.{prepared-forward}
-use Rattle.line.specs.declared.PointLine.{PointLine}
 use Rattle.line.specs.Readers.{readPoint}
 use Rattle.line.proofs.Readers.{point-sound}
 use Rattle.lot_plan.specs.LotPlan.{onAnswer, laidFrom}

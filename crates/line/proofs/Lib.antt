@@ -9,7 +9,6 @@ pub mod Texts
 pub mod Compared
 pub mod Lengths
 pub mod Malformed
-pub mod MalformedCases
 pub mod GoodForm
 pub mod SecondLook
 pub mod Readers

@@ -10,7 +10,6 @@ pub mod Compared
 pub mod Lengths
 pub mod Lots
 pub mod Malformed
-pub mod MalformedCases
 pub mod GoodForm
 pub mod SecondLook
 pub mod Readers

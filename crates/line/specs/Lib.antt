@@ -4,7 +4,6 @@ pub mod Fields
 pub mod Name
 pub mod Forms
 pub mod Malformed
-pub mod MalformedCases
 pub mod Readers
 pub mod Lines
 pub mod Text

@@ -128,7 +128,7 @@ fn look(s: &[u8], first: u8, kind: u8) -> Seen
 }
 
 // A number and its place, which is within a line.
-pub fn found(number: u8, place: usize) -> Fault
+pub(crate) fn found(number: u8, place: usize) -> Fault
     requires { ⌜ place ≤ 200 ⌝ }
     ensures { λ r. ⌜ r ≡ fault number place ⌝ }
 {

@@ -168,6 +168,10 @@ fn later_lines() {
         b"P\tA1\t9\t1\t6\t2000000\t1\t2\t3\n",
         b"P\tA2\t10\t1\t6\t2000000\t1\t2\t3\n",
     );
+}
+
+// One of the two lines is refused, or both.
+fn later_refused_lines() {
     later(
         b"P\tA1\t9\t1\t6\t0\t1\t2\t3\n",
         b"P\tA1\tx\t1\t6\t2000000\t1\t2\t3\n",
@@ -296,6 +300,7 @@ fn main() {
     origins();
     positions();
     later_lines();
+    later_refused_lines();
     numbers_and_names();
     faults_in_order();
     orders();

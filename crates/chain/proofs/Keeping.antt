@@ -451,7 +451,7 @@ holds-fresh = holds-none latest (replicate 72 (pos 0)) refl refl refl
 -- numbers with no step hold no step under any profile that is one
 pub holds-under : (y z : ℤ) (l : List ℤ) → Holds y l [] → profileFault z ≡ 0 → Holds z l []
 unfolding profileFault
-holds-under y z l h e = holds-none z l (head-holds (profileRange z) 1 0 e .0) (h .room) (h .count)
+holds-under y z l h e = holds-none z l (head-holds (profileRange z) _ _ e .0) (h .room) (h .count)
 
 -- ---- a turn of the code's loops over the rows
 pub rows-on : (l : List ℤ) (i n : ℕ) → i < n → rowsOf l i (n - i) ≡ rowAt l i ∷ rowsOf l (i + 1) (n - (i + 1))

@@ -1,7 +1,6 @@
 -- `chain::faults::profile_fault` meets its contract. Assumes nothing.
 use mathlib.Core.Path.{_≡_, sym, ap, _∙_}
 use mathlib.Core.Bool.{Bool}
-use lib.IntN.{ℤ}
 use Rattle.ranges.specs.Ranges.{profileRange}
 use Rattle.chain.specs.Faults.{profileFault}
 use Rattle.rounding.proofs.Machine.{rd}

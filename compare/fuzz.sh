@@ -1,18 +1,19 @@
 #!/bin/bash
-# fuzz.sh [--standin] [SECONDS]: libFuzzer on the sheet and the plan entry of the C interface, with the
+# fuzz.sh [--standin] [SECONDS]: libFuzzer on the sheet, the plan and the lot plan entry of the C interface, with the
 # independent program as oracle, so many seconds for each (60 if not said). Prints executions, paths,
 # crashes and mismatches, and ends with 1 where there was any. --standin tries it without the product.
 #
-# The product's archive is not instrumented; the oracle is, so its branches guide the fuzzer. It starts from
-# SEEDS sheets and plans of the generator (200 if not said; 0 leaves it the dictionary alone).
+# The product's archives are not instrumented; the oracle is, so its branches guide the fuzzer. It starts from
+# SEEDS sheets, plans and lot plans of the generator (200 if not said; 0 leaves it the dictionary alone).
 set -euo pipefail
 here=$(cd "$(dirname "$0")" && pwd)
 root=$(cd "$here/.." && pwd)
 features=()
-archive=${SWIVELCRANE_LIB:-$root/target/staticlib}/libcapi.a
+folder=${SWIVELCRANE_LIB:-$root/target/staticlib}
+archives="$folder/libcapi.a $folder/liblot_plan.a"
 if [ "${1:-}" = --standin ]; then
     features=(--features oracle/standin)
-    archive=
+    archives=
     shift
 fi
 seconds=${1:-60}
@@ -33,9 +34,10 @@ oracle=$work/build/$target/release/liboracle.a
 rm -rf "$work/corpus" "$work/found"
 "$root/target/compare/release/seeds" "$work/corpus" "${SEEDS:-200}"
 bad=0
-for name in sheet plan; do
+for name in sheet plan lot; do
     plan=$([ $name = plan ] && echo 1 || echo 0)
-    clang -O2 -fsanitize=fuzzer -DPLAN=$plan oracle/fuzz.c "$oracle" $archive -lpthread -ldl -lm -o "$work/fuzz-$name"
+    source=$([ $name = lot ] && echo lot.c || echo fuzz.c)
+    clang -O2 -fsanitize=fuzzer -DPLAN=$plan oracle/$source "$oracle" $archives -lpthread -ldl -lm -o "$work/fuzz-$name"
     mkdir -p "$work/found/$name"
     status=0
     "$work/fuzz-$name" -max_total_time="$seconds" -max_len=4096 -timeout=10 -use_value_profile=1 \

@@ -24,7 +24,7 @@ extern "C" {
 
 /* The version of this interface: a function or a number that is added raises the minor, any other change the major. */
 #define SWIVELCRANE_VERSION_MAJOR 4
-#define SWIVELCRANE_VERSION_MINOR 1
+#define SWIVELCRANE_VERSION_MINOR 2
 
 /* The refusal numbers by name; README.md says of each what to do. 1 is not given. */
 enum swivelcrane_refusal {
@@ -50,7 +50,8 @@ enum swivelcrane_refusal {
     SWIVELCRANE_REFUSAL_ID = 21,       /* an id that is not 1 to 16 of A-Z, 0-9 and hyphen */
     SWIVELCRANE_REFUSAL_PLAIN = 22,    /* a number that is not in plain form */
     SWIVELCRANE_REFUSAL_PLANE = 23,    /* an easting or northing not finite, or 10,000,000 m or more in size */
-    SWIVELCRANE_REFUSAL_PROFILE = 25   /* a step or a point that the chain's profile doesn't have */
+    SWIVELCRANE_REFUSAL_PROFILE = 25,  /* a step or a point that the chain's profile doesn't have */
+    SWIVELCRANE_REFUSAL_BUFFER = 27    /* a buffer of fewer than 200 bytes: only of the lot plan (swivelcrane_lot_plan.h) */
 };
 
 /* An array has not the number of elements that its call asks for. It comes before every refusal. */

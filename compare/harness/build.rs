@@ -1,5 +1,5 @@
-//! With the feature `product`, links the product's static library: `rt staticlib capi` writes it to
-//! target/staticlib of the repository. SWIVELCRANE_LIB names another folder that holds libcapi.a.
+//! With the feature `product`, links the product's static libraries: `rt staticlib capi` and `rt staticlib lot_plan` write them
+//! to target/staticlib of the repository. SWIVELCRANE_LIB names another folder that holds libcapi.a and liblot_plan.a.
 
 use std::env;
 use std::path::{Path, PathBuf};
@@ -13,9 +13,11 @@ fn main() {
     let here = env::var("CARGO_MANIFEST_DIR").expect("set by cargo");
     let usual = Path::new(&here).join("../../target/staticlib");
     let folder = env::var_os("SWIVELCRANE_LIB").map_or(usual, PathBuf::from);
-    let archive = folder.join("libcapi.a");
-    assert!(archive.exists(), "{} is missing: run `rt staticlib capi`", archive.display());
-    println!("cargo:rerun-if-changed={}", archive.display());
     println!("cargo:rustc-link-search=native={}", folder.display());
-    println!("cargo:rustc-link-lib=static=capi");
+    for library in ["capi", "lot_plan"] {
+        let archive = folder.join(format!("lib{library}.a"));
+        assert!(archive.exists(), "{} is missing: run `rt staticlib {library}`", archive.display());
+        println!("cargo:rerun-if-changed={}", archive.display());
+        println!("cargo:rustc-link-lib=static={library}");
+    }
 }

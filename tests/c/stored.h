@@ -6,6 +6,9 @@ static const int64_t stored_arau_inverse[7] = {1, 3, 6, 2000000, -113105165410, 
 static const int64_t stored_forward_2009[7] = {12, 4, 7, 2006586, -122145557622, 622097703921, 53876704976};
 static const int64_t stored_inverse_2009[7] = {12, 4, 1, 0, -122145800014, 621926987434, 53876381392};
 static const int64_t stored_join[26] = {66, 67, 1, 0, 5, 2000000, -1100000, 85100000, 500000, 12500, -8300, 40250, -1350, 84, 0, 5, 2000000, 7, 2006586, -15832, -4363, -9706, 1, 2, 3, 4};
+#define stored_lot_plan "C\tARAU\t7\t3\t-43673705\t53017498\n"
+#define stored_lot_plan_no_step "C\tARAU\t7\t3\t-43673869\t53017593\n"
+static const int64_t stored_lot_plan_millimetres[2] = {-43673705, 53017498};
 static const uint64_t stored_cartesian[3] = {UINT64_C(0xc1341b3c564d721e), UINT64_C(0x4157c2f4d78bcff2), UINT64_C(0x41172183aa5b1cab)};
 static const int64_t stored_cartesian_units[3] = {-131769233712, 622894736791, 37897691636};
 static const int64_t stored_geodetic[3] = {1234567890, 36700000123, 456789};

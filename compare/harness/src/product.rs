@@ -1,7 +1,7 @@
 //! The product through its C interface. Each call watches the bytes around and in what it lends: on a
 //! refusal nothing may be written, and never anything past the lent slice.
 
-use crate::subject::{Answer, Subject, STRANGE, WROTE};
+use crate::subject::{Answer, Lot, Subject, STRANGE, WROTE};
 use paper::numbers::PointRow;
 #[cfg(feature = "standin")]
 use standin as _;
@@ -115,6 +115,19 @@ mod c {
             out: *mut i64,
             out_len: usize,
         ) -> i64;
+        pub fn swivelcrane_lot_plan(
+            chain: *const u8,
+            chain_len: usize,
+            point: *const u8,
+            point_len: usize,
+            ellipsoid: i64,
+            origin_latitude: i64,
+            origin_longitude: i64,
+            false_easting: i64,
+            false_northing: i64,
+            out: *mut u8,
+            out_len: usize,
+        ) -> i64;
         pub fn swivelcrane_sheet(input: *const u8, input_len: usize, out: *mut u8, out_len: usize) -> i64;
         pub fn swivelcrane_plan(input: *const u8, input_len: usize, out: *mut u8, out_len: usize) -> i64;
     }
@@ -220,6 +233,25 @@ pub fn later_fault(first: &[u8], second: &[u8], out: &mut [i64]) -> i64 {
             first.len(),
             second.as_ptr(),
             second.len(),
+            out.as_mut_ptr(),
+            out.len(),
+        )
+    }
+}
+
+pub fn lot_plan(lot: &Lot, out: &mut [u8]) -> i64 {
+    let [ellipsoid, latitude, longitude, easting, northing] = lot.origin;
+    unsafe {
+        c::swivelcrane_lot_plan(
+            lot.text.as_ptr(),
+            lot.text.len(),
+            lot.line.as_ptr(),
+            lot.line.len(),
+            ellipsoid,
+            latitude,
+            longitude,
+            easting,
+            northing,
             out.as_mut_ptr(),
             out.len(),
         )
@@ -332,6 +364,19 @@ impl Subject for Product {
     }
     fn later_fault(&self, first: &[u8], second: &[u8]) -> Answer<[i64; 3]> {
         lend(MARK, |out| later_fault(first, second, out))
+    }
+    fn lot_plan(&self, lot: &Lot) -> Answer<Vec<u8>> {
+        let mut out = vec![0xa5; lot.room + 1];
+        let answer = lot_plan(lot, &mut out[..lot.room]);
+        let length = usize::try_from(answer).unwrap_or(0);
+        if length > lot.room || out[length..].iter().any(|byte| *byte != 0xa5) {
+            return Err(WROTE);
+        }
+        match answer {
+            1.. => Ok(out[..length].to_vec()),
+            -30..=-2 => Err(-answer as u8),
+            _ => Err(STRANGE),
+        }
     }
     fn sheet(&self, input: &[u8]) -> Vec<u8> {
         print(input, sheet)

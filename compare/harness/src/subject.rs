@@ -12,6 +12,16 @@ pub type Answer<T> = Result<T, u8>;
 pub const WROTE: u8 = 254;
 pub const STRANGE: u8 = 253;
 
+/// What a lot plan is made from: the chain's text, the point's line, ellipsoid and origin (latitude, longitude, FE, FN), and the
+/// length of the buffer.
+#[derive(Clone, Debug)]
+pub struct Lot {
+    pub text: Vec<u8>,
+    pub line: Vec<u8>,
+    pub origin: [i64; 5],
+    pub room: usize,
+}
+
 pub trait Subject {
     fn name(&self) -> &'static str;
     fn forward(&self, profile: i64, chain: &[i64], point: &PointRow) -> Answer<PointRow>;
@@ -31,6 +41,8 @@ pub trait Subject {
     fn later(&self, first: &[u8], second: &[u8]) -> Answer<i64>;
     /// The number, the line (1, 2, or 0 for neither) and the place of its refusal; zeros for none.
     fn later_fault(&self, first: &[u8], second: &[u8]) -> Answer<[i64; 3]>;
+    /// A line of the lot plan.
+    fn lot_plan(&self, lot: &Lot) -> Answer<Vec<u8>>;
     fn sheet(&self, input: &[u8]) -> Vec<u8>;
     fn plan(&self, input: &[u8]) -> Vec<u8>;
 }
@@ -86,6 +98,11 @@ impl Subject for Paper {
     fn later_fault(&self, first: &[u8], second: &[u8]) -> Answer<[i64; 3]> {
         let refused = paper::later::later(first, second).err();
         Ok(refused.map_or([0; 3], |r| [i64::from(r.number), r.line, r.place as i64]))
+    }
+    fn lot_plan(&self, lot: &Lot) -> Answer<Vec<u8>> {
+        let [e, a, b, fe, fn_] = lot.origin;
+        let origin = origin(&[e, a, b, fe, fn_, 0, 0]);
+        paper::lot_plan::lot_plan(&lot.text, &lot.line, &origin, lot.room).map(String::into_bytes)
     }
     fn sheet(&self, input: &[u8]) -> Vec<u8> {
         paper::sheet::sheet(input)
@@ -144,6 +161,11 @@ impl Subject for Baseline {
     }
     fn later_fault(&self, first: &[u8], second: &[u8]) -> Answer<[i64; 3]> {
         Ok(baseline::later::later(first, second).err().unwrap_or_default())
+    }
+    fn lot_plan(&self, lot: &Lot) -> Answer<Vec<u8>> {
+        let mut out = Vec::new();
+        baseline::lot_plan::lot_plan(&lot.text, &lot.line, lot.origin, lot.room, &mut out)?;
+        Ok(out)
     }
     fn sheet(&self, input: &[u8]) -> Vec<u8> {
         let mut out = Vec::new();

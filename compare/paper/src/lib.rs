@@ -15,6 +15,7 @@ pub mod join;
 pub mod later;
 pub mod library;
 pub mod lines;
+pub mod lot_plan;
 pub mod numbers;
 pub mod oblique;
 pub mod plan;

@@ -11,15 +11,15 @@ pub fn sheet(input: &[u8]) -> Vec<u8> {
     program::run(input, Sheet::default())
 }
 
-#[derive(Default)]
-struct Sheet {
-    lines_read: u64,
-    profile: Profile,
-    chain: Vec<Step>,
+#[derive(Clone, Default)]
+pub struct Sheet {
+    pub lines_read: u64,
+    pub profile: Profile,
+    pub chain: Vec<Step>,
     /// A line beginning with S or E was refused, whatever for.
-    step_refused: bool,
+    pub step_refused: bool,
     /// A point line of good form was read, refused or not.
-    point_read: bool,
+    pub point_read: bool,
 }
 
 impl Reader for Sheet {

@@ -1,7 +1,9 @@
 //! The stored answers of the examples in C, worked out again.
 
+use paper::angle::Origin;
 use paper::decimal::round;
 use paper::geodetic::geodetic;
+use paper::lot_plan::lot_plan;
 use paper::rso::{self, Parameters};
 
 /// The text stands among what the examples in C print.
@@ -66,6 +68,58 @@ fn onto_rso_and_back() {
         on_rso("Sabah", borneo, 2476245022, 42064758835),
         on_rso("document 004", timbalai, 1939411290, 41689981960),
         format!("too far\trefused: {}\n", too_far.expect_err("23")),
+    ];
+    stored(&text.concat());
+}
+
+/// ARAU's chain to GDM2020, as the examples of the lot plan have it, and the origin of Kedah and Perlis.
+fn arau_chain() -> String {
+    "E|2021\nS|T|6|2000000|6|2006586|-15832|-4363|-9706\nS|V|6|2006586|6|2010000|-1876|-90|-684\n\
+        S|F|6|2010000|10|2010000\nS|V|10|2010000|10|2020000|-1874|-169|-502\n"
+        .replace('|', "\t")
+}
+
+const KEDAH: Origin = Origin {
+    ellipsoid: 1,
+    latitude: 2147282155,
+    longitude: 36229093860,
+    false_easting: 0,
+    false_northing: 0,
+};
+
+fn lot(chain: &str, point: &str, origin: &Origin) -> String {
+    match lot_plan(chain.as_bytes(), point.as_bytes(), origin, 200) {
+        Ok(line) => line,
+        Err(number) => format!("refused: {number}\n"),
+    }
+}
+
+#[test]
+fn lines_of_a_lot_plan() {
+    let chain = arau_chain();
+    let show = |point: &str| lot(&chain, &point.replace('|', "\t"), &KEDAH);
+    let text = [
+        show("P|ARAU|1|1|6|2000000|-113105165410|623631179950|71174811140\n"),
+        show("P|PEG-2|1|4|6|2000000|-113104712345|623631254321|71174899999\n"),
+        show("P|PEG-1|2|4|5|2000000|-113105165410|623631179950|71174811140\n"),
+        show("P|PEG-3|1|6|2000000|-113105165410|623631179950|71174811140\n"),
+    ];
+    stored(&text.concat());
+}
+
+#[test]
+fn a_small_job_tracker() {
+    let (chain, point) = (arau_chain(), "P|ARAU|1|1|6|2000000|-113105165410|623631179950|71174811140\n");
+    let point = point.replace('|', "\t");
+    let sheet = format!("{chain}{point}");
+    let converted = String::from_utf8(paper::sheet::sheet(sheet.as_bytes())).expect("ASCII");
+    let south = Origin { latitude: -KEDAH.latitude, ..KEDAH };
+    let text = [
+        format!("lot\t{}", lot(&chain, &point, &KEDAH)),
+        format!("at the end\t{converted}"),
+        format!("a point in the chain\t{}", lot(&sheet, &point, &KEDAH)),
+        format!("no line feed\t{}", lot(&chain, point.trim_end(), &KEDAH)),
+        format!("origin in the south\t{}", lot(&chain, &point, &south)),
     ];
     stored(&text.concat());
 }

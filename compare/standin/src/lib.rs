@@ -214,6 +214,37 @@ pub unsafe extern "C" fn swivelcrane_later_fault(
     give(Ok(baseline::later::later(first, second).err().unwrap_or_default()), out, out_len)
 }
 
+/// The lot plan's own library has this one function.
+///
+/// # Safety
+/// Each pointer and length are a live slice.
+#[no_mangle]
+pub unsafe extern "C" fn swivelcrane_lot_plan(
+    chain: *const u8,
+    chain_len: usize,
+    point: *const u8,
+    point_len: usize,
+    ellipsoid: i64,
+    origin_latitude: i64,
+    origin_longitude: i64,
+    false_easting: i64,
+    false_northing: i64,
+    out: *mut u8,
+    out_len: usize,
+) -> i64 {
+    let chain = slice::from_raw_parts(chain, chain_len);
+    let point = slice::from_raw_parts(point, point_len);
+    let origin = [ellipsoid, origin_latitude, origin_longitude, false_easting, false_northing];
+    let mut line = Vec::new();
+    match baseline::lot_plan::lot_plan(chain, point, origin, out_len, &mut line) {
+        Ok(()) => {
+            slice::from_raw_parts_mut(out, line.len()).copy_from_slice(&line);
+            line.len() as i64
+        }
+        Err(number) => -i64::from(number),
+    }
+}
+
 macro_rules! text {
     ($name:ident, $call:path) => {
         /// # Safety

@@ -8,7 +8,7 @@ use native.Mathlib.Omega.{arith}
 use borrow.Author.Tests.{le-ltb, le-leb, lt-leb, leb-true, leb-false, eq-eqb, ne-eqb, ltb-false}
 use lib.Dec.{ltb, leb, eqb}
 use lib.IntN.{ℤ, pos, natAbs, _+ℤ_}
-use lib.ListN.{length, getD, set, length-set, length-append}
+use lib.ListN.{length, getD, set, replicate, length-set, length-append}
 use lib.Seq.{sets, take-length, length-sets, getD-set-same, getD-set-other}
 use Rattle.refusal.specs.Numbers as refusal
 use Rattle.refusal.specs.Order.{Test, _gives_, first, pick, unless}
@@ -24,7 +24,7 @@ use Rattle.chain.specs.declared.steps.Ready.the-variants.{Fixed, Turned,
 use Rattle.chain.specs.declared.steps.kept.Row.{Row}
 use Rattle.chain.specs.declared.Answer.{Answer}
 use Rattle.chain.specs.declared.Answer.the-variants.{Converted, Refused}
-use Rattle.chain.specs.Faults.{StepOk, stepFault, pointFault, inArea, sameRealization, pointTests, stepTests, joinTest, laterTests, stepsTests, chainTests}
+use Rattle.chain.specs.Faults.{StepOk, latest, stepFault, pointFault, profileFault, inArea, sameRealization, pointTests, stepTests, joinTest, laterTests, stepsTests, chainTests}
 use Rattle.chain.specs.Axes.{Axis, onX, onY, onZ, coordinate}
 use Rattle.chain.specs.Parts.{Parts, forwardBy, inverseBy}
 use Rattle.chain.specs.Convert.{at, left, onward, walk, forwardStep, inverseStep, answerOf, startOf, endOf, joins, moreTests, placeTests, movedTo, convert, forwardOf, inverseOf}
@@ -443,6 +443,15 @@ module _ (l : List ℤ) (p : Point) where
 pub holds-none : (y : ℤ) (l : List ℤ) → profileRange y ≡ true → length l ≡ 72 → lengthIn l ≡ pos 0 → Holds y l []
 unfolding rowsOf startOf endOf
 holds-none y l g e f = record { room = e; count = f; ends = record { starts = refl; ends = refl }; rows = tt; sound = rw g }
+
+pub holds-fresh : Holds latest (replicate 72 (pos 0)) []
+unfolding within
+holds-fresh = holds-none latest (replicate 72 (pos 0)) refl refl refl
+
+-- numbers with no step hold no step under any profile that is one
+pub holds-under : (y z : ℤ) (l : List ℤ) → Holds y l [] → profileFault z ≡ 0 → Holds z l []
+unfolding profileFault
+holds-under y z l h e = holds-none z l (head-holds (profileRange z) _ _ e .0) (h .room) (h .count)
 
 -- ---- a turn of the code's loops over the rows
 pub rows-on : (l : List ℤ) (i n : ℕ) → i < n → rowsOf l i (n - i) ≡ rowAt l i ∷ rowsOf l (i + 1) (n - (i + 1))

@@ -130,3 +130,7 @@ stepsTests y (s ∷ ss) = stepTests y s ++ laterTests y s ss
 
 abbrev pub chainTests : Chain → List Test
 chainTests c = (not (profileRange (c .profile)) gives refusal.range) ∷ (ltb 8 (c .length) gives refusal.ninth) ∷ stepsTests (c .profile) (stepsOf c)
+
+-- ---- a profile by itself, before there is a step under it
+unfoldable pub profileFault : ℤ → ℕ
+profileFault y = first ((not (profileRange y) gives refusal.range) ∷ [])

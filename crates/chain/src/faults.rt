@@ -1,6 +1,6 @@
 // What a point and a step are refused for by themselves.
 ghost use mathlib.Core.Path.{_≡_};
-ghost use Rattle.chain.specs.Faults.{pointFault, stepFault};
+ghost use Rattle.chain.specs.Faults.{pointFault, stepFault, profileFault};
 use crate::Point;
 use crate::Step;
 use crate::kinds;
@@ -44,4 +44,15 @@ pub fn step_fault(profile: i64, step: Step) -> u8
         return refusal::KIND;
     }
     0
+}
+
+// The refusal that a profile alone decides: RANGE for a year that is no edition's, or 0 for none.
+pub fn profile_fault(profile: i64) -> u8
+    ensures { λ r. ⌜ r ≡ profileFault profile ⌝ }
+{
+    if ranges::is_profile(profile) {
+        0
+    } else {
+        refusal::RANGE
+    }
 }

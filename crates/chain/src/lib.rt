@@ -8,6 +8,7 @@ mod profiles;
 mod steps;
 
 pub use crate::faults::point_fault;
+pub use crate::faults::profile_fault;
 pub use crate::faults::step_fault;
 pub use crate::steps::convert::forward;
 pub use crate::steps::convert::inverse;

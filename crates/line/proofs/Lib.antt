@@ -8,6 +8,7 @@ pub mod Faults
 pub mod Texts
 pub mod Compared
 pub mod Lengths
+pub mod Lots
 pub mod Malformed
 pub mod GoodForm
 pub mod SecondLook

@@ -27,6 +27,7 @@ pub use origin_line::read_origin;
 pub use other_line::strange;
 pub use point_line::read_point;
 pub use step_line::read_step;
+pub use write::lot::write_lot;
 pub use write::write_point;
 pub use write::write_projected;
 pub use write::write_refusal;

@@ -8,6 +8,8 @@ ghost use Prim.Native.Nat.{_+_, _<_, _/_, _%_};
 ghost use lib.IntN.{natAbs};
 ghost use Rattle.line.specs.Text.{decimal, integer, letters, nameText, pointText, projectedText, refusalText, Wrote, leading, six};
 
+pub mod lot;
+
 const MINUS: u8 = 45;
 
 const HIGHEST: u64 = 72057594037927936;

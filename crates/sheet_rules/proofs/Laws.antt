@@ -11,14 +11,14 @@ use borrow.Author.Tests.{eq-eqb, ne-eqb}
 use Rattle.refusal.specs.Numbers as refusal
 use Rattle.refusal.specs.Order.{Test, first, unless}
 use Rattle.refusal.proofs.Orders.{unless-none, unless-some}
-use Rattle.ranges.specs.Ranges.{within, profileRange}
+use Rattle.ranges.specs.Ranges.{profileRange}
 use Rattle.chain.specs.declared.Step.{Step}
 use Rattle.chain.specs.declared.Point.{Point}
 use Rattle.chain.specs.declared.Answer.{Answer}
 use Rattle.chain.specs.Faults.{latest, pointFault, stepFault}
 use Rattle.chain.specs.Convert.{moreTests, forwardOf}
 use Rattle.chain.specs.Prepared.{extendFault, extendedBy, forwardPrepared, chainOf}
-use Rattle.chain.proofs.Keeping.{holds-none, extend-joins, extend-holds, refused-is, prepared-forward}
+use Rattle.chain.proofs.Keeping.{holds-none, holds-fresh, extend-joins, extend-holds, refused-is, prepared-forward}
 use Rattle.line.specs.declared.Fault.{Fault}
 use Rattle.line.specs.declared.StepLine.the-variants as step-line
 use Rattle.line.specs.declared.StepLine.{StepLine}
@@ -163,8 +163,7 @@ pub answered : {st : State} {l : List ℤ} {s : Sheet} → Holds st l s → (p :
 answered {st} {l} {s} h p f e q = rw (← h .profile) (sym (prepared-forward (st .profile) l (s .steps) (h .chain) p f) ∙ sym e ∙ q)
 
 pub hold-fresh : Holds (record { line = 1; profile = latest; refused = false; closed = false }) (replicate 72 (pos 0)) fresh
-unfolding within
-hold-fresh = record { line = refl; profile = refl; refused = refl; closed = refl; chain = holds-none latest (replicate 72 (pos 0)) refl refl refl; counted = omega arith }
+hold-fresh = record { line = refl; profile = refl; refused = refl; closed = refl; chain = holds-fresh; counted = omega arith }
 
 -- ---- each line is counted
 unless-line : (s a b : Sheet) (n : ℕ) → a .line ≡ s .line + 1 → b .line ≡ s .line + 1 → unless n (λ _. a) b .line ≡ s .line + 1

@@ -3,7 +3,7 @@
 //! Buffers are made once and not cleared between calls on either side. Ends with 1 where a ratio is over
 //! the bar.
 
-use harness::gen::{chains::Chains, full};
+use harness::gen::{chains::Chains, full, lots};
 use harness::measure::{both, Pair};
 use harness::programs::Programs;
 use harness::rng::Rng;
@@ -54,6 +54,7 @@ fn main() -> ExitCode {
     plans(&mut report, &mut rng);
     conversions(&mut report, &mut rng, &chains);
     joins(&mut report, &mut rng, &chains);
+    lot_plans(&mut report, &mut rng, &chains);
     angles(&mut report, &mut rng);
     from_cartesian(&mut report, &mut rng);
     oblique_mercator(&mut report, &mut rng);
@@ -169,6 +170,31 @@ fn conversions(report: &mut Report, rng: &mut Rng, chains: &Chains) {
         |point| _ = black_box(product::inverse(2021, &chain, point, &mut out)),
         |point| _ = black_box(baseline::numbers::inverse(2021, &chain, point)),
     );
+}
+
+/// The chain's text is read anew at each call.
+fn lot_plans(report: &mut Report, rng: &mut Rng, chains: &Chains) {
+    let mut good = Vec::new();
+    while good.len() < CALLS {
+        let lot = lots::lot(rng, chains);
+        if baseline::lot_plan::lot_plan(&lot.text, &lot.line, lot.origin, lot.room, &mut Vec::new()).is_ok() {
+            good.push(lot);
+        }
+    }
+    let (mut out, mut line) = ([0; 300], Vec::with_capacity(300));
+    let ours = || {
+        for lot in &good {
+            black_box(product::lot_plan(lot, &mut out));
+        }
+    };
+    let theirs = || {
+        for lot in &good {
+            line.clear();
+            _ = black_box(baseline::lot_plan::lot_plan(&lot.text, &lot.line, lot.origin, 300, &mut line));
+        }
+    };
+    let pair = both(ours, theirs, CALLS, 401);
+    report.line("lot plan, chains of 0 to 8 steps", "a call", &pair);
 }
 
 /// Four steps and four.

@@ -7,6 +7,7 @@ pub mod joins;
 pub mod later;
 #[cfg(feature = "product")]
 pub mod lengths;
+pub mod lots;
 pub mod roundings;
 pub mod rso;
 pub mod rso_causes;

@@ -2,11 +2,13 @@
 
 pub mod angles;
 pub mod chains;
+pub mod clashes;
 pub mod floats;
 pub mod full;
 pub mod geodetic;
 pub mod halves;
 pub mod lines;
+pub mod lots;
 pub mod numbers;
 pub mod pairs;
 pub mod plans;

@@ -3,6 +3,7 @@
 
 use paper::angle::{self, Origin};
 use paper::geodetic::geodetic;
+use paper::lot_plan::lot_plan;
 use paper::rso::{self, Parameters};
 use paper::{decimal, later, numbers};
 
@@ -44,6 +45,7 @@ fn main() {
     whole("forward_2009", &numbers::forward(2009, &CHAIN_2009, &POINT).unwrap_or_default());
     whole("inverse_2009", &numbers::inverse(2009, &CHAIN_2009, &POINT_7).unwrap_or_default());
     whole("join", &numbers::join(2009, &CHAIN_2009[..13], 2009, &CHAIN_2009[13..]).unwrap_or_default());
+    lot_plans();
     bits("cartesian", &angle::cartesian(2, 1234567890, 36700000123, 456789).unwrap_or_default());
     whole("cartesian_units", &angle::cartesian_units(2, 1234567890, 36700000123, 456789).unwrap_or_default());
     whole("geodetic", &geodetic(2, [-131769233712, 622894736791, 37897691636]).unwrap_or_default());
@@ -74,6 +76,26 @@ fn main() {
     whole("later_fault_first", &fault(BAD, b""));
     whole("later_fault_ids", &fault(FIRST, OTHER));
     whole("later_fault_none", &fault(FIRST, SECOND));
+}
+
+fn lot_plans() {
+    let origin = Origin {
+        ellipsoid: 1,
+        latitude: 2149440000,
+        longitude: 36243000000,
+        false_easting: 50000,
+        false_northing: -25000,
+    };
+    let chain = b"E\t2021\nS\tT\t6\t2000000\t6\t2006586\t-15832\t-4363\t-9706\n";
+    let point = b"P\tARAU\t7\t3\t6\t2000000\t-113105165410\t623631179950\t71174811140\n";
+    for (name, chain) in [("lot_plan", &chain[..]), ("lot_plan_no_step", b"")] {
+        let line = lot_plan(chain, point, &origin, 200).expect("a line");
+        println!("#define stored_{name} \"{}\"", line.escape_default());
+    }
+    let [latitude, longitude, _] =
+        geodetic(1, [-113105181242, 623631175587, 71174801434]).unwrap_or_default();
+    let millimetres = angle::cassini_millimetres(&origin, latitude, longitude).unwrap_or_default();
+    whole("lot_plan_millimetres", &millimetres);
 }
 
 fn fault(first: &[u8], second: &[u8]) -> [i64; 3] {

@@ -1,0 +1,3 @@
+pub mod LotPlan
+pub mod Drawn
+pub mod Reading

@@ -6,6 +6,21 @@ use crate::malformed;
 const TAB: u8 = b'\t';
 const FEED: u8 = b'\n';
 
+/// What the first eight bytes say, if they are digits: pairs, then fours, then all, side by side in one word.
+#[inline]
+fn eight_digits(bytes: &[u8]) -> Option<u64> {
+    let word = u64::from_le_bytes(*bytes.first_chunk()?);
+    let tens = 0xf0f0_f0f0_f0f0_f0f0;
+    let zeros = 0x3030_3030_3030_3030;
+    if word & tens != zeros || word.wrapping_add(0x0606_0606_0606_0606) & tens != zeros {
+        return None;
+    }
+    let ones = word - zeros;
+    let pairs = (ones * 10 + (ones >> 8)) & 0x00ff_00ff_00ff_00ff;
+    let fours = (pairs * 100 + (pairs >> 16)) & 0x0000_ffff_0000_ffff;
+    Some((fours * 10_000 + (fours >> 32)) & 0xffff_ffff)
+}
+
 pub struct Reader<'a> {
     bytes: &'a [u8],
     at: usize,
@@ -89,6 +104,10 @@ impl<'a> Reader<'a> {
         let start = self.at + usize::from(negative);
         let mut at = start;
         let mut value: u64 = 0;
+        while let Some(eight) = eight_digits(&self.bytes[at..]) {
+            value = value.wrapping_mul(100_000_000).wrapping_add(eight);
+            at += 8;
+        }
         let after = loop {
             let byte = *self.bytes.get(at)?;
             let digit = byte.wrapping_sub(b'0');

@@ -6,9 +6,19 @@ pub fn quotient(n: i64, d: i64) -> i64 {
     whole_and_quotient(0, n, d)
 }
 
-/// The exact w + n/d, rounded once. Rounding n/d alone goes wrong where w is odd.
+/// The exact w + n/d, rounded once. Rounding n/d alone goes wrong where w is odd. An n of at most 8·10^18 in size over an
+/// even d below 10^15 is lifted above zero first, so that one unsigned division does: its quotient has a half rounded up.
 #[inline]
 pub fn whole_and_quotient(w: i64, n: i64, d: i64) -> i64 {
+    const MOST: i64 = 8_000_000_000_000_000_000;
+    if d % 2 == 0 && d < 1_000_000_000_000_000 && n.unsigned_abs() <= MOST as u64 {
+        let lifted = MOST / d + 1;
+        let u = (lifted * d + d / 2) as u64;
+        let u = u.wrapping_add(n as u64);
+        let q = u / d as u64;
+        let nearest = w + (q as i64 - lifted);
+        return nearest - i64::from(u == q * d as u64 && nearest & 1 == 1);
+    }
     let floor = w + n.div_euclid(d);
     let doubled = 2 * n.rem_euclid(d);
     let up = doubled > d || (doubled == d && floor & 1 == 1);

@@ -493,3 +493,7 @@ no-rows l i n h = let e : n - i ≡ 0 = omega arith in rw e
 pub row-ok : (l : List ℤ) (i : ℕ) → rowAt l i .good ≡ true → ReadyOk (rowAt l i .ready)
 unfolding rowAt
 row-ok l i e = range-ok (readyAt l i) (both (formRange (number l i 0)) (readyRange (readyAt l i)) e .1)
+
+-- a test does not come out both ways
+pub no-both : {b : Bool} {A : Type 0} → b ≡ false → b ≡ true → A
+no-both f t = let w : _≡_ {A = ℕ} 0 1 = cc in absurd (omega arith)

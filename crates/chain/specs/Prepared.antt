@@ -20,6 +20,7 @@ use Rattle.chain.specs.declared.Chain.{Chain}
 use Rattle.chain.specs.declared.steps.Ready.{Ready}
 use Rattle.chain.specs.declared.steps.Ready.the-variants.{Fixed, Turned, Scaled}
 use Rattle.chain.specs.declared.steps.kept.Row.{Row}
+use Rattle.chain.specs.declared.steps.kept.Moved.{Moved}
 use Rattle.chain.specs.declared.Answer.{Answer}
 use Rattle.chain.specs.declared.Answer.the-variants.{Converted, Refused}
 use Rattle.chain.specs.Faults.{inArea, sameRealization, stepTests, chainTests}
@@ -81,6 +82,10 @@ readyRange (Scaled t) =
 -- a row is good where a step can have given its form and its figures
 unfoldable pub rowAt : List ℤ → ℕ → Row
 rowAt l i = record { good = formRange (number l i 0) && readyRange (readyAt l i); ready = readyAt l i }
+
+-- where a row leads from q, if it is good
+abbrev pub Stepped : Bool → Parts → Position → Moved → Type 0
+Stepped good t q m = (m .good ≡ good) × (good ≡ true → m .position ≡ forwardBy t q)
 
 -- n of them, from the i-th on
 unfoldable pub rowsOf : List ℤ → ℕ → ℕ → List Row

@@ -18,6 +18,7 @@ use crate::Velocity;
 
 pub mod convert;
 pub mod kept;
+mod lifted;
 
 // Bursa-Wolf: shifts in units, rotations in 10^-11 radian by convention P, scale in 10^-11.
 pub struct Turn {
@@ -199,7 +200,7 @@ fn prepare(step: Step) -> Ready
 // a·X + b·Y + c·Z
 fn linear(a: i64, b: i64, c: i64, p: Position) -> i64
     requires { ⌜ LinearOk a b c p ⌝ }
-    ensures { λ r. ⌜ r ≡ a *ℤ (p .x) +ℤ b *ℤ (p .y) +ℤ c *ℤ (p .z) ⌝ }
+    ensures { λ r. ⌜ (r ≡ a *ℤ (p .x) +ℤ b *ℤ (p .y) +ℤ c *ℤ (p .z)) × (natAbs r ≤ 8000000000000000000) ⌝ }
 {
     a * p.x + b * p.y + c * p.z
 }
@@ -209,7 +210,7 @@ fn turn_part(k: i64, a: i64, b: i64, c: i64, p: Position) -> i64
     requires { ⌜ PartOk k a b c p ⌝ }
     ensures { λ r. ⌜ r ≡ part (over11 k a b c) p ⌝ }
 {
-    rounding::quotient::round_mixed(k, linear(a, b, c, p), 100000000000)
+    lifted::over11(k, linear(a, b, c, p))
 }
 
 fn turn_gain(t: Turn, p: Position) -> Position
@@ -227,7 +228,7 @@ fn scale_part(k: i64, slope: i64, z: i64) -> i64
     requires { ⌜ (natAbs k ≤ 1971000000000000000) × (natAbs slope ≤ 1202000) × (natAbs z ≤ 650000000000) ⌝ }
     ensures { λ r. ⌜ r ≡ stepRound (k +ℤ slope *ℤ z) 100000000000000 ⌝ }
 {
-    rounding::quotient::round_div(k + slope * z, 100000000000000)
+    lifted::over14(k + slope * z)
 }
 
 fn scale_gain(t: Scale, p: Position) -> Position

@@ -17,3 +17,4 @@ pub mod WrittenNumbers
 pub mod WrittenNames
 pub mod Clean
 pub mod Back
+pub mod Ahead

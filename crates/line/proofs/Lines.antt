@@ -1,18 +1,20 @@
 -- The laws of the lines of an input. Assumes nothing.
-use Prim.Native.Nat.{ℕ, suc, _+_, _-_, _≤_, _<_}
-use mathlib.Core.Path.{_≡_, refl, ap, _∙_}
+use Prim.Native.Nat.{ℕ, zero, suc, _+_, _-_, _≤_, _<_}
+use mathlib.Core.Path.{_≡_, refl, sym, ap, _∙_}
 use mathlib.Core.List.{List, [], _∷_}
-use mathlib.Core.Bool.{Bool, true, false}
+use mathlib.Core.Bool.{Bool, true, false, _||_}
 use lib.Dec.{eqb}
 use lib.ListN.{length, getD, take, drop, length-drop, length-take, drop-of-length-le}
 use lib.Seq.{drop-cons, drop-drop}
 use native.Mathlib.Numerals.{add-one}
+use native.Mathlib.Decide.{decLt}
+use native.Mathlib.Nat.{add-zero}
 use native.Mathlib.Omega.{arith}
-use borrow.Author.Tests.{eq-eqb, ne-eqb}
+use borrow.Author.Tests.{eq-eqb, ne-eqb, eqb-false}
 use Rattle.refusal.specs.Order.{pick}
 use Rattle.line.specs.Bytes.{lineFeed}
 use Rattle.line.specs.Fields.{front}
-use Rattle.line.specs.Lines.{lines, firstLength, lineEnd}
+use Rattle.line.specs.Lines.{lines, firstLength, lineEnd, Clear, Onward}
 
 -- ---- the first line's length, by its first byte
 pub length-feed : (s : List ℕ) (i : ℕ) → i < length s → getD s i 0 ≡ lineFeed → firstLength (drop i s) ≡ 1
@@ -26,6 +28,50 @@ length-more s i h e = rw (drop-cons s i 0 h, ne-eqb (getD s i 0) lineFeed e, add
 pub length-none : (s : List ℕ) (i : ℕ) → length s ≤ i → firstLength (drop i s) ≡ 0
 unfolding firstLength
 length-none s i h = rw (drop-of-length-le s h)
+
+-- ---- several bytes at once
+-- k bytes at once are one byte k times
+passed : (k : ℕ) (s : List ℕ) (p : ℕ) → p + k ≤ length s → ((i : ℕ) → i < k → getD s (p + i) 0 ≡ lineFeed → ⊥) → p + k + firstLength (drop (p + k) s) ≡ p + firstLength (drop p s)
+passed zero s p h c = rw add-zero
+passed (suc k) s p h c =
+    let e : p + suc k ≡ p + 1 + k = omega arith in
+    let on = passed k s (p + 1) (omega arith) (λ i l q. c (suc i) (omega arith) (ap (λ (j : ℕ). getD s j 0) (omega arith) ∙ q)) in
+    let here : getD s p 0 ≡ lineFeed → ⊥ = λ q. c 0 (omega arith) (ap (λ (j : ℕ). getD s j 0) (add-zero p) ∙ q) in
+    rw e (omega (arith, on, length-more s p (omega arith) here))
+
+pub skip : (k : ℕ) (s : List ℕ) (p q : ℕ) → Onward s p q → q + k ≤ length s → Clear k s q → Onward s p (q + k)
+unfolding lineEnd
+skip k s p q o h c = record { ends = passed k s q h (c .none) ∙ o .ends }
+
+-- two runs side by side
+pub joined : (j k : ℕ) (s : List ℕ) (p : ℕ) → Clear j s p → Clear k s (p + j) → Clear (j + k) s p
+joined j k s p a b = record { none = λ i h. go i h (decLt i j) }
+  where
+    go : (i : ℕ) → i < j + k → Dec (i < j) → getD s (p + i) 0 ≡ lineFeed → ⊥
+    go i h (yes l) e = a .none i l e
+    go i h (no l) e = b .none (i - j) (omega arith) (ap (λ (m : ℕ). getD s m 0) (omega arith) ∙ e)
+
+-- tests joined by `|`
+pub one : (s : List ℕ) (p : ℕ) → eqb (getD s p 0) lineFeed ≡ false → Clear 1 s p
+one s p e = record { none = λ i h q. eqb-false (getD s p 0) lineFeed e (ap (λ (m : ℕ). getD s m 0) (omega arith) ∙ q) }
+
+pub either : {s : List ℕ} {p : ℕ} {a b : Bool} (j k : ℕ) → (a ≡ false → Clear j s p) → (b ≡ false → Clear k s (p + j)) → (a || b) ≡ false → Clear (j + k) s p
+either {s} {p} {a = false} {b} j k f g e = joined j k s p (f refl) (g e)
+either {s} {p} {a = true} {b} j k f g e = let w : _≡_ {A = ℕ} 0 1 = cc in absurd (omega arith)
+
+pub other : (s : List ℕ) (p : ℕ) → (getD s p 0 ≡ lineFeed → ⊥) → Clear 1 s p
+other s p e = one s p (ne-eqb (getD s p 0) lineFeed e)
+
+pub onto : {s : List ℕ} {p q r : ℕ} → Onward s p q → Onward s q r → Onward s p r
+onto a b = record { ends = b .ends ∙ a .ends }
+
+pub at-feed : (s : List ℕ) (p q : ℕ) → Onward s p q → q < length s → getD s q 0 ≡ lineFeed → q + 1 ≡ lineEnd s p
+unfolding lineEnd
+at-feed s p q o h e = ap (λ (n : ℕ). q + n) (sym (length-feed s q h e)) ∙ o .ends
+
+pub at-end : (s : List ℕ) (p q : ℕ) → Onward s p q → length s ≤ q → q ≡ lineEnd s p
+unfolding lineEnd
+at-end s p q o h = omega (arith, length-none s q h, o .ends)
 
 -- ---- the first line, and the others
 first-line : (s : List ℕ) → 0 < length s → lines s ≡ take (firstLength s) s ∷ lines (drop (firstLength s) s)

@@ -13,12 +13,13 @@ use lib.ListN.{length, set, length-append}
 use lib.Seq.{sets, length-sets, set-out}
 use native.Mathlib.Decide.{decLt, decLe, ℕ-discrete}
 use native.Mathlib.Nat.{add-zero}
+use native.Mathlib.Numerals.{add-one}
 use native.Mathlib.Omega.{arith}
 use borrow.Author.Tests.{lt-ltb, le-ltb, eq-eqb, ne-eqb, ltb-true}
 use Rattle.refusal.specs.Order.{pick}
 use Rattle.chain.specs.declared.Id.{Id}
 use Rattle.chain.specs.declared.Point.{Point}
-use Rattle.line.specs.Text.{lastDigits, decimal, integer, highest, letters, nameText, lineText, pointText, projectedText, refusalText, Wrote, leading, six}
+use Rattle.line.specs.Text.{lastDigits, decimal, integer, highest, letters, nameText, lineText, pointText, projectedText, refusalText, Wrote, Put, two, four, eight, signOf}
 
 -- ---- stores one after the other
 sets-append : (vs ws l : List ℕ) (i : ℕ) → sets l i (vs ++ ws) ≡ sets (sets l i vs) (i + length vs) ws
@@ -61,6 +62,30 @@ says w e = rw e at w
 pub kept-length : {l : List ℕ} {at : ℕ} {vs m : List ℕ} {r : ℕ} → Wrote l at vs m r → length m ≡ length l
 kept-length {l} {at} {vs} w = ap length (w .list) ∙ length-sets l at vs
 
+-- ---- writers that were shown their room
+-- two of them are one
+pub both : {j k : ℕ} {l : List ℕ} {at : ℕ} {vs m : List ℕ} {r : ℕ} {ws o : List ℕ} {q : ℕ} (i : ℕ) {ts : List ℕ} → Put j l at vs m r → Put k m r ws o q → j + k ≤ i → vs ++ ws ≡ ts → Put i l at ts o q
+both i a b h e = record { wrote = rw e at («then» (a .wrote) (b .wrote)); most = omega (arith, a .most, b .most) }
+
+pub named : {k : ℕ} {l : List ℕ} {at : ℕ} {vs m : List ℕ} {r : ℕ} (i : ℕ) {ws : List ℕ} → Put k l at vs m r → k ≤ i → vs ≡ ws → Put i l at ws m r
+named i a h e = record { wrote = rw e at (a .wrote); most = omega (arith, a .most) }
+
+pub unmoved : (l : List ℕ) (at : ℕ) {vs : List ℕ} → vs ≡ [] → Put 1 l at vs l at
+unmoved l at e = record { wrote = rw e (nothing l at); most = omega arith }
+
+-- two stores side by side
+pub beside : (l : List ℕ) (at a b : ℕ) → at + 2 ≤ length l → Put 2 l at (a ∷ b ∷ []) (set (set l at a) (at + 1) b) (at + 2)
+beside l at a b h = record { wrote = record { place = omega arith; list = rw add-one }; most = omega arith }
+
+pub packed : (l : List ℕ) (at v : ℕ) → v < 100 → at + 2 ≤ length l → Put 2 l at (two v) (set (set l at ((v * 256 + 12336 - v / 10 * 2559) % 256)) (at + 1) ((v * 256 + 12336 - v / 10 * 2559) / 256)) (at + 2)
+packed l at v h k =
+    let a : (v * 256 + 12336 - v / 10 * 2559) % 256 ≡ 48 + v / 10 = omega arith in
+    let b : (v * 256 + 12336 - v / 10 * 2559) / 256 ≡ 48 + v % 10 = omega arith in
+    rw (a, b) (beside l at (48 + v / 10) (48 + v % 10) k)
+
+pub after : {j k : ℕ} {l : List ℕ} {at : ℕ} {vs m : List ℕ} {r : ℕ} {ws o : List ℕ} {q : ℕ} → Put j l at vs m r → Put k m r ws o q → Put (j + k) l at (vs ++ ws) o q
+after {j} {k} a b = both (j + k) a b (omega arith) refl
+
 -- ---- digits
 enough : (f g n : ℕ) → n < f → n < g → lastDigits f n ≡ lastDigits g n
 unfolding lastDigits
@@ -80,80 +105,39 @@ pub decimal-more : (n : ℕ) → 10 ≤ n → decimal n ≡ decimal (n / 10) ++ 
 unfolding decimal lastDigits
 decimal-more n h = rw (le-ltb n 10 h, enough n (suc (n / 10)) (n / 10) (omega arith) (omega arith))
 
--- a number that is written only where it is no 0
-upper : ℕ → List ℕ
-upper x = pick (eqb x 0) [] (decimal x)
-
-upper-none : (x : ℕ) → x ≡ 0 → upper x ≡ []
-unfolding upper
-upper-none x e = rw (eq-eqb x 0 e)
-
-upper-some : (x : ℕ) → (x ≡ 0 → ⊥) → upper x ≡ decimal x
-unfolding upper
-upper-some x e = rw (ne-eqb x 0 e)
-
-last-one : (x : ℕ) → x < 10 → ((48 + x % 10) ∷ []) ≡ decimal x
-last-one x h = let e : x % 10 ≡ x = omega arith in rw e (sym (decimal-one x h))
-
-upper-step : (x : ℕ) → upper (x / 10) ++ leading x ≡ upper x
-upper-step x = go (ℕ-discrete x 0) (decLt x 10)
-  where
-    go : Dec (x ≡ 0) → Dec (x < 10) → upper (x / 10) ++ leading x ≡ upper x
-    go (yes z) l = rw (upper-none (x / 10) (omega arith), eq-eqb x 0 z, upper-none x z)
-    go (no z) (yes l) = rw (upper-none (x / 10) (omega arith), ne-eqb x 0 z, upper-some x z) (last-one x l)
-    go (no z) (no l) =
-        let y : x / 10 ≡ 0 → ⊥ = λ q. omega arith in
-        rw (upper-some (x / 10) y, ne-eqb x 0 z, upper-some x z) (sym (decimal-more x (omega arith)))
-
-upper-on : (y x : ℕ) (rest : List ℕ) → y ≡ x / 10 → upper y ++ (leading x ++ rest) ≡ upper x ++ rest
-upper-on y x rest e =
-    rw e (sym (append-assoc (upper (x / 10)) (leading x) rest) ∙ ap (λ (l : List ℕ). l ++ rest) (upper-step x))
-
-leading-first : (x : ℕ) → x < 10 → leading x ≡ upper x
-leading-first x h = ap (λ (l : List ℕ). l ++ leading x) (sym (upper-none (x / 10) (omega arith))) ∙ upper-step x
-
-upper-last : (n : ℕ) → upper (n / 10) ++ ((48 + n % 10) ∷ []) ≡ decimal n
-upper-last n = go (decLt n 10)
-  where
-    go : Dec (n < 10) → upper (n / 10) ++ ((48 + n % 10) ∷ []) ≡ decimal n
-    go (yes l) = rw (upper-none (n / 10) (omega arith)) (last-one n l)
-    go (no l) =
-        let y : n / 10 ≡ 0 → ⊥ = λ q. omega arith in
-        rw (upper-some (n / 10) y) (sym (decimal-more n (omega arith)))
-
--- up to three digits, and up to six
-pub three-is : (n : ℕ) → n < 1000 → leading (n / 100) ++ (leading (n / 10) ++ ((48 + n % 10) ∷ [])) ≡ decimal n
-three-is n h =
-    ap (λ (l : List ℕ). l ++ (leading (n / 10) ++ ((48 + n % 10) ∷ []))) (leading-first (n / 100) (omega arith))
-    ∙ upper-on (n / 100) (n / 10) _ (omega arith)
-    ∙ upper-last n
-
-pub short-is : (n : ℕ) → n < 1000000
-    → leading (n / 100000) ++ (leading (n / 10000) ++ (leading (n / 1000) ++ (leading (n / 100) ++ (leading (n / 10) ++ ((48 + n % 10) ∷ []))))) ≡ decimal n
-short-is n h =
-    ap
-    (λ (l : List ℕ). l ++ (leading (n / 10000) ++ (leading (n / 1000) ++ (leading (n / 100) ++ (leading (n / 10) ++ ((48 + n % 10) ∷ []))))))
-    (leading-first (n / 100000) (omega arith))
-    ∙ upper-on (n / 100000) (n / 10000) _ (omega arith)
-    ∙ upper-on (n / 10000) (n / 1000) _ (omega arith)
-    ∙ upper-on (n / 1000) (n / 100) _ (omega arith)
-    ∙ upper-on (n / 100) (n / 10) _ (omega arith)
-    ∙ upper-last n
-
 digit-on : (y x d : ℕ) (rest : List ℕ) → y ≡ x / 10 → d ≡ x % 10 → 10 ≤ x → decimal y ++ ((48 + d) ∷ rest) ≡ decimal x ++ rest
 digit-on y x d rest e f h =
     rw (e, f) (sym (append-assoc (decimal (x / 10)) ((48 + x % 10) ∷ []) rest) ∙ ap (λ (l : List ℕ). l ++ rest) (sym (decimal-more x h)))
 
--- six digits after the others
-pub six-on : (n : ℕ) → 1000000 ≤ n → decimal (n / 1000000) ++ six (n % 1000000) ≡ decimal n
-six-on n h =
-    digit-on (n / 1000000) (n / 100000) (n % 1000000 / 100000 % 10) _ (omega arith) (omega arith) (omega arith)
-    ∙ digit-on (n / 100000) (n / 10000) (n % 1000000 / 10000 % 10) _ (omega arith) (omega arith) (omega arith)
-    ∙ digit-on (n / 10000) (n / 1000) (n % 1000000 / 1000 % 10) _ (omega arith) (omega arith) (omega arith)
-    ∙ digit-on (n / 1000) (n / 100) (n % 1000000 / 100 % 10) _ (omega arith) (omega arith) (omega arith)
-    ∙ digit-on (n / 100) (n / 10) (n % 1000000 / 10 % 10) _ (omega arith) (omega arith) (omega arith)
-    ∙ digit-on (n / 10) n (n % 1000000 % 10) [] (omega arith) (omega arith) (omega arith)
-    ∙ append-nil (decimal n)
+-- ---- two digits at once are one digit twice
+pub pair-on : (y x v : ℕ) (rest : List ℕ) → y ≡ x / 100 → v ≡ x % 100 → 100 ≤ x → decimal y ++ (two v ++ rest) ≡ decimal x ++ rest
+pair-on y x v rest e f h =
+    digit-on y (x / 10) (v / 10) ((48 + v % 10) ∷ rest) (omega arith) (omega arith) (omega arith)
+    ∙ digit-on (x / 10) x (v % 10) rest (omega arith) (omega arith) (omega arith)
+
+pub four-on : (y x v : ℕ) (rest : List ℕ) → y ≡ x / 10000 → v ≡ x % 10000 → 10000 ≤ x → decimal y ++ (four v ++ rest) ≡ decimal x ++ rest
+four-on y x v rest e f h =
+    pair-on y (x / 100) (v / 100) (two (v % 100) ++ rest) (omega arith) (omega arith) (omega arith)
+    ∙ pair-on (x / 100) x (v % 100) rest (omega arith) (omega arith) (omega arith)
+
+pub eight-on : (y x v : ℕ) (rest : List ℕ) → y ≡ x / 100000000 → v ≡ x % 100000000 → 100000000 ≤ x → decimal y ++ (eight v ++ rest) ≡ decimal x ++ rest
+eight-on y x v rest e f h =
+    four-on y (x / 10000) (v / 10000) (four (v % 10000) ++ rest) (omega arith) (omega arith) (omega arith)
+    ∙ four-on (x / 10000) x (v % 10000) rest (omega arith) (omega arith) (omega arith)
+
+pub two-is : (n : ℕ) → 10 ≤ n → n < 100 → two n ≡ decimal n
+two-is n h l =
+    ap (λ (t : List ℕ). t ++ ((48 + n % 10) ∷ [])) (sym (decimal-one (n / 10) (omega arith)))
+    ∙ sym (decimal-more n h)
+
+pub pair-end : (n : ℕ) → 100 ≤ n → decimal (n / 100) ++ two (n % 100) ≡ decimal n
+pair-end n h = pair-on (n / 100) n (n % 100) [] refl refl h ∙ append-nil (decimal n)
+
+pub four-end : (n : ℕ) → 10000 ≤ n → decimal (n / 10000) ++ four (n % 10000) ≡ decimal n
+four-end n h = four-on (n / 10000) n (n % 10000) [] refl refl h ∙ append-nil (decimal n)
+
+pub eight-end : (n : ℕ) → 100000000 ≤ n → decimal (n / 100000000) ++ eight (n % 100000000) ≡ decimal n
+eight-end n h = eight-on (n / 100000000) n (n % 100000000) [] refl refl h ∙ append-nil (decimal n)
 
 -- ---- signs
 pub integer-below : (z : ℤ) → ltZ z (pos 0) ≡ true → integer z ≡ 45 ∷ decimal (natAbs z)
@@ -165,6 +149,19 @@ pub integer-above : (z : ℤ) → ltZ z (pos 0) ≡ false → integer z ≡ deci
 unfolding integer
 integer-above (pos n) e = refl
 integer-above (negsuc n) e = let w : _≡_ {A = ℕ} 0 1 = cc in absurd (omega arith)
+
+pub sign-below : (z : ℤ) → ltZ z (pos 0) ≡ true → signOf z ≡ 45 ∷ []
+sign-below (pos n) e = absurd (omega (arith, ltb-true n 0 e))
+sign-below (negsuc n) e = refl
+
+pub sign-above : (z : ℤ) → ltZ z (pos 0) ≡ false → signOf z ≡ []
+sign-above (pos n) e = refl
+sign-above (negsuc n) e = let w : _≡_ {A = ℕ} 0 1 = cc in absurd (omega arith)
+
+pub signed : (z : ℤ) (n a : ℕ) → n ≡ natAbs z → signOf z ++ (decimal n ++ (a ∷ [])) ≡ integer z ++ (a ∷ [])
+unfolding integer
+signed (pos m) n a e = rw e
+signed (negsuc m) n a e = rw e
 
 pub whole-below : (z : ℤ) (n a : ℕ) → n ≡ natAbs z → ltZ z (pos 0) ≡ true → (45 ∷ []) ++ (decimal n ++ (a ∷ [])) ≡ integer z ++ (a ∷ [])
 whole-below z n a e l = rw (integer-below z l, e)
@@ -293,3 +290,17 @@ pub point-is : (p : Point)
     ≡ pointText p
 unfolding pointText lineText
 point-is p = simp tabbed
+
+-- the same by the parts that are written together
+pub point-put : (p : Point)
+    → (80 ∷ 9 ∷ [])
+    ++ (((nameText (p .label .id) ++ (9 ∷ [])) ++ ((integer (p .label .issue) ++ (9 ∷ [])) ++ (integer (p .label .order) ++ (9 ∷ []))))
+    ++ (((integer (p .realization .datum) ++ (9 ∷ [])) ++ (integer (p .realization .epoch) ++ (9 ∷ [])))
+    ++ ((integer (p .position .x) ++ (9 ∷ [])) ++ ((integer (p .position .y) ++ (9 ∷ [])) ++ (integer (p .position .z) ++ (10 ∷ []))))))
+    ≡ pointText p
+unfolding pointText lineText
+point-put p = simp append-assoc
+
+pub refusal-put : (line number place : ℕ)
+    → (82 ∷ 9 ∷ []) ++ (decimal line ++ ((9 ∷ []) ++ ((decimal number ++ (9 ∷ [])) ++ (decimal place ++ (10 ∷ []))))) ≡ refusalText line number place
+refusal-put line number place = rw (append-assoc (decimal number) (9 ∷ []) _) (refusal-is line number place)

@@ -1,5 +1,5 @@
 -- How the code walks along a line: a reader is handed the place where a field begins, and tells the place where the next one begins.
-use Prim.Native.Nat.{ℕ, zero, suc, _+_, _^_, _≤_, _<_, min}
+use Prim.Native.Nat.{ℕ, zero, suc, _+_, _*_, _^_, _≤_, _<_, min}
 use mathlib.Core.Path.{_≡_}
 use mathlib.Core.List.{List, [], _∷_}
 use mathlib.Core.Bool.{true, false}
@@ -19,6 +19,7 @@ use Rattle.angle.specs.declared.OriginNumbers.{OriginNumbers}
 use Rattle.line.specs.declared.Geodetic.{Geodetic}
 use Rattle.line.specs.Fields.{fields, front, head, Form, filled}
 use Rattle.line.specs.Name.{word, allNameBytes, isNameByte}
+use Rattle.line.specs.Bytes.{zeroByte, nineByte}
 use Rattle.line.specs.Number.{digits}
 
 -- the fields of s from place `at` on; none past the end
@@ -82,6 +83,26 @@ pub record Sized (s : List ℕ) (read : List ℕ → Option ℕ) (at v next : �
 -- digits after a number that is past the cap leave it there: `next` is all there is to tell
 abbrev pub Long : List ℕ → ℕ → ℕ → Type 0
 Long s at next = (a : ℕ) → cap ≤ a → Got s capped (digits a) at cap next
+
+-- ---- digits several at a time
+
+-- the k bytes from place p on are digits
+pub record Digits (k : ℕ) (s : List ℕ) (p : ℕ) : Type 0 where
+  pub low : (i : ℕ) → i < k → zeroByte ≤ getD s (p + i) 0
+  pub high : (i : ℕ) → i < k → getD s (p + i) 0 ≤ nineByte
+
+-- what the digits from p on, after a, are told as is told of those from q on, after b
+abbrev pub Onto : List ℕ → ℕ → ℕ → ℕ → ℕ → Type 0
+Onto s p a q b = (v next : ℕ) → Got s capped (digits b) q v next → Got s capped (digits a) p v next
+
+-- the k bytes from p on say v, where `scale` is ten to the k
+pub record Say (k scale : ℕ) (s : List ℕ) (p v : ℕ) : Type 0 where
+  pub less : v < scale
+  pub says : (a : ℕ) → Onto s p a (p + k) (a * scale + v)
+
+pub record Carried (s : List ℕ) (p a q b : ℕ) : Type 0 where
+  pub same : Onto s p a q b
+  pub small : b < 1000000000
 
 -- the same of the fields from place `at` on, which may itself be the place after a bad field
 pub record Tail {A C : Type 0} (s : List ℕ) (image : A → C) (form : Form A) (at : ℕ) (v : C) (next : ℕ) : Type 0 where

@@ -1,5 +1,5 @@
 -- The lines that are written, byte for byte.
-use Prim.Native.Nat.{ℕ, zero, suc, _+_, _*_, _/_, _%_, min, max}
+use Prim.Native.Nat.{ℕ, zero, suc, _+_, _*_, _/_, _%_, _≤_, min, max}
 use mathlib.Core.Path.{_≡_}
 use mathlib.Core.List.{List, [], _∷_, _++_}
 use lib.Dec.{ltb, eqb}
@@ -76,19 +76,24 @@ pub record Wrote (l : List ℕ) (at : ℕ) (vs m : List ℕ) (r : ℕ) : Type 0 
   pub place : r ≡ past (length l) at (length vs)
   pub list : m ≡ sets l at vs
 
+-- a writer that was shown its room: what it does, and that it used no more than k bytes
+pub record Put (k : ℕ) (l : List ℕ) (at : ℕ) (vs m : List ℕ) (r : ℕ) : Type 0 where
+  pub wrote : Wrote l at vs m r
+  pub most : r ≤ at + k
+
 -- ---- how the code takes digits apart
 
--- the last digit of n; none of 0
-abbrev pub leading : ℕ → List ℕ
-leading n = pick (eqb n 0) [] ((zeroByte + n % 10) ∷ [])
+-- the two digits of a number below 100
+abbrev pub two : ℕ → List ℕ
+two v = (zeroByte + v / 10) ∷ (zeroByte + v % 10) ∷ []
 
--- the last six digits of n, zeros and all
-abbrev pub six : ℕ → List ℕ
-six n =
-    (zeroByte + n / 100000 % 10)
-    ∷ (zeroByte + n / 10000 % 10)
-    ∷ (zeroByte + n / 1000 % 10)
-    ∷ (zeroByte + n / 100 % 10)
-    ∷ (zeroByte + n / 10 % 10)
-    ∷ (zeroByte + n % 10)
-    ∷ []
+abbrev pub four : ℕ → List ℕ
+four n = two (n / 100) ++ two (n % 100)
+
+abbrev pub eight : ℕ → List ℕ
+eight n = four (n / 10000) ++ four (n % 10000)
+
+-- a number's sign
+abbrev pub signOf : ℤ → List ℕ
+signOf (pos n) = []
+signOf (negsuc n) = minus ∷ []

@@ -3,10 +3,12 @@
 use crate::field::closed;
 use crate::field::nowhere;
 ghost use mathlib.Core.Path.{_≡_};
-ghost use Prim.Native.Nat.{_+_, _-_, _*_, _≤_, _<_};
+ghost use mathlib.Core.Bool.{false};
+ghost use Prim.Native.Nat.{_+_, _≤_, _<_};
+ghost use lib.ListN.{length};
 ghost use lib.IntN.{pos, negℤ};
 ghost use Rattle.line.specs.Number.{digits, plain, numberOf};
-ghost use Rattle.line.specs.Reading.{Got, capped, cappedZ, cap, Long, Sized};
+ghost use Rattle.line.specs.Reading.{Got, capped, cappedZ, cap, Long, Sized, Digits, Say, Carried};
 
 const CAP: u64 = 10000000000000;
 // One digit more on a number below this is still far from wrapping.
@@ -31,7 +33,7 @@ struct Natural {
 }
 
 fn wide(b: u8) -> u64
-    ensures { λ r. ⌜ r ≡ b ⌝ }
+    ensures { λ r. ⌜ (r ≡ b) × (r < 256) ⌝ }
 {
     b as u64
 }
@@ -59,13 +61,76 @@ fn rest(s: &[u8], at: usize) -> usize
     closed(s, i)
 }
 
+// Is one of four bytes no digit? With `|` and not `||`: no branch, so the compiler compares them side by side.
+fn other_four(s: &[u8], at: usize) -> bool
+    requires { ⌜ at + 4 ≤ length (now s) ⌝ }
+    ensures { λ r. ⌜ (r ≡ false → Digits 4 (now (s .entry)) at) ⌝ }
+{
+    let a = s[at];
+    let b = s[at + 1];
+    let c = s[at + 2];
+    let d = s[at + 3];
+    ((a < ZERO) | (NINE < a))
+        | ((b < ZERO) | (NINE < b))
+        | ((c < ZERO) | (NINE < c))
+        | ((d < ZERO) | (NINE < d))
+}
+
+fn other_eight(s: &[u8], at: usize) -> bool
+    requires { ⌜ at + 8 ≤ length (now s) ⌝ }
+    ensures { λ r. ⌜ (r ≡ false → Digits 8 (now (s .entry)) at) ⌝ }
+{
+    other_four(s, at) | other_four(s, at + 4)
+}
+
+// What four digits say: what each byte is above the digit 0 is taken off once.
+fn four(s: &[u8], at: usize) -> u64
+    requires { ⌜ (at + 4 ≤ length (now s)) × Digits 4 (now s) at ⌝ }
+    ensures { λ r. ⌜ Say 4 10000 (now (s .entry)) at r ⌝ }
+{
+    let a = wide(s[at]);
+    let b = wide(s[at + 1]);
+    let c = wide(s[at + 2]);
+    let d = wide(s[at + 3]);
+    a * 1000 + b * 100 + c * 10 + d - 53328
+}
+
+fn eight(s: &[u8], at: usize) -> u64
+    requires { ⌜ (at + 8 ≤ length (now s)) × Digits 8 (now s) at ⌝ }
+    ensures { λ r. ⌜ Say 8 100000000 (now (s .entry)) at r ⌝ }
+{
+    four(s, at) * 10000 + four(s, at + 4)
+}
+
+// The digits from `at` on, after a first digit: eight of them at once where there are eight, else none.
+fn ahead(s: &[u8], at: usize, first: u64) -> Natural
+    requires { ⌜ first < 10 ⌝ }
+    ensures { λ r. ⌜ Carried (now (s .entry)) at first (r .next) (r .value) ⌝ }
+{
+    if at < s.len() {
+        if 8 <= s.len() - at {
+            if !other_eight(s, at) {
+                return Natural {
+                    value: first * 100000000 + eight(s, at),
+                    next: at + 8,
+                };
+            }
+        }
+    }
+    Natural {
+        value: first,
+        next: at,
+    }
+}
+
 // The digits from `at` to the field's end, after a first digit.
 fn magnitude(s: &[u8], at: usize, first: u64) -> Natural
     requires { ⌜ first < 10 ⌝ }
     ensures { λ r. ⌜ Sized (now (s .entry)) (digits first) at (r .value) (r .next) ⌝ }
 {
-    let mut a = first;
-    let mut i = at;
+    let begun = ahead(s, at, first);
+    let mut a = begun.value;
+    let mut i = begun.next;
     while i < s.len() {
         let b = s[i];
         if b < ZERO {

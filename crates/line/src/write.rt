@@ -1,20 +1,27 @@
 // Lines into a lent slice, from a place on. What has no room is dropped, so no caller has to show that there is room; the answer is the
 // place past the line, the slice's end where the line is cut off there. A place past the end stays as it is and nothing is written.
+// A line that surely has room is written by the module below; the functions here write what may be cut off, byte by byte.
 use crate::field::LINE_FEED;
 use crate::field::TAB;
 ghost use mathlib.Core.Path.{_≡_};
 ghost use mathlib.Core.List.{[], _∷_, _++_};
-ghost use Prim.Native.Nat.{_+_, _<_, _/_, _%_};
 ghost use lib.IntN.{natAbs};
-ghost use Rattle.line.specs.Text.{decimal, integer, letters, nameText, pointText, projectedText, refusalText, Wrote, leading, six};
+ghost use Rattle.line.specs.Text.{decimal, integer, letters, nameText, pointText, projectedText, refusalText, Wrote};
+
+mod roomy;
+
+// The most that a line takes: its letter 2, a name 17, a number 22 with its sign and the byte after it; a line's number 21, a refusal's or a place 5.
+const POINT_ROOM: usize = 173;
+
+const PROJECTED_ROOM: usize = 63;
+
+const REFUSAL_ROOM: usize = 33;
 
 pub mod lot;
 
 const MINUS: u8 = 45;
 
 const HIGHEST: u64 = 72057594037927936;
-
-const MILLION: u64 = 1000000;
 
 fn byte(out: &mut [u8], at: usize, b: u8) -> usize
     ensures { λ r. ⌜ Wrote (now (out .entry)) at (b ∷ []) (now (out .exit)) r ⌝ }
@@ -27,63 +34,15 @@ fn byte(out: &mut [u8], at: usize, b: u8) -> usize
     }
 }
 
-fn digit(out: &mut [u8], at: usize, d: u64) -> usize
-    ensures { λ r. ⌜ Wrote (now (out .entry)) at ((48 + d % 10) ∷ []) (now (out .exit)) r ⌝ }
-{
-    byte(out, at, 48 + ((d % 10) as u8))
-}
-
-// The last digit of n, where n is no 0: a digit that has none in front.
-fn leading_digit(out: &mut [u8], at: usize, n: u64) -> usize
-    ensures { λ r. ⌜ Wrote (now (out .entry)) at (leading n) (now (out .exit)) r ⌝ }
-{
-    if n == 0 { at } else { digit(out, at, n) }
-}
-
-// A number of up to six digits.
-fn short(out: &mut [u8], at: usize, n: u64) -> usize
-    requires { ⌜ n < 1000000 ⌝ }
-    ensures { λ r. ⌜ Wrote (now (out .entry)) at (decimal n) (now (out .exit)) r ⌝ }
-{
-    let a = leading_digit(out, at, n / 100000);
-    let b = leading_digit(out, a, n / 10000);
-    let c = leading_digit(out, b, n / 1000);
-    let d = leading_digit(out, c, n / 100);
-    let e = leading_digit(out, d, n / 10);
-    digit(out, e, n)
-}
-
-// A number of up to three digits: a refusal's, or a place in a line. Most lines of a bad sheet end in one, so it has no more digits to look at than it needs.
-fn three(out: &mut [u8], at: usize, n: u64) -> usize
-    requires { ⌜ n < 1000 ⌝ }
-    ensures { λ r. ⌜ Wrote (now (out .entry)) at (decimal n) (now (out .exit)) r ⌝ }
-{
-    let a = leading_digit(out, at, n / 100);
-    let b = leading_digit(out, a, n / 10);
-    digit(out, b, n)
-}
-
-// The last six digits of n, zeros and all. They are worked out side by side: no digit waits for another.
-fn six_digits(out: &mut [u8], at: usize, n: u64) -> usize
-    ensures { λ r. ⌜ Wrote (now (out .entry)) at (six n) (now (out .exit)) r ⌝ }
-{
-    let a = digit(out, at, n / 100000);
-    let b = digit(out, a, n / 10000);
-    let c = digit(out, b, n / 1000);
-    let d = digit(out, c, n / 100);
-    let e = digit(out, d, n / 10);
-    digit(out, e, n)
-}
-
-// A number in decimal.
+// A number in decimal, a digit at a time.
 fn natural(out: &mut [u8], at: usize, n: u64) -> usize
     ensures { λ r. ⌜ Wrote (now (out .entry)) at (decimal n) (now (out .exit)) r ⌝ }
 {
-    if n < MILLION {
-        short(out, at, n)
+    if n < 10 {
+        byte(out, at, 48 + (n as u8))
     } else {
-        let e = natural(out, at, n / MILLION);
-        six_digits(out, e, n % MILLION)
+        let e = natural(out, at, n / 10);
+        byte(out, e, 48 + ((n % 10) as u8))
     }
 }
 
@@ -148,8 +107,14 @@ fn letter(out: &mut [u8], at: usize, l: u8) -> usize
     byte(out, a, TAB)
 }
 
-// P, id, issue, order, datum, epoch, X, Y, Z.
-pub fn write_point(out: &mut [u8], at: usize, p: chain::Point) -> usize
+fn wide(n: u8) -> u64
+    ensures { λ r. ⌜ r ≡ n ⌝ }
+{
+    n as u64
+}
+
+// A point's line, as far as there is room.
+fn cut_point(out: &mut [u8], at: usize, p: chain::Point) -> usize
     ensures { λ r. ⌜ Wrote (now (out .entry)) at (pointText p) (now (out .exit)) r ⌝ }
 {
     let a = letter(out, at, b'P');
@@ -163,8 +128,8 @@ pub fn write_point(out: &mut [u8], at: usize, p: chain::Point) -> usize
     whole(out, h, p.position.z, LINE_FEED)
 }
 
-// C, id, E, N; millimetres.
-pub fn write_projected(out: &mut [u8], at: usize, id: chain::Id, e: i64, n: i64) -> usize
+// A projected point's line, as far as there is room.
+fn cut_projected(out: &mut [u8], at: usize, id: chain::Id, e: i64, n: i64) -> usize
     ensures { λ r. ⌜ Wrote (now (out .entry)) at (projectedText id e n) (now (out .exit)) r ⌝ }
 {
     let a = letter(out, at, b'C');
@@ -173,21 +138,54 @@ pub fn write_projected(out: &mut [u8], at: usize, id: chain::Id, e: i64, n: i64)
     whole(out, c, n, LINE_FEED)
 }
 
-fn wide(n: u8) -> u64
-    ensures { λ r. ⌜ r ≡ n ⌝ }
+// A refusal's line, as far as there is room.
+fn cut_refusal(out: &mut [u8], at: usize, line: u64, number: u8, place: u8) -> usize
+    ensures { λ r. ⌜ Wrote (now (out .entry)) at (refusalText line number place) (now (out .exit)) r ⌝ }
 {
-    n as u64
+    let a = letter(out, at, b'R');
+    let b = natural(out, a, line);
+    let c = byte(out, b, TAB);
+    let d = natural(out, c, wide(number));
+    let e = byte(out, d, TAB);
+    let f = natural(out, e, wide(place));
+    byte(out, f, LINE_FEED)
+}
+
+// P, id, issue, order, datum, epoch, X, Y, Z.
+pub fn write_point(out: &mut [u8], at: usize, p: chain::Point) -> usize
+    ensures { λ r. ⌜ Wrote (now (out .entry)) at (pointText p) (now (out .exit)) r ⌝ }
+{
+    let room = out.len();
+    if POINT_ROOM <= room {
+        if at <= room - POINT_ROOM {
+            return roomy::point(out, at, p);
+        }
+    }
+    cut_point(out, at, p)
+}
+
+// C, id, E, N; millimetres.
+pub fn write_projected(out: &mut [u8], at: usize, id: chain::Id, e: i64, n: i64) -> usize
+    ensures { λ r. ⌜ Wrote (now (out .entry)) at (projectedText id e n) (now (out .exit)) r ⌝ }
+{
+    let room = out.len();
+    if PROJECTED_ROOM <= room {
+        if at <= room - PROJECTED_ROOM {
+            return roomy::projected(out, at, id, e, n);
+        }
+    }
+    cut_projected(out, at, id, e, n)
 }
 
 // R, line number, refusal number, place in the line.
 pub fn write_refusal(out: &mut [u8], at: usize, line: u64, number: u8, place: u8) -> usize
     ensures { λ r. ⌜ Wrote (now (out .entry)) at (refusalText line number place) (now (out .exit)) r ⌝ }
 {
-    let a = letter(out, at, b'R');
-    let b = natural(out, a, line);
-    let c = byte(out, b, TAB);
-    let d = three(out, c, wide(number));
-    let e = byte(out, d, TAB);
-    let f = three(out, e, wide(place));
-    byte(out, f, LINE_FEED)
+    let room = out.len();
+    if REFUSAL_ROOM <= room {
+        if at <= room - REFUSAL_ROOM {
+            return roomy::refused(out, at, line, number, place);
+        }
+    }
+    cut_refusal(out, at, line, number, place)
 }

@@ -8,8 +8,10 @@ ghost use lib.Seq.{sets};
 ghost use Rattle.refusal.specs.Order.{first};
 ghost use Rattle.ranges.specs.Ranges.{within};
 ghost use Rattle.chain.specs.Faults.{inArea};
+ghost use Rattle.chain.specs.Axes.{Small};
 ghost use Rattle.chain.specs.Parts.{forwardBy, inverseBy};
-ghost use Rattle.chain.specs.Prepared.{startIn, endIn, formRange, numbersOf, readyOf, readyAt, readyRange, rowAt, rowsOf, extendTests, extendFault, startWith, firstRow, extendedBy, preparedTests, carried, reachedWith, forwardPrepared, inversePrepared};
+ghost use Rattle.chain.specs.Ready.{readyParts};
+ghost use Rattle.chain.specs.Prepared.{startIn, endIn, formRange, numbersOf, readyOf, readyAt, readyRange, rowAt, rowsOf, extendTests, extendFault, startWith, firstRow, extendedBy, preparedTests, Stepped, carried, reachedWith, forwardPrepared, inversePrepared};
 use crate::Answer;
 use crate::Point;
 use crate::Position;
@@ -35,6 +37,12 @@ const SCALED: i64 = 2;
 struct Row {
     good: bool,
     ready: Ready,
+}
+
+// Where a row leads from a position, if a step can have given it; else the position is of no account.
+struct Moved {
+    good: bool,
+    position: Position,
 }
 
 // What eight numbers say.
@@ -128,6 +136,51 @@ fn row_at(numbers: &Prepared, index: usize) -> Row
     }
 }
 
+// A step forward, if no figure is larger than any step gives.
+fn stepped(r: Ready, p: Position) -> Moved
+    requires { ⌜ Small 640000000000 p ⌝ }
+    ensures { λ m. ⌜ Stepped (readyRange r) (readyParts r) p m ⌝ }
+{
+    if !ready_in_range(r) {
+        return Moved {
+            good: false,
+            position: p,
+        };
+    }
+    Moved {
+        good: true,
+        position: steps::forward_ready(r, p),
+    }
+}
+
+// The same. The form is known in each arm, so that it is asked for once, and not by the ranges and by the gain again.
+fn stepped_by_form(r: Ready, p: Position) -> Moved
+    requires { ⌜ Small 640000000000 p ⌝ }
+    ensures { λ m. ⌜ Stepped (readyRange r) (readyParts r) p m ⌝ }
+{
+    match r {
+        Ready::Fixed(g) => stepped(Ready::Fixed(g), p),
+        Ready::Turned(t) => stepped(Ready::Turned(t), p),
+        Ready::Scaled(t) => stepped(Ready::Scaled(t), p),
+    }
+}
+
+// A row's step forward, if a step can have given the row.
+fn forward_row(numbers: &Prepared, index: usize, p: Position) -> Moved
+    requires { ⌜ (index < 9) × Small 640000000000 p ⌝ }
+    ensures { λ m. ⌜ Stepped (rowAt (now (numbers .entry)) index .good) (readyParts (rowAt (now (numbers .entry)) index .ready)) p m ⌝ }
+{
+    let at = 8 * index;
+    let form = numbers[at];
+    if !ranges::within(FIXED, form, SCALED) {
+        return Moved {
+            good: false,
+            position: p,
+        };
+    }
+    stepped_by_form(ready_at(numbers, index), p)
+}
+
 // Forward over the rows from the first step's on.
 fn carry(numbers: &Prepared, rows: usize, point: Point, end: Realization) -> Answer
     requires { ⌜ (1 ≤ rows) × (rows ≤ 9) × (inArea (point .position) ≡ true) ⌝ }
@@ -136,12 +189,11 @@ fn carry(numbers: &Prepared, rows: usize, point: Point, end: Realization) -> Ans
     let mut p = point.position;
     let mut i = 1;
     while i < rows {
-        let row = row_at(numbers, i);
-        if !row.good {
+        let moved = forward_row(numbers, i, p);
+        if !moved.good {
             return Answer::Refused(refusal::RANGE);
         }
-        let ready = row.ready;
-        p = steps::forward_ready(ready, p);
+        p = moved.position;
         if !points::in_area(p) {
             return Answer::Refused(refusal::LEFT);
         }

@@ -40,6 +40,9 @@ module _ (s : tie.Start) where
   f : SFits w64 (s .args .a *ℤ s .args .p .x +ℤ s .args .b *ℤ s .args .p .y +ℤ s .args .c *ℤ s .args .p .z)
   f = fits _ (add-le (s .args .a *ℤ s .args .p .x +ℤ s .args .b *ℤ s .args .p .y) (s .args .c *ℤ s .args .p .z) _ _ l₁₂ l₃) (omega (arith, s .pre .sum))
 
+  most : natAbs (s .args .a *ℤ s .args .p .x +ℤ s .args .b *ℤ s .args .p .y +ℤ s .args .c *ℤ s .args .p .z) ≤ 8000000000000000000
+  most = omega (arith, add-le (s .args .a *ℤ s .args .p .x +ℤ s .args .b *ℤ s .args .p .y) (s .args .c *ℤ s .args .p .z) _ _ l₁₂ l₃, s .pre .sum)
+
   -- what the machine reads
   x : toZ w64 (ofZ w64 (s .args .p .x)) ≡ s .args .p .x
   x = rd (fits 650000000000 (s .pre .small .on onX) (omega arith))
@@ -75,7 +78,10 @@ add-result-2 : tie.Need-add-result-2
 add-result-2 c = let s = c .before .before .before .before .before .before in fit+ (rd+ (ax s) (by s) (f₁₂ s)) (cz s) (f s)
 
 returns : tie.Need-returns
-returns c = let s = c .before .before .before .before .before .before in rd+ (rd+ (ax s) (by s) (f₁₂ s)) (cz s) (f s)
+returns c =
+    let s = c .before .before .before .before .before .before in
+    let e = rd+ (rd+ (ax s) (by s) (f₁₂ s)) (cz s) (f s) in
+    (e, rw e (most s))
 
 pub linear-spec : {M : Type 1} → statement M
 linear-spec = tie.close (tie.spec mul-result mul-result-2 add-result mul-result-3 add-result-2 returns)

@@ -16,8 +16,11 @@ Inv-loop s at first a₀ i₀ a i = (a ≤ 1000000000000000000) × ((v next : �
 abbrev μ-loop : tie.MeasureT-loop
 μ-loop s at first a₀ i₀ a i = length s - i
 
+ahead-requires : tie.Need-ahead-requires Inv-loop μ-loop
+ahead-requires c κs = search needs
+
 loop-holds : tie.Need-loop-holds Inv-loop μ-loop
-loop-holds c = search needs
+loop-holds c = let b = c .ahead .ensures in (omega (arith, b .small), b .same)
 
 shared-slice-read-b : tie.Need-shared-slice-read-b Inv-loop μ-loop
 shared-slice-read-b c = search needs
@@ -68,6 +71,7 @@ magnitude-spec =
     (tie.spec
     Inv-loop
     μ-loop
+    ahead-requires
     loop-holds
     shared-slice-read-b
     rest-requires

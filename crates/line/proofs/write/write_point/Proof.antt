@@ -1,112 +1,26 @@
 -- `line::write::write_point` meets its contract. Assumes nothing.
-use mir.Syntax.{w64}
-use mir.Val.{toZ, ofZ}
-use mathlib.Core.Path.{_≡_, _∙_}
-use Rattle.chain.specs.declared.Point.{Point}
 use Rattle.line.proofs.Texts as T
 use borrow.Author.Needs.{needs}
 use Rattle.line.proofs.write.write_point.Statement.{statement}
 use Rattle.line.proofs.write.write_point.Tie as tie
 
-letter-requires : tie.Need-letter-requires
-letter-requires c κs = search needs
-
-name-requires : tie.Need-name-requires
-name-requires c κs = search needs
-
-whole-requires : tie.Need-whole-requires
-whole-requires c κs = search needs
-
-whole-requires-2 : tie.Need-whole-requires-2
-whole-requires-2 c κs = search needs
-
-whole-requires-3 : tie.Need-whole-requires-3
-whole-requires-3 c κs = search needs
-
-whole-requires-4 : tie.Need-whole-requires-4
-whole-requires-4 c κs = search needs
-
-whole-requires-5 : tie.Need-whole-requires-5
-whole-requires-5 c κs = search needs
-
-whole-requires-6 : tie.Need-whole-requires-6
-whole-requires-6 c κs = search needs
-
-whole-requires-7 : tie.Need-whole-requires-7
-whole-requires-7 c κs = search needs
+point-requires : tie.Need-point-requires
+point-requires c κs = search needs
 
 same-length : tie.Need-same-length
-same-length c =
-    let c2 = c .before .before in
-    let c7 = c2 .before .before .before .before .before in
-    let c12 = c7 .before .before .before .before .before in
-    let c17 = c12 .before .before .before .before .before in
-    let c22 = c17 .before .before .before .before .before in
-    let c27 = c22 .before .before .before .before .before in
-    let c32 = c27 .before .before .before .before .before in
-    let c37 = c32 .before .before .before .before .before in
-    let c41 = c37 .before .before .before .before in
-    c2 .whole7 .kept .0 ∙ c7 .whole6 .kept .0 ∙ c12 .whole5 .kept .0 ∙ c17 .whole4 .kept .0 ∙ c22 .whole3 .kept .0 ∙ c27 .whole2 .kept .0 ∙ c32 .whole .kept .0 ∙ c37 .name .kept .0 ∙ c41 .letter .kept .0
-
--- the point's numbers, as the machine reads them
-module _ (s : tie.Start) where
-  abbrev p : Point
-  p = s .args .p
-
-  issue : toZ w64 (ofZ w64 (p .label .issue)) ≡ p .label .issue
-  issue = search needs
-
-  order : toZ w64 (ofZ w64 (p .label .order)) ≡ p .label .order
-  order = search needs
-
-  datum : toZ w64 (ofZ w64 (p .realization .datum)) ≡ p .realization .datum
-  datum = search needs
-
-  epoch : toZ w64 (ofZ w64 (p .realization .epoch)) ≡ p .realization .epoch
-  epoch = search needs
-
-  x : toZ w64 (ofZ w64 (p .position .x)) ≡ p .position .x
-  x = search needs
-
-  y : toZ w64 (ofZ w64 (p .position .y)) ≡ p .position .y
-  y = search needs
-
-  z : toZ w64 (ofZ w64 (p .position .z)) ≡ p .position .z
-  z = search needs
+same-length c = search needs
 
 returns : tie.Need-returns
-returns c =
-    let c2 = c .before .before in
-    let c7 = c2 .before .before .before .before .before in
-    let c12 = c7 .before .before .before .before .before in
-    let c17 = c12 .before .before .before .before .before in
-    let c22 = c17 .before .before .before .before .before in
-    let c27 = c22 .before .before .before .before .before in
-    let c32 = c27 .before .before .before .before .before in
-    let c37 = c32 .before .before .before .before .before in
-    let c41 = c37 .before .before .before .before in
-    let s = c41 .before .before .before in
-    T.says
-    (T.«then» (c41 .letter .ensures)
-    (T.«then» (c37 .name .ensures)
-    (T.«then» (c32 .whole .ensures)
-    (T.«then» (c27 .whole2 .ensures)
-    (T.«then» (c22 .whole3 .ensures)
-    (T.«then» (c17 .whole4 .ensures) (T.«then» (c12 .whole5 .ensures) (T.«then» (c7 .whole6 .ensures) (c2 .whole7 .ensures)))))))))
-    (rw (issue s, order s, datum s, epoch s, x s, y s, z s) (T.point-is (p s)))
+returns c = c .before .before .point .ensures .wrote
+
+cut-point-requires : tie.Need-cut-point-requires
+cut-point-requires c κs = search needs
+
+same-length-2 : tie.Need-same-length-2
+same-length-2 c = search needs
+
+returns-2 : tie.Need-returns-2
+returns-2 c = c .before .before .cut-point .ensures
 
 pub write-point-spec : {M : Type 1} → statement M
-write-point-spec =
-    tie.close
-    (tie.spec
-    letter-requires
-    name-requires
-    whole-requires
-    whole-requires-2
-    whole-requires-3
-    whole-requires-4
-    whole-requires-5
-    whole-requires-6
-    whole-requires-7
-    same-length
-    returns)
+write-point-spec = tie.close (tie.spec point-requires same-length returns cut-point-requires same-length-2 returns-2)

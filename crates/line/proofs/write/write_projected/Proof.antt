@@ -7,34 +7,31 @@ use borrow.Author.Needs.{needs}
 use Rattle.line.proofs.write.write_projected.Statement.{statement}
 use Rattle.line.proofs.write.write_projected.Tie as tie
 
-letter-requires : tie.Need-letter-requires
-letter-requires c κs = search needs
-
-name-requires : tie.Need-name-requires
-name-requires c κs = search needs
-
-whole-requires : tie.Need-whole-requires
-whole-requires c κs = search needs
-
-whole-requires-2 : tie.Need-whole-requires-2
-whole-requires-2 c κs = search needs
+projected-requires : tie.Need-projected-requires
+projected-requires c κs = search needs
 
 same-length : tie.Need-same-length
 same-length c = search needs
 
 returns : tie.Need-returns
 returns c =
-    let c2 = c .before .before in
-    let c6 = c2 .before .before .before .before in
-    let c10 = c6 .before .before .before .before in
-    let c14 = c10 .before .before .before .before in
-    let c17 = c14 .before .before .before in
-    let g = c17 .args in
-    let a : toZ w64 (ofZ w64 (g .e)) ≡ g .e = search needs in
-    let b : toZ w64 (ofZ w64 (g .n)) ≡ g .n = search needs in
-    T.says (T.«then» (c14 .letter .ensures) (T.«then» (c10 .name .ensures) (T.«then» (c6 .whole .ensures) (c2 .whole2 .ensures)))) (rw (a, b) (T.projected-is _ _ _))
+    let s = c .before .before .before .before .before .before .before in
+    let e : toZ w64 (ofZ w64 (s .args .e)) ≡ s .args .e = search needs in
+    let f : toZ w64 (ofZ w64 (s .args .n)) ≡ s .args .n = search needs in
+    rw (e, f) at (c .before .before .projected .ensures .wrote)
+
+cut-projected-requires : tie.Need-cut-projected-requires
+cut-projected-requires c κs = search needs
+
+same-length-2 : tie.Need-same-length-2
+same-length-2 c = search needs
+
+returns-2 : tie.Need-returns-2
+returns-2 c =
+    let s = c .before .before .before .before .before .before in
+    let e : toZ w64 (ofZ w64 (s .args .e)) ≡ s .args .e = search needs in
+    let f : toZ w64 (ofZ w64 (s .args .n)) ≡ s .args .n = search needs in
+    rw (e, f) at (c .before .before .cut-projected .ensures)
 
 pub write-projected-spec : {M : Type 1} → statement M
-write-projected-spec =
-    tie.close
-    (tie.spec letter-requires name-requires whole-requires whole-requires-2 same-length returns)
+write-projected-spec = tie.close (tie.spec projected-requires same-length returns cut-projected-requires same-length-2 returns-2)

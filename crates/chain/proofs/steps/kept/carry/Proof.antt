@@ -1,5 +1,5 @@
 -- `chain::steps::kept::carry` meets its contract. The loop's invariant: the rows that are left lead where all of them do. Assumes nothing.
-use mathlib.Core.Path.{_≡_, refl, sym, _∙_, ap, subst⁻¹}
+use mathlib.Core.Path.{_≡_, refl, sym, _∙_, ap}
 use mathlib.Core.Bool.{Bool, true, false}
 use mathlib.Core.List.{List, _∷_}
 use Prim.Native.Nat.{ℕ, _+_, _-_, _≤_}
@@ -11,10 +11,10 @@ use Rattle.chain.specs.declared.steps.kept.Row.{Row}
 use Rattle.chain.specs.declared.Answer.the-variants.{Converted}
 use Rattle.chain.specs.Faults.{inArea}
 use Rattle.chain.specs.Parts.{forwardBy}
-use Rattle.chain.specs.Ready.{readyParts, ReadyOk}
+use Rattle.chain.specs.Ready.{readyParts}
 use Rattle.chain.specs.Prepared.{rowAt, rowsOf, carried}
 use Rattle.chain.proofs.Within.{area-small}
-use Rattle.chain.proofs.Keeping.{rows-on, no-rows, turn-range, turn-left, turn-on, turn-end, row-ok}
+use Rattle.chain.proofs.Keeping.{rows-on, no-rows, turn-range, turn-left, turn-on, turn-end}
 use Rattle.chain.proofs.steps.kept.carry.Statement.{statement}
 use Rattle.chain.proofs.steps.kept.carry.Tie as tie
 
@@ -27,11 +27,11 @@ abbrev μ-loop : tie.MeasureT-loop
 loop-holds : tie.Need-loop-holds Inv-loop μ-loop
 loop-holds c = (omega arith, omega (arith, c .before .pre .0), c .before .pre .2, refl)
 
-row-at-requires : tie.Need-row-at-requires Inv-loop μ-loop
-row-at-requires c κs = omega arith
+forward-row-requires : tie.Need-forward-row-requires Inv-loop μ-loop
+forward-row-requires c κs = (omega arith, area-small _ (c .before .loop .inv .2))
 
 -- a turn: the row at i, then those that are left
-module _ (c : tie.After-row-at Inv-loop μ-loop) where
+module _ (c : tie.After-forward-row Inv-loop μ-loop) where
   abbrev s : tie.Start Inv-loop μ-loop
   s = c .before .before .before .before
 
@@ -50,8 +50,8 @@ module _ (c : tie.After-row-at Inv-loop μ-loop) where
   is : (rowsOf l i (s .args .rows - i)) ≡ rowAt l i ∷ after
   is = let t = c .before .loop-test .taken in rows-on l i (s .args .rows) t
 
-  good : (b : Bool) → c .row-at .result .good ≡ b → rowAt l i .good ≡ b
-  good b e = ap (λ (r : Row). r .good) (sym (c .row-at .ensures)) ∙ e
+  good : (b : Bool) → c .forward-row .result .good ≡ b → rowAt l i .good ≡ b
+  good b e = sym (c .forward-row .ensures .0) ∙ e
 
   whole : carried forwardBy (s .args .point) (s .args .end) (rowsOf l i (s .args .rows - i)) q ≡ carried forwardBy (s .args .point) (s .args .end) (rowsOf l 1 (s .args .rows - 1)) (s .args .point .position)
   whole = c .before .before .loop .inv .3
@@ -61,17 +61,12 @@ returns c =
     let a = c .before .before in
     sym (sym (whole a) ∙ turn-range forwardBy (s a .args .point) (s a .args .end) _ (after a) (rowAt (l a) (i a)) (is a) (q a) (good a false (not-true _ (c .if1 .taken))))
 
-forward-ready-requires : tie.Need-forward-ready-requires Inv-loop μ-loop
-forward-ready-requires c κs =
-    let a = c .before .before in
-    (subst⁻¹ (λ (r : Row). ReadyOk (r .ready)) (a .row-at .ensures) (row-ok (l a) (i a) (good a true (not-false _ (c .if1 .left)))), area-small (q a) (a .before .before .loop .inv .2))
-
 in-area-requires : tie.Need-in-area-requires Inv-loop μ-loop
 in-area-requires c κs = tt
 
 -- where the row leads
 module _ (c : tie.After-in-area Inv-loop μ-loop) where
-  abbrev a : tie.After-row-at Inv-loop μ-loop
+  abbrev a : tie.After-forward-row Inv-loop μ-loop
   a = c .before .before .before .before
 
   abbrev next : Position
@@ -80,8 +75,8 @@ module _ (c : tie.After-in-area Inv-loop μ-loop) where
   sound : rowAt (l a) (i a) .good ≡ true
   sound = good a true (not-false _ (c .before .before .if1 .left))
 
-  is-next : c .before .forward-ready .result ≡ next
-  is-next = c .before .forward-ready .ensures ∙ ap (λ (r : Row). forwardBy (readyParts (r .ready)) (q a)) (a .row-at .ensures)
+  is-next : a .forward-row .result .position ≡ next
+  is-next = a .forward-row .ensures .1 sound
 
   area : (b : Bool) → c .in-area .result ≡ b → inArea next ≡ b
   area b e = ap inArea (sym is-next) ∙ sym (c .in-area .ensures) ∙ e
@@ -120,4 +115,4 @@ returns-3 c =
     ∙ ap (λ (rs : List Row). carried forwardBy (s .args .point) (s .args .end) rs (k .p)) (sym (no-rows (s .args .numbers .now) (k .i) (s .args .rows) t)) ∙ k .inv .3
 
 pub carry-spec : {M : Type 1} → statement M
-carry-spec = tie.close (tie.spec Inv-loop μ-loop loop-holds row-at-requires returns forward-ready-requires in-area-requires returns-2 add-i loop-less loop-again moved-to-requires returns-3)
+carry-spec = tie.close (tie.spec Inv-loop μ-loop loop-holds forward-row-requires returns in-area-requires returns-2 add-i loop-less loop-again moved-to-requires returns-3)

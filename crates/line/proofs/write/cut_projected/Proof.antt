@@ -1,0 +1,40 @@
+-- `line::write::cut_projected` meets its contract. Assumes nothing.
+use mir.Syntax.{w64}
+use mir.Val.{toZ, ofZ}
+use mathlib.Core.Path.{_≡_}
+use Rattle.line.proofs.Texts as T
+use borrow.Author.Needs.{needs}
+use Rattle.line.proofs.write.cut_projected.Statement.{statement}
+use Rattle.line.proofs.write.cut_projected.Tie as tie
+
+letter-requires : tie.Need-letter-requires
+letter-requires c κs = search needs
+
+name-requires : tie.Need-name-requires
+name-requires c κs = search needs
+
+whole-requires : tie.Need-whole-requires
+whole-requires c κs = search needs
+
+whole-requires-2 : tie.Need-whole-requires-2
+whole-requires-2 c κs = search needs
+
+same-length : tie.Need-same-length
+same-length c = search needs
+
+returns : tie.Need-returns
+returns c =
+    let c2 = c .before .before in
+    let c6 = c2 .before .before .before .before in
+    let c10 = c6 .before .before .before .before in
+    let c14 = c10 .before .before .before .before in
+    let c17 = c14 .before .before .before in
+    let g = c17 .args in
+    let a : toZ w64 (ofZ w64 (g .e)) ≡ g .e = search needs in
+    let b : toZ w64 (ofZ w64 (g .n)) ≡ g .n = search needs in
+    T.says (T.«then» (c14 .letter .ensures) (T.«then» (c10 .name .ensures) (T.«then» (c6 .whole .ensures) (c2 .whole2 .ensures)))) (rw (a, b) (T.projected-is _ _ _))
+
+pub cut-projected-spec : {M : Type 1} → statement M
+cut-projected-spec =
+    tie.close
+    (tie.spec letter-requires name-requires whole-requires whole-requires-2 same-length returns)

@@ -1,0 +1,34 @@
+-- `line::write::roomy::projected` meets its contract. Assumes nothing.
+use mir.Syntax.{w64}
+use mir.Val.{toZ, ofZ}
+use mathlib.Core.Path.{_≡_}
+use native.Mathlib.Omega.{arith}
+use Rattle.line.proofs.Texts as T
+use borrow.Author.Needs.{needs}
+use Rattle.line.proofs.write.roomy.projected.Statement.{statement}
+use Rattle.line.proofs.write.roomy.projected.Tie as tie
+
+letter-requires : tie.Need-letter-requires
+letter-requires c κs = search needs
+
+name-requires : tie.Need-name-requires
+name-requires c κs = search needs
+
+two-numbers-requires : tie.Need-two-numbers-requires
+two-numbers-requires c κs = search needs
+
+same-length : tie.Need-same-length
+same-length c = search needs
+
+returns : tie.Need-returns
+returns c =
+    let c2 = c .before .before in
+    let c6 = c2 .before .before .before .before in
+    let c10 = c6 .before .before .before .before in
+    let s = c10 .before .before .before in
+    let e : toZ w64 (ofZ w64 (s .args .e)) ≡ s .args .e = search needs in
+    let f : toZ w64 (ofZ w64 (s .args .n)) ≡ s .args .n = search needs in
+    T.named 63 (T.after (c10 .letter .ensures) (T.after (c6 .name .ensures) (c2 .two-numbers .ensures))) (omega arith) (rw (e, f) (T.projected-is _ _ _))
+
+pub projected-spec : {M : Type 1} → statement M
+projected-spec = tie.close (tie.spec letter-requires name-requires two-numbers-requires same-length returns)

@@ -1,0 +1,29 @@
+-- `line::write::roomy::short` meets its contract. Assumes nothing.
+use native.Mathlib.Omega.{arith}
+use mathlib.Core.Path.{refl}
+use Rattle.line.proofs.Texts as T
+use borrow.Author.Needs.{needs}
+use Rattle.line.proofs.write.roomy.short.Statement.{statement}
+use Rattle.line.proofs.write.roomy.short.Tie as tie
+
+wide-requires : tie.Need-wide-requires
+wide-requires c κs = search needs
+
+up-to-four-requires : tie.Need-up-to-four-requires
+up-to-four-requires c κs = search needs
+
+put-requires : tie.Need-put-requires
+put-requires c κs = search needs
+
+same-length : tie.Need-same-length
+same-length c = search needs
+
+returns : tie.Need-returns
+returns c =
+    let c2 = c .before .before in
+    let c6 = c2 .before .before .before .before in
+    let c7 = c6 .before in
+    T.named 5 (T.after (rw (c7 .wide .ensures) at (c6 .up-to-four .ensures)) (c2 .put .ensures)) (omega arith) refl
+
+pub short-spec : {M : Type 1} → statement M
+short-spec = tie.close (tie.spec wide-requires up-to-four-requires put-requires same-length returns)

@@ -1,0 +1,30 @@
+-- `line::write::roomy::sign` meets its contract. Assumes nothing.
+use mir.Syntax.{w64}
+use mir.Val.{toZ, ofZ}
+use mathlib.Core.Path.{_≡_, sym}
+use native.Mathlib.Omega.{arith}
+use Rattle.line.proofs.Texts as T
+use borrow.Author.Needs.{needs}
+use Rattle.line.proofs.write.roomy.sign.Statement.{statement}
+use Rattle.line.proofs.write.roomy.sign.Tie as tie
+
+put-requires : tie.Need-put-requires
+put-requires c κs = search needs
+
+same-length : tie.Need-same-length
+same-length c = search needs
+
+returns : tie.Need-returns
+returns c =
+    let z = c .before .before .before .before .before .before .args .z in
+    let e : toZ w64 (ofZ w64 z) ≡ z = search needs in
+    T.named 1 (c .before .before .put .ensures) (omega arith) (sym (T.sign-below z (rw e at (c .before .before .before .before .if1 .taken))))
+
+returns-2 : tie.Need-returns-2
+returns-2 c =
+    let z = c .before .before .args .z in
+    let e : toZ w64 (ofZ w64 z) ≡ z = search needs in
+    T.unmoved _ _ (T.sign-above z (rw e at (c .if1 .left)))
+
+pub sign-spec : {M : Type 1} → statement M
+sign-spec = tie.close (tie.spec put-requires same-length returns returns-2)

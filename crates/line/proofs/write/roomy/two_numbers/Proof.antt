@@ -1,0 +1,29 @@
+-- `line::write::roomy::two_numbers` meets its contract. Assumes nothing.
+use mir.Syntax.{w64}
+use mir.Val.{toZ, ofZ}
+use mathlib.Core.Path.{_≡_}
+use Rattle.line.proofs.Texts as T
+use borrow.Author.Needs.{needs}
+use Rattle.line.proofs.write.roomy.two_numbers.Statement.{statement}
+use Rattle.line.proofs.write.roomy.two_numbers.Tie as tie
+
+number-requires : tie.Need-number-requires
+number-requires c κs = search needs
+
+number-requires-2 : tie.Need-number-requires-2
+number-requires-2 c κs = search needs
+
+same-length : tie.Need-same-length
+same-length c = search needs
+
+returns : tie.Need-returns
+returns c =
+    let c2 = c .before .before in
+    let c6 = c2 .before .before .before .before in
+    let s = c6 .before .before .before in
+    let e : toZ w64 (ofZ w64 (s .args .y)) ≡ s .args .y = search needs in
+    let f : toZ w64 (ofZ w64 (s .args .z)) ≡ s .args .z = search needs in
+    rw (e, f) at (T.after (c6 .number .ensures) (c2 .number2 .ensures))
+
+pub two-numbers-spec : {M : Type 1} → statement M
+two-numbers-spec = tie.close (tie.spec number-requires number-requires-2 same-length returns)

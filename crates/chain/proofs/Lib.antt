@@ -11,3 +11,4 @@ pub mod Places
 pub mod Cases
 pub mod Keeping
 pub mod Joins
+pub mod RowLaws

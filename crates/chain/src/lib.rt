@@ -5,10 +5,12 @@ mod faults;
 mod kinds;
 mod points;
 mod profiles;
+mod row;
 mod steps;
 
 pub use crate::faults::point_fault;
 pub use crate::faults::step_fault;
+pub use crate::row::convert_row;
 pub use crate::steps::convert::forward;
 pub use crate::steps::convert::inverse;
 pub use crate::steps::convert::join::join;
@@ -121,4 +123,10 @@ pub enum Answer {
 pub struct Joined {
     pub chain: Chain,
     pub refusal: u8,
+}
+
+// Which way a row of points goes by a chain: to its end, or back to its start.
+pub enum Direction {
+    Forward,
+    Inverse,
 }

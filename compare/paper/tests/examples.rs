@@ -2,6 +2,7 @@
 
 use paper::decimal::round;
 use paper::geodetic::geodetic;
+use paper::numbers;
 use paper::rso::{self, Parameters};
 
 /// The text stands among what the examples in C print.
@@ -68,4 +69,32 @@ fn onto_rso_and_back() {
         format!("too far\trefused: {}\n", too_far.expect_err("23")),
     ];
     stored(&text.concat());
+}
+
+const ARAU_CHAIN: [i64; 52] = [
+    84, 0, 6, 2000000, 6, 2006586, -15832, -4363, -9706, 0, 0, 0, 0, //
+    86, 0, 6, 2006586, 6, 2010000, -1876, -90, -684, 0, 0, 0, 0, //
+    70, 0, 6, 2010000, 10, 2010000, 0, 0, 0, 0, 0, 0, 0, //
+    86, 0, 10, 2010000, 10, 2020000, -1874, -169, -502, 0, 0, 0, 0,
+];
+
+#[test]
+fn a_days_marks() {
+    let marks = [
+        ("ARAU", [1, 1, 6, 2000000, -113105165410, 623631179950, 71174811140]),
+        ("PEG-1", [2, 4, 5, 2000000, -113105165410, 623631179950, 71174811140]),
+        ("PEG-2", [1, 4, 6, 2000000, -113104712345, 623631254321, 71174899999]),
+        ("PEG-3", [1, 3, 6, 2000000, 623631179950, -113105165410, 71174811140]),
+    ];
+    let mut text = String::new();
+    for (name, mark) in marks {
+        let answer = match numbers::forward(2021, &ARAU_CHAIN, &mark) {
+            Ok(there) => there.map(|number| format!("\t{number}")).concat(),
+            Err(number) => format!("\trefused: {number}"),
+        };
+        text += &format!("{name}{answer}\n");
+    }
+    let there = numbers::forward(2021, &ARAU_CHAIN, &marks[2].1).expect("accepted");
+    let home = numbers::inverse(2021, &ARAU_CHAIN, &there).expect("accepted");
+    stored(&format!("{text}PEG-2 back\t{}\t{}\t{}\nrefused: 26\n", home[4], home[5], home[6]));
 }

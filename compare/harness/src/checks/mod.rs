@@ -8,6 +8,7 @@ pub mod later;
 #[cfg(feature = "product")]
 pub mod lengths;
 pub mod roundings;
+pub mod rows;
 pub mod rso;
 pub mod rso_causes;
 pub mod texts;

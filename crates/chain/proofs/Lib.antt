@@ -11,4 +11,5 @@ pub mod Places
 pub mod Cases
 pub mod Keeping
 pub mod Joins
+pub mod Readying
 pub mod RowLaws

@@ -10,7 +10,9 @@ mod steps;
 
 pub use crate::faults::point_fault;
 pub use crate::faults::step_fault;
+pub use crate::row::convert_ready;
 pub use crate::row::convert_row;
+pub use crate::row::ready_chain;
 pub use crate::steps::convert::forward;
 pub use crate::steps::convert::inverse;
 pub use crate::steps::convert::join::join;
@@ -112,6 +114,13 @@ pub struct Chain {
 // A chain prepared for many points: its length, where it starts and ends, and its steps with their numbers worked out. All zeros are the empty chain; `extend`
 // adds a step. How the numbers say it is this crate's own.
 pub type Prepared = [i64; 72];
+
+// A chain made ready for many points: its own refusal number, 0 for a good one; the profile that its points are examined under; and its steps prepared.
+pub struct ReadyChain {
+    pub refusal: u8,
+    pub profile: i64,
+    pub numbers: Prepared,
+}
 
 // What a conversion answers: the point, or the refusal number.
 pub enum Answer {

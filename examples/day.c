@@ -1,4 +1,4 @@
-/* A day's marks in one call: station ARAU's chain for four of them, of which two are refused, and the way back.
+/* A day's marks in one call: station ARAU's chain for four of them, of which two are refused, and the way back; then for 2,000.
  * Build and run: bash examples/run-c */
 #include <inttypes.h>
 #include <stdio.h>
@@ -22,6 +22,29 @@ static void show(int64_t refusal, const int64_t *answers) {
             printf("\t%" PRId64, answers[j]);
         printf("\n");
     }
+}
+
+enum { DAY = 2000 };
+static int64_t day[DAY * POINT], answers[DAY * PLACE];
+
+/* 2,000 marks in one call, each a metre on from the last in all three, every 400th in another datum: how many were converted, and the sums of
+ * their X, Y and Z. */
+static int whole_day(const int64_t *chain, size_t steps) {
+    for (int64_t i = 0; i < DAY; i++) {
+        const int64_t mark[POINT] = {1, 4, i % 400 == 0 ? 5 : 6, 2000000, -113105165410 + i * 100000, 623631179950 + i * 100000, 71174811140 + i * 100000};
+        for (size_t j = 0; j < POINT; j++)
+            day[(size_t)i * POINT + j] = mark[j];
+    }
+    if (swivelcrane_row(2021, chain, steps, 0, day, DAY * POINT, answers, DAY * PLACE) != 0)
+        return 1;
+    int64_t converted = 0, sums[3] = {0, 0, 0};
+    for (size_t i = 0; i < DAY; i++) {
+        converted += answers[i * PLACE] == 0;
+        for (size_t j = 0; j < 3; j++)
+            sums[j] += answers[i * PLACE + 5 + j];
+    }
+    printf("%d marks\t%" PRId64 " converted\t%" PRId64 "\t%" PRId64 "\t%" PRId64 "\n", DAY, converted, sums[0], sums[1], sums[2]);
+    return 0;
 }
 
 int main(void) {
@@ -49,5 +72,5 @@ int main(void) {
     printf("%s back\t%" PRId64 "\t%" PRId64 "\t%" PRId64 "\n", names[2], home[5], home[6], home[7]);
     /* Room for three answers: nothing is written. */
     printf("refused: %" PRId64 "\n", swivelcrane_row(2021, chain, steps, 0, marks, MARKS * POINT, there, 3 * PLACE));
-    return refusal != 0;
+    return refusal != 0 || whole_day(chain, steps) != 0;
 }

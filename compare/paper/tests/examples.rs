@@ -97,4 +97,17 @@ fn a_days_marks() {
     let there = numbers::forward(2021, &ARAU_CHAIN, &marks[2].1).expect("accepted");
     let home = numbers::inverse(2021, &ARAU_CHAIN, &there).expect("accepted");
     stored(&format!("{text}PEG-2 back\t{}\t{}\t{}\nrefused: 26\n", home[4], home[5], home[6]));
+    let (mut converted, mut sums) = (0, [0; 3]);
+    for i in 0..2000 {
+        let datum = if i % 400 == 0 { 5 } else { 6 };
+        let metres = i * 100_000;
+        let mark =
+            [1, 4, datum, 2000000, -113105165410 + metres, 623631179950 + metres, 71174811140 + metres];
+        if let Ok(there) = numbers::forward(2021, &ARAU_CHAIN, &mark) {
+            converted += 1;
+            (0..3).for_each(|j| sums[j] += there[4 + j]);
+        }
+    }
+    let [x, y, z] = sums;
+    stored(&format!("2000 marks\t{converted} converted\t{x}\t{y}\t{z}\n"));
 }

@@ -68,11 +68,6 @@ unfolding answersOf
 same-answers f g h zero ns = refl
 same-answers f g h (suc n) ns = ap₂ _++_ (ap placeOf (h (pointFrom ns))) (same-answers f g h n (drop 7 ns))
 
--- what the code finds in a chain that is ready
-pub ready-fault : (c : Chain) {w : ReadyChain} → w ≡ readyOf c → w .refusal ≡ first (chainTests c)
-unfolding readyOf
-ready-fault c e = ap (λ (w : ReadyChain). w .refusal) e
-
 -- ---- how the call ends
 module _ (y d : ℤ) (chain points out : List ℤ) where
   abbrev c : Chain

@@ -130,6 +130,10 @@ ready-converts c d p =
     (λ h. unless-some _ Refused _ h ∙ chain-decides c p h d)
 
 -- ---- what the code makes ready, and how it answers
+pub ready-fault : (c : Chain) {w : ReadyChain} → w ≡ readyOf c → w .refusal ≡ first (chainTests c)
+unfolding readyOf
+ready-fault c e = ap (λ (w : ReadyChain). w .refusal) e
+
 pub ready-refused : (c : Chain) {n : ℕ} {y : ℤ} → n ≡ first (chainTests c) → y ≡ c .profile → (n ≡ 0 → ⊥) → record { refusal = n; profile = y; numbers = noNumbers } ≡ readyOf c
 unfolding readyOf
 ready-refused c e f h = rw (e, f, unless-some (first (chainTests c)) (λ (n : ℕ). noNumbers) (extendedAll (c .profile) noNumbers (stepsOf c)) (λ z. h (e ∙ z)))

@@ -8,13 +8,10 @@ use paper::numbers::steps;
 
 pub fn run(c: &mut Comparison, count: u64) -> Outcome {
     for turn in 0..count {
-        // The first rows have no point, one, and a whole day's.
-        let points = match turn {
-            0 | 1 => turn as usize,
-            2 => 2000,
-            _ => c.rng.small(20) as usize,
+        let day = match turn {
+            0..12 => planned(c, [0, 1, 2000][turn as usize % 3], turn as usize / 3),
+            _ => any(c),
         };
-        let day = day(c, points);
         let expected = c.reference.row(&day);
         let call = if expected.0 == 0 { Ok(()) } else { Err(expected.0 as u8) };
         if expected.0 != 255 {
@@ -32,9 +29,31 @@ pub fn run(c: &mut Comparison, count: u64) -> Outcome {
     Ok(())
 }
 
+/// Rows of no point, one, and a whole day's, by a good chain, refused points among good ones: along and back with an answer each, then with three
+/// answers more, then with one too few.
+fn planned(c: &mut Comparison, count: usize, plan: usize) -> Day {
+    let length = 1 + c.rng.index(8);
+    let chain = c.chains.good(&mut c.rng, length);
+    let back = plan == 1;
+    let points = points_of(c, &chain, back, count);
+    let answers = match plan {
+        2 => count + 3,
+        3 => count.saturating_sub(1),
+        _ => count,
+    };
+    Day {
+        profile: chain.profile,
+        chain: chain.numbers(),
+        direction: i64::from(back),
+        points,
+        room: 8 * answers,
+    }
+}
+
 /// Points of one chain and one direction, some of them damaged; now and then a bad chain, a short row of answers, a
 /// direction that is none, or a part of a point.
-fn day(c: &mut Comparison, count: usize) -> Day {
+fn any(c: &mut Comparison) -> Day {
+    let count = c.rng.small(20) as usize;
     let length = if c.rng.once_in(20) { 9 } else { c.rng.index(9) };
     let mut chain = c.chains.good(&mut c.rng, length);
     let back = c.rng.once_in(2);

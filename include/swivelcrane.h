@@ -24,7 +24,7 @@ extern "C" {
 
 /* The version of this interface: a function or a number that is added raises the minor, any other change the major. */
 #define SWIVELCRANE_VERSION_MAJOR 4
-#define SWIVELCRANE_VERSION_MINOR 2
+#define SWIVELCRANE_VERSION_MINOR 3
 
 /* The refusal numbers by name; README.md says of each what to do. 1 is not given. */
 enum swivelcrane_refusal {
@@ -51,6 +51,7 @@ enum swivelcrane_refusal {
     SWIVELCRANE_REFUSAL_PLAIN = 22,    /* a number that is not in plain form */
     SWIVELCRANE_REFUSAL_PLANE = 23,    /* an easting or northing not finite, or 10,000,000 m or more in size */
     SWIVELCRANE_REFUSAL_PROFILE = 25,  /* a step or a point that the chain's profile doesn't have */
+    SWIVELCRANE_REFUSAL_ROW = 26,      /* a row of answers that is shorter than the row of points */
     SWIVELCRANE_REFUSAL_BUFFER = 27    /* a buffer of fewer than 200 bytes: only of the lot plan (swivelcrane_lot_plan.h) */
 };
 
@@ -76,6 +77,16 @@ int64_t swivelcrane_forward(int64_t profile, const int64_t *chain, size_t chain_
                             int64_t *out, size_t out_length);
 int64_t swivelcrane_inverse(int64_t profile, const int64_t *chain, size_t chain_length, const int64_t *point, size_t point_length,
                             int64_t *out, size_t out_length);
+
+/* Numbers to an answer of swivelcrane_row: the refusal number or 0, then the point's seven numbers, all 0 beside a refusal. */
+#define SWIVELCRANE_PLACE_NUMBERS 8
+
+/* A day's points in one call, along the chain (direction 0) or back (1): 7 numbers a point, 8 an answer. Each answer is what
+ * swivelcrane_forward or swivelcrane_inverse gives for that point by itself; answers past the points stay as they were. The call
+ * answers 0, or a number for the whole call, and then nothing is written: a length that is no multiple, 26 (fewer answers than points), 2
+ * (another direction), then the chain's own number (2 for its year, 6, then each step 2, 3, 25, 4, 5), for no point too. */
+int64_t swivelcrane_row(int64_t profile, const int64_t *chain, size_t chain_length, int64_t direction, const int64_t *points,
+                        size_t points_length, int64_t *answers, size_t answers_length);
 
 /* Numbers to eight steps: the room that swivelcrane_join asks for. */
 #define SWIVELCRANE_JOINED_NUMBERS 104

@@ -184,6 +184,30 @@ static void joins(void) {
     refused(swivelcrane_join(2009, steps, STEP, 2009, second, STEP, out, room + 1), -SWIVELCRANE_WRONG_LENGTH, "join, room for a number more");
 }
 
+/* Three points of ARAU's chain, the second refused; the fourth place stays. */
+static void rows(void) {
+    enum { PLACE = SWIVELCRANE_PLACE_NUMBERS };
+    int64_t points[3 * POINT], bad[4 * STEP];
+    memcpy(points, arau, sizeof arau);
+    memcpy(points + POINT, point, sizeof point);
+    memcpy(points + 2 * POINT, arau, sizeof arau);
+    points[2 * POINT] = 77;
+    points[2 * POINT + 6] = 1;
+    memcpy(bad, arau_chain, sizeof bad);
+    bad[3] = 0;
+    wrote(swivelcrane_row(2021, arau_chain, 4 * STEP, 0, points, 3 * POINT, out, 4 * PLACE), stored_row, 3 * PLACE, "row, along");
+    wrote(swivelcrane_row(2021, arau_chain, 4 * STEP, 1, stored_arau_forward, POINT, out, PLACE), stored_row_back, PLACE, "row, back");
+    refused(swivelcrane_row(2021, arau_chain, 4 * STEP, 0, points, 0, out, PLACE), 0, "row, no point");
+    refused(swivelcrane_row(2010, bad, 4 * STEP, 2, points, 3 * POINT, out, 2 * PLACE), SWIVELCRANE_REFUSAL_ROW, "row: 26 before all others");
+    refused(swivelcrane_row(2021, bad, 4 * STEP, 2, points, 3 * POINT, out, 3 * PLACE), SWIVELCRANE_REFUSAL_RANGE, "row: 2, the direction");
+    refused(swivelcrane_row(2010, bad, 4 * STEP, 1, points, 3 * POINT, out, 3 * PLACE), SWIVELCRANE_REFUSAL_RANGE, "row: 2, the year");
+    refused(swivelcrane_row(2021, bad, 4 * STEP, 1, points, 3 * POINT, out, 3 * PLACE), SWIVELCRANE_REFUSAL_EPOCH, "row: 3, the chain's");
+    refused(swivelcrane_row(2021, bad, 4 * STEP, 0, points, 0, out, 0), SWIVELCRANE_REFUSAL_EPOCH, "row: 3 for no point");
+    refused(swivelcrane_row(2021, arau_chain, 4 * STEP - 1, 2, points, 3 * POINT, out, 2 * PLACE), SWIVELCRANE_WRONG_LENGTH, "row, a part of a step");
+    refused(swivelcrane_row(2021, arau_chain, 4 * STEP, 0, points, 3 * POINT - 1, out, 4 * PLACE), SWIVELCRANE_WRONG_LENGTH, "row, a part of a point");
+    refused(swivelcrane_row(2021, arau_chain, 4 * STEP, 0, points, 3 * POINT, out, 3 * PLACE + 1), SWIVELCRANE_WRONG_LENGTH, "row, a part of an answer");
+}
+
 /* The shift to the north leaves the area: Z is 0 to 90,000,000,000. */
 static void leaves_the_area(void) {
     static const int64_t shift[STEP] = {'T', 0, 5, 2000000, 6, 2006586, 0, 0, 100000000, 0, 0, 0, 0};
@@ -338,7 +362,7 @@ static void numbers(void) {
     hold(SWIVELCRANE_ROOM(0) == 9 && SWIVELCRANE_ROOM(1 + 1) == 35 && SWIVELCRANE_ROOM(65535) == 851964, "the room");
     hold(SWIVELCRANE_ROOM(65536) == 851977 && SWIVELCRANE_ROOM(65537) == 851977, "the most room");
     hold(STEP == 13 && POINT == 7 && SWIVELCRANE_WRONG_LENGTH == 255, "numbers to a step, to a point, a wrong length");
-    hold(SWIVELCRANE_VERSION_MAJOR == 4 && SWIVELCRANE_VERSION_MINOR == 2, "the version");
+    hold(SWIVELCRANE_VERSION_MAJOR == 4 && SWIVELCRANE_VERSION_MINOR == 3, "the version");
     hold(SWIVELCRANE_REFUSAL_PLACE == 7 && SWIVELCRANE_REFUSAL_EARLIER == 8 && SWIVELCRANE_REFUSAL_LONG == 15, "the numbers that only a text has");
 }
 
@@ -349,6 +373,7 @@ int main(void) {
     refused_conversions();
     profiles();
     joins();
+    rows();
     leaves_the_area();
     geodetic();
     to_angles();

@@ -5,6 +5,8 @@ static const int64_t stored_arau_forward[7] = {1, 3, 10, 2020000, -113105206217,
 static const int64_t stored_arau_inverse[7] = {1, 3, 6, 2000000, -113105165410, 623631179950, 71174811140};
 static const int64_t stored_forward_2009[7] = {12, 4, 7, 2006586, -122145557622, 622097703921, 53876704976};
 static const int64_t stored_inverse_2009[7] = {12, 4, 1, 0, -122145800014, 621926987434, 53876381392};
+static const int64_t stored_row[24] = {0, 1, 3, 10, 2020000, -113105206217, 623631172148, 71174796538, 9, 0, 0, 0, 0, 0, 0, 0, 11, 0, 0, 0, 0, 0, 0, 0};
+static const int64_t stored_row_back[8] = {0, 1, 3, 6, 2000000, -113105165410, 623631179950, 71174811140};
 static const int64_t stored_join[26] = {66, 67, 1, 0, 5, 2000000, -1100000, 85100000, 500000, 12500, -8300, 40250, -1350, 84, 0, 5, 2000000, 7, 2006586, -15832, -4363, -9706, 1, 2, 3, 4};
 #define stored_lot_plan "C\tARAU\t7\t3\t-43673705\t53017498\n"
 #define stored_lot_plan_no_step "C\tARAU\t7\t3\t-43673869\t53017593\n"

@@ -21,6 +21,7 @@ pub const ID: u8 = 21;
 pub const PLAIN: u8 = 22;
 pub const PROJECTED: u8 = 23;
 pub const PROFILE: u8 = 25;
+pub const ROW: u8 = 26;
 pub const BUFFER: u8 = 27;
 
 /// A refused line: the number and, for its form, the byte where the offending field begins.

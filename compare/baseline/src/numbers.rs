@@ -1,6 +1,6 @@
 //! Conversions by value: 13 numbers a step, 6 a point.
 
-use crate::check::{self, Kind, Place, Point, Profile, Step, JOIN, NINTH, PROFILE};
+use crate::check::{self, Kind, Place, Point, Profile, Step, JOIN, NINTH, PROFILE, RANGE, ROW};
 use crate::steps::Chain;
 
 /// Issue, order, datum, epoch, X, Y, Z.
@@ -39,6 +39,60 @@ fn convert(
     }
     let Point { issue, order, place, xyz: [x, y, z] } = way(&chain, point)?;
     Ok([issue, order, place.datum, place.epoch, x, y, z])
+}
+
+/// A day's points: the chain made ready once. Answers have 8 numbers each.
+pub fn row(
+    profile: i64,
+    rows: &[i64],
+    direction: i64,
+    points: &[i64],
+    answers: &mut [i64],
+) -> Result<(), u8> {
+    if !rows.len().is_multiple_of(13) || !points.len().is_multiple_of(7) || !answers.len().is_multiple_of(8) {
+        return Err(WRONG_LENGTH);
+    }
+    if points.len() / 7 > answers.len() / 8 {
+        return Err(ROW);
+    }
+    let back = match direction {
+        0 => false,
+        1 => true,
+        _ => return Err(RANGE),
+    };
+    let profile = Profile::of(profile)?;
+    let chain = chain(profile, rows)?;
+    for (point, answer) in points.chunks_exact(7).zip(answers.chunks_exact_mut(8)) {
+        let point = Point {
+            issue: point[0],
+            order: point[1],
+            place: Place { datum: point[2], epoch: point[3] },
+            xyz: [point[4], point[5], point[6]],
+        };
+        answer.copy_from_slice(&match one(profile, &chain, back, point) {
+            Ok(Point { issue, order, place, xyz: [x, y, z] }) => {
+                [0, issue, order, place.datum, place.epoch, x, y, z]
+            }
+            Err(number) => [i64::from(number), 0, 0, 0, 0, 0, 0, 0],
+        });
+    }
+    Ok(())
+}
+
+#[inline]
+fn one(profile: Profile, chain: &Chain, back: bool, point: Point) -> Result<Point, u8> {
+    let fault = check::point(&point);
+    if fault != 0 {
+        return Err(fault);
+    }
+    if !profile.has(point.place.datum) {
+        return Err(PROFILE);
+    }
+    if back {
+        chain.inverse(point)
+    } else {
+        chain.forward(point)
+    }
 }
 
 /// Two chains as one, the rows as they stand.

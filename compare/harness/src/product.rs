@@ -1,7 +1,7 @@
 //! The product through its C interface. Each call watches the bytes around and in what it lends: on a
 //! refusal nothing may be written, and never anything past the lent slice.
 
-use crate::subject::{Answer, Lot, Subject, STRANGE, WROTE};
+use crate::subject::{Answer, Day, Lot, Subject, STRANGE, UNWRITTEN, WROTE};
 use paper::numbers::PointRow;
 #[cfg(feature = "standin")]
 use standin as _;
@@ -35,6 +35,16 @@ mod c {
             second_len: usize,
             out: *mut i64,
             out_len: usize,
+        ) -> i64;
+        pub fn swivelcrane_row(
+            profile: i64,
+            chain: *const i64,
+            chain_len: usize,
+            direction: i64,
+            points: *const i64,
+            points_len: usize,
+            answers: *mut i64,
+            answers_len: usize,
         ) -> i64;
         pub fn swivelcrane_cartesian(
             ellipsoid: i64,
@@ -173,6 +183,21 @@ pub fn join([one, two]: [i64; 2], first: &[i64], second: &[i64], out: &mut [i64]
             second.len(),
             out.as_mut_ptr(),
             out.len(),
+        )
+    }
+}
+
+pub fn row(profile: i64, chain: &[i64], direction: i64, points: &[i64], answers: &mut [i64]) -> i64 {
+    unsafe {
+        c::swivelcrane_row(
+            profile,
+            chain.as_ptr(),
+            chain.len(),
+            direction,
+            points.as_ptr(),
+            points.len(),
+            answers.as_mut_ptr(),
+            answers.len(),
         )
     }
 }
@@ -334,6 +359,16 @@ impl Subject for Product {
             -255 | -25..=-2 => Err(-answer as u8),
             _ => Err(STRANGE),
         }
+    }
+    fn row(&self, day: &Day) -> (i64, Vec<i64>) {
+        let mut answers = vec![UNWRITTEN; day.room + 2];
+        let lent = &mut answers[1..=day.room];
+        let number = row(day.profile, &day.chain, day.direction, &day.points, lent);
+        if answers[0] != UNWRITTEN || answers.pop() != Some(UNWRITTEN) {
+            return (i64::from(WROTE), answers);
+        }
+        answers.remove(0);
+        (number, answers)
     }
     fn cartesian(&self, n: &[i64; 4]) -> Answer<[f64; 3]> {
         lend(FLOAT_MARK, |out| cartesian(n, out))

@@ -12,6 +12,19 @@ pub type Answer<T> = Result<T, u8>;
 pub const WROTE: u8 = 254;
 pub const STRANGE: u8 = 253;
 
+/// What every place of an answer row holds before the call.
+pub const UNWRITTEN: i64 = 0x0a5a_5a5a_a5a5_0001;
+
+/// A day's points: what one call takes, and the length of its answer row.
+#[derive(Clone, Debug)]
+pub struct Day {
+    pub profile: i64,
+    pub chain: Vec<i64>,
+    pub direction: i64,
+    pub points: Vec<i64>,
+    pub room: usize,
+}
+
 /// What a lot plan is made from: the chain's text, the point's line, ellipsoid and origin (latitude, longitude, FE, FN), and the
 /// length of the buffer.
 #[derive(Clone, Debug)]
@@ -28,6 +41,8 @@ pub trait Subject {
     fn inverse(&self, profile: i64, chain: &[i64], point: &PointRow) -> Answer<PointRow>;
     /// Two chains, each with its profile, made one: the numbers of its steps.
     fn join(&self, profiles: [i64; 2], first: &[i64], second: &[i64]) -> Answer<Vec<i64>>;
+    /// The number of the whole call, and the answer row after it.
+    fn row(&self, day: &Day) -> (i64, Vec<i64>);
     fn cartesian(&self, numbers: &[i64; 4]) -> Answer<[f64; 3]>;
     fn cartesian_units(&self, numbers: &[i64; 4]) -> Answer<[i64; 3]>;
     /// Code, X, Y, Z to latitude, longitude, height.
@@ -66,6 +81,11 @@ impl Subject for Paper {
     }
     fn join(&self, [one, two]: [i64; 2], first: &[i64], second: &[i64]) -> Answer<Vec<i64>> {
         paper::numbers::join(one, first, two, second)
+    }
+    fn row(&self, day: &Day) -> (i64, Vec<i64>) {
+        let mut answers = vec![UNWRITTEN; day.room];
+        let answer = paper::numbers::row(day.profile, &day.chain, day.direction, &day.points, &mut answers);
+        (answer.err().map_or(0, i64::from), answers)
     }
     fn cartesian(&self, n: &[i64; 4]) -> Answer<[f64; 3]> {
         paper::angle::cartesian(n[0], n[1], n[2], n[3])
@@ -131,6 +151,12 @@ impl Subject for Baseline {
     }
     fn join(&self, [one, two]: [i64; 2], first: &[i64], second: &[i64]) -> Answer<Vec<i64>> {
         baseline::numbers::join(one, first, two, second)
+    }
+    fn row(&self, day: &Day) -> (i64, Vec<i64>) {
+        let mut answers = vec![UNWRITTEN; day.room];
+        let answer =
+            baseline::numbers::row(day.profile, &day.chain, day.direction, &day.points, &mut answers);
+        (answer.err().map_or(0, i64::from), answers)
     }
     fn cartesian(&self, n: &[i64; 4]) -> Answer<[f64; 3]> {
         baseline::angle::cartesian(n[0], n[1], n[2], n[3])

@@ -23,6 +23,7 @@ pub mod profile;
 pub mod program;
 pub mod ranges;
 pub mod refusal;
+pub mod row;
 pub mod rso;
 pub mod series;
 pub mod sheet;

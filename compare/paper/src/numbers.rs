@@ -6,6 +6,7 @@
 use crate::chain::{self, Point};
 use crate::join::{self, Given};
 use crate::refusal::Refusal;
+use crate::row;
 use crate::step::{Convention, Kind, Realization, Step};
 
 pub const STEP: usize = 13;
@@ -40,11 +41,46 @@ type Conversion = fn(i64, &[Step], Point) -> Result<Point, Refusal>;
 
 fn convert(conversion: Conversion, profile: i64, chain: &[i64], point: &[i64]) -> Result<PointRow, Refusal> {
     let steps = steps(chain).ok_or(WRONG_LENGTH)?;
-    let [issue, order, datum, epoch, x, y, z] = point.try_into().map_err(|_| WRONG_LENGTH)?;
-    let from = Point { issue, order, at: Realization { datum, epoch }, position: [x, y, z] };
-    let to = conversion(profile, &steps, from)?;
+    let from = point.try_into().map(self::point).map_err(|_| WRONG_LENGTH)?;
+    conversion(profile, &steps, from).map(numbers)
+}
+
+fn point([issue, order, datum, epoch, x, y, z]: PointRow) -> Point {
+    Point { issue, order, at: Realization { datum, epoch }, position: [x, y, z] }
+}
+
+fn numbers(to: Point) -> PointRow {
     let [x, y, z] = to.position;
-    Ok([to.issue, to.order, to.at.datum, to.at.epoch, x, y, z])
+    [to.issue, to.order, to.at.datum, to.at.epoch, x, y, z]
+}
+
+/// Numbers to an answer in a row: the refusal's number or 0, then the point's seven, zeros beside a refusal.
+pub const PLACE: usize = 8;
+
+/// A day's points: 7 numbers each, and 8 each for the answers.
+pub fn row(
+    profile: i64,
+    chain: &[i64],
+    direction: i64,
+    points: &[i64],
+    answers: &mut [i64],
+) -> Result<(), Refusal> {
+    let steps = steps(chain).ok_or(WRONG_LENGTH)?;
+    if !points.len().is_multiple_of(POINT) || !answers.len().is_multiple_of(PLACE) {
+        return Err(WRONG_LENGTH);
+    }
+    let rows = points.chunks(POINT).map(|row| row.try_into().expect("seven numbers"));
+    let points: Vec<Point> = rows.map(point).collect();
+    let mut given = vec![None; answers.len() / PLACE];
+    row::row(profile, &steps, direction, &points, &mut given)?;
+    for (place, answer) in answers.chunks_mut(PLACE).zip(given) {
+        match answer {
+            Some(Ok(to)) => place.copy_from_slice(&[&[0], &numbers(to)[..]].concat()),
+            Some(Err(number)) => place.copy_from_slice(&[i64::from(number), 0, 0, 0, 0, 0, 0, 0]),
+            None => {}
+        }
+    }
+    Ok(())
 }
 
 pub fn steps(chain: &[i64]) -> Option<Vec<Step>> {

@@ -31,6 +31,8 @@ pub const PLAIN: Refusal = 22;
 pub const PROJECTED: Refusal = 23;
 /// A step or a point that the chain's edition of the circular doesn't have.
 pub const PROFILE: Refusal = 25;
+/// An answer row shorter than the points.
+pub const ROW: Refusal = 26;
 /// A buffer of fewer than 200 bytes.
 pub const BUFFER: Refusal = 27;
 

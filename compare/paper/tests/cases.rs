@@ -228,3 +228,41 @@ fn jobs_under_the_2009_circular() {
     }
     assert_eq!(old(&good.repeat(9), &at(3)), 6);
 }
+
+/// Request A4: 26 before all, then the direction, then the chain; each point's answer in its place, the rest as it was.
+#[test]
+fn a_days_points() {
+    let shift = step('T', ' ', [6, 2_000_000, 7, 2_000_000], &[1, 2, 3]);
+    let good = [1, 4, 6, 2_000_000, -200_000_000_000, 600_000_000_000, 5];
+    let outside = [2, 1, 6, 2_000_000, 0, 600_000_000_000, 5];
+    let elsewhere = [3, 2, 7, 2_000_000, -200_000_000_000, 600_000_000_000, 5];
+    let points = [good, outside, elsewhere].concat();
+    let ask = |year: i64, chain: &[i64], direction: i64, points: &[i64], room: usize| {
+        let mut answers = vec![-7; room];
+        (numbers::row(year, chain, direction, points, &mut answers), answers)
+    };
+    let refused = |number: i64| [number, 0, 0, 0, 0, 0, 0, 0];
+    let along = [0, 1, 4, 7, 2_000_000, -199_999_999_999, 600_000_000_002, 8];
+    let back = [0, 3, 2, 6, 2_000_000, -200_000_000_001, 599_999_999_998, 2];
+    assert_eq!(
+        ask(2021, &shift, 0, &points, 32),
+        (Ok(()), [along, refused(10), refused(9), [-7; 8]].concat())
+    );
+    assert_eq!(ask(2021, &shift, 1, &points, 24), (Ok(()), [refused(9), refused(9), back].concat()));
+    assert_eq!(ask(2021, &shift, 0, &[], 16), (Ok(()), vec![-7; 16]));
+    let bad = step('T', ' ', [6, 0, 7, 2_000_000], &[]);
+    for (year, chain, direction, room, number) in [
+        (2010, &bad, 2, 16, 26),
+        (2021, &bad, 2, 24, 2),
+        (2021, &bad, -1, 24, 2),
+        (2010, &bad, 0, 24, 2),
+        (2021, &bad, 1, 24, 3),
+        (2009, &shift, 0, 24, 25),
+        (2021, &bad, 0, 17, 255),
+    ] {
+        assert_eq!(ask(year, chain, direction, &points, room), (Err(number), vec![-7; room]));
+    }
+    assert_eq!(ask(2021, &bad, 0, &[], 8), (Err(3), vec![-7; 8]));
+    assert_eq!(ask(2021, &bad[1..], 0, &points, 8), (Err(255), vec![-7; 8]));
+    assert_eq!(ask(2021, &bad, 0, &points[1..], 8), (Err(255), vec![-7; 8]));
+}

@@ -4,6 +4,7 @@ use paper::angle::Origin;
 use paper::decimal::round;
 use paper::geodetic::geodetic;
 use paper::lot_plan::lot_plan;
+use paper::numbers;
 use paper::rso::{self, Parameters};
 
 /// The text stands among what the examples in C print.
@@ -70,6 +71,47 @@ fn onto_rso_and_back() {
         format!("too far\trefused: {}\n", too_far.expect_err("23")),
     ];
     stored(&text.concat());
+}
+
+const ARAU_CHAIN: [i64; 52] = [
+    84, 0, 6, 2000000, 6, 2006586, -15832, -4363, -9706, 0, 0, 0, 0, //
+    86, 0, 6, 2006586, 6, 2010000, -1876, -90, -684, 0, 0, 0, 0, //
+    70, 0, 6, 2010000, 10, 2010000, 0, 0, 0, 0, 0, 0, 0, //
+    86, 0, 10, 2010000, 10, 2020000, -1874, -169, -502, 0, 0, 0, 0,
+];
+
+#[test]
+fn a_days_marks() {
+    let marks = [
+        ("ARAU", [1, 1, 6, 2000000, -113105165410, 623631179950, 71174811140]),
+        ("PEG-1", [2, 4, 5, 2000000, -113105165410, 623631179950, 71174811140]),
+        ("PEG-2", [1, 4, 6, 2000000, -113104712345, 623631254321, 71174899999]),
+        ("PEG-3", [1, 3, 6, 2000000, 623631179950, -113105165410, 71174811140]),
+    ];
+    let mut text = String::new();
+    for (name, mark) in marks {
+        let answer = match numbers::forward(2021, &ARAU_CHAIN, &mark) {
+            Ok(there) => there.map(|number| format!("\t{number}")).concat(),
+            Err(number) => format!("\trefused: {number}"),
+        };
+        text += &format!("{name}{answer}\n");
+    }
+    let there = numbers::forward(2021, &ARAU_CHAIN, &marks[2].1).expect("accepted");
+    let home = numbers::inverse(2021, &ARAU_CHAIN, &there).expect("accepted");
+    stored(&format!("{text}PEG-2 back\t{}\t{}\t{}\nrefused: 26\n", home[4], home[5], home[6]));
+    let (mut converted, mut sums) = (0, [0; 3]);
+    for i in 0..2000 {
+        let datum = if i % 400 == 0 { 5 } else { 6 };
+        let metres = i * 100_000;
+        let mark =
+            [1, 4, datum, 2000000, -113105165410 + metres, 623631179950 + metres, 71174811140 + metres];
+        if let Ok(there) = numbers::forward(2021, &ARAU_CHAIN, &mark) {
+            converted += 1;
+            (0..3).for_each(|j| sums[j] += there[4 + j]);
+        }
+    }
+    let [x, y, z] = sums;
+    stored(&format!("2000 marks\t{converted} converted\t{x}\t{y}\t{z}\n"));
 }
 
 /// ARAU's chain to GDM2020, as the examples of the lot plan have it, and the origin of Kedah and Perlis.

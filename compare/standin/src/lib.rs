@@ -75,6 +75,25 @@ pub unsafe extern "C" fn swivelcrane_join(
     }
 }
 
+/// # Safety
+/// Each pointer and length are a live slice.
+#[no_mangle]
+pub unsafe extern "C" fn swivelcrane_row(
+    profile: i64,
+    chain: *const i64,
+    chain_len: usize,
+    direction: i64,
+    points: *const i64,
+    points_len: usize,
+    answers: *mut i64,
+    answers_len: usize,
+) -> i64 {
+    let chain = slice::from_raw_parts(chain, chain_len);
+    let points = slice::from_raw_parts(points, points_len);
+    let answers = slice::from_raw_parts_mut(answers, answers_len);
+    baseline::numbers::row(profile, chain, direction, points, answers).err().map_or(0, i64::from)
+}
+
 macro_rules! cartesian {
     ($name:ident, $call:path, $number:ty) => {
         /// # Safety

@@ -16,7 +16,7 @@ use Rattle.chain.proofs.Joins.{accepted-lengths}
 use Rattle.capi.specs.Chains.{chainFrom}
 use Rattle.capi.specs.Joining.{roomForEight, joinCall, Counted}
 
-sets-append : (l a b : List ℤ) (i : ℕ) → sets (sets l i a) (i + length a) b ≡ sets l i (a ++ b)
+pub sets-append : (l a b : List ℤ) (i : ℕ) → sets (sets l i a) (i + length a) b ≡ sets l i (a ++ b)
 sets-append l [] b i = rw add-zero
 sets-append l (x ∷ a) b i = let e : i + suc (length a) ≡ suc i + length a = omega arith in rw e (sets-append (set l i x) a b (suc i))
 

@@ -1,5 +1,6 @@
 // Conversion of a point by a chain, forward and inverse.
 ghost use mathlib.Core.Path.{_≡_};
+ghost use Prim.Native.Nat.{_≤_};
 ghost use lib.ListN.{length};
 ghost use Rattle.capi.specs.Outcome.{Answered};
 ghost use Rattle.capi.specs.Chains.{wholeSteps, pointFrom};
@@ -21,9 +22,9 @@ fn are_sized(chain: usize, point: usize, out: usize) -> bool
     (chain % 13 == 0) & (point == 7) & (out == 7)
 }
 
-// A point of seven numbers: issue, order, datum, epoch, X, Y, Z. Its id stays with the caller.
-fn point_from(n: &[i64]) -> Point
-    requires { ⌜ length (now n) ≡ 7 ⌝ }
+// A point, from its seven numbers: issue, order, datum, epoch, X, Y, Z. Its id stays with the caller.
+pub(crate) fn point_from(n: &[i64]) -> Point
+    requires { ⌜ 7 ≤ length (now n) ⌝ }
     ensures { λ r. ⌜ r ≡ pointFrom (now (n .entry)) ⌝ }
 {
     Point {

@@ -9,6 +9,7 @@ pub mod later;
 pub mod printing;
 pub mod projected;
 pub mod rounded;
+pub mod row;
 pub mod rso;
 mod status;
 

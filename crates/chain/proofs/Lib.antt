@@ -12,3 +12,5 @@ pub mod Cases
 pub mod Keeping
 pub mod Joins
 pub mod Lifting
+pub mod Readying
+pub mod RowLaws

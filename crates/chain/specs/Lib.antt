@@ -10,3 +10,4 @@ pub mod MoreCases
 pub mod RangeCases
 pub mod Prepared
 pub mod OrderCases
+pub mod PointRow

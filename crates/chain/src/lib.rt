@@ -5,11 +5,15 @@ mod faults;
 mod kinds;
 mod points;
 mod profiles;
+mod row;
 mod steps;
 
 pub use crate::faults::point_fault;
 pub use crate::faults::profile_fault;
 pub use crate::faults::step_fault;
+pub use crate::row::convert_ready;
+pub use crate::row::convert_row;
+pub use crate::row::ready_chain;
 pub use crate::steps::convert::forward;
 pub use crate::steps::convert::inverse;
 pub use crate::steps::convert::join::join;
@@ -112,6 +116,13 @@ pub struct Chain {
 // adds a step. How the numbers say it is this crate's own.
 pub type Prepared = [i64; 72];
 
+// A chain made ready for many points: its own refusal number, 0 for a good one; the profile that its points are examined under; and its steps prepared.
+pub struct ReadyChain {
+    pub refusal: u8,
+    pub profile: i64,
+    pub numbers: Prepared,
+}
+
 // What a conversion answers: the point, or the refusal number.
 pub enum Answer {
     Converted(Point),
@@ -122,4 +133,10 @@ pub enum Answer {
 pub struct Joined {
     pub chain: Chain,
     pub refusal: u8,
+}
+
+// Which way a row of points goes by a chain: to its end, or back to its start.
+pub enum Direction {
+    Forward,
+    Inverse,
 }

@@ -1,5 +1,5 @@
 -- What is promised of conversions beside demand 3: what comes out can be handed in again, a refusal has a number of the table, and a prepared chain of a profile,
--- extended step by step from none, answers as the conversion does, forward and inverse.
+-- extended step by step from none, answers as the conversion does, forward and inverse; and so does a chain made ready for a row of points.
 use mathlib.Core.Path.{_≡_}
 use mathlib.Core.Bool.{true}
 use mathlib.Core.List.{List, [], _∷_, _++_}
@@ -11,10 +11,12 @@ use Rattle.ranges.specs.Ranges.{profileRange}
 use Rattle.chain.specs.declared.Point.{Point}
 use Rattle.chain.specs.declared.Step.{Step}
 use Rattle.chain.specs.declared.Chain.{Chain}
+use Rattle.chain.specs.declared.Direction.{Direction}
 use Rattle.chain.specs.declared.Answer.the-variants.{Converted, Refused}
 use Rattle.chain.specs.Faults.{pointFault, stepTests}
 use Rattle.chain.specs.Convert.{moreTests, forwardOf, inverseOf}
 use Rattle.chain.specs.Prepared.{lengthIn, extendFault, extendedBy, forwardPrepared, inversePrepared, chainOf, Holds}
+use Rattle.chain.specs.PointRow.{convertOf, readyOf, convertReady}
 
 abbrev pub HandedInAgain : Type 0
 HandedInAgain = (c : Chain) (p q : Point) → pointFault (c .profile) p ≡ 0 → forwardOf c p ≡ Converted q → pointFault (c .profile) q ≡ 0
@@ -40,6 +42,9 @@ PreparedForward = (y : ℤ) (l : List ℤ) (ss : List Step) → Holds y l ss →
 abbrev pub PreparedInverse : Type 0
 PreparedInverse = (y : ℤ) (l : List ℤ) (ss : List Step) → Holds y l ss → (p : Point) → pointFault y p ≡ 0 → inversePrepared l p ≡ inverseOf (chainOf y ss) p
 
+abbrev pub ReadyConverts : Type 0
+ReadyConverts = (c : Chain) (d : Direction) (p : Point) → convertReady (readyOf c) d p ≡ convertOf c d p
+
 pub record Outcomes : Type 0 where
   pub again : HandedInAgain
   pub number : NumberOfTable
@@ -48,3 +53,4 @@ pub record Outcomes : Type 0 where
   pub refusal : SameRefusal
   pub forward : PreparedForward
   pub inverse : PreparedInverse
+  pub ready : ReadyConverts

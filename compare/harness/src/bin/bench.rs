@@ -18,6 +18,7 @@ use std::process::ExitCode;
 const BAR: f64 = 1.5;
 const FULL: usize = 65_536;
 const CALLS: usize = 1000;
+const DAY: usize = 2000;
 
 #[derive(Default)]
 struct Report {
@@ -53,6 +54,7 @@ fn main() -> ExitCode {
     linear(&mut rng, &chains);
     plans(&mut report, &mut rng);
     conversions(&mut report, &mut rng, &chains);
+    rows(&mut report, &mut rng, &chains);
     joins(&mut report, &mut rng, &chains);
     lot_plans(&mut report, &mut rng, &chains);
     angles(&mut report, &mut rng);
@@ -170,6 +172,34 @@ fn conversions(report: &mut Report, rng: &mut Rng, chains: &Chains) {
         |point| _ = black_box(product::inverse(2021, &chain, point, &mut out)),
         |point| _ = black_box(baseline::numbers::inverse(2021, &chain, point)),
     );
+}
+
+/// Two thousand marks in one call, and the same by single calls of the product.
+fn rows(report: &mut Report, rng: &mut Rng, chains: &Chains) {
+    let rows = full::rows(rng, chains, "BBBBBBBB");
+    let chain: Vec<i64> = rows.concat();
+    let mut day = |datum: i64, epoch: i64| -> Vec<i64> {
+        let point = |[x, y, z]: [i64; 3]| [1, 1, datum, epoch, x, y, z];
+        (0..DAY).flat_map(|_| point(full::inside(rng))).collect()
+    };
+    let days = [day(rows[0][2], rows[0][3]), day(rows[7][4], rows[7][5])];
+    let (mut answers, mut other, mut out) = (vec![0; 8 * DAY], vec![0; 8 * DAY], [0; 7]);
+    for (direction, name) in [(0, "along"), (1, "back")] {
+        let points = &days[direction];
+        let direction = direction as i64;
+        let mut ours = || _ = black_box(product::row(2021, &chain, direction, points, &mut answers));
+        let theirs = || _ = black_box(baseline::numbers::row(2021, &chain, direction, points, &mut other));
+        let pair = both(&mut ours, theirs, DAY, 101);
+        report.line(&format!("row of {DAY} points {name}, eight B steps"), "a point", &pair);
+        let single = if direction == 0 { product::forward } else { product::inverse };
+        let singles = || {
+            for point in points.chunks(7) {
+                black_box(single(2021, &chain, point, &mut out));
+            }
+        };
+        let pair = both(&mut ours, singles, DAY, 101);
+        println!("  a row takes {:.2} times single calls in a loop", pair.ratio());
+    }
 }
 
 /// The chain's text is read anew at each call.

@@ -5,7 +5,7 @@
 
 use harness::arguments;
 use harness::checks::{
-    angles, conversions, geodetic, joins, later, lots, roundings, rso, rso_causes, texts, trips,
+    angles, conversions, geodetic, joins, later, lots, roundings, rows, rso, rso_causes, texts, trips,
 };
 use harness::compare::{Comparison, Outcome};
 use harness::programs::Programs;
@@ -17,6 +17,7 @@ struct Sizes {
     conversions: u64,
     trips: u64,
     joins: u64,
+    rows: u64,
     lots: u64,
     roundings: u64,
     angles: u64,
@@ -31,6 +32,7 @@ const SHORT: Sizes = Sizes {
     conversions: 300_000,
     trips: 200_000,
     joins: 40_000,
+    rows: 20_000,
     lots: 30_000,
     roundings: 1_000_000,
     angles: 200_000,
@@ -45,6 +47,7 @@ const LONG: Sizes = Sizes {
     conversions: 10_000_000,
     trips: 10_000_000,
     joins: 3_000_000,
+    rows: 1_000_000,
     lots: 2_000_000,
     roundings: 20_000_000,
     angles: 2_000_000,
@@ -100,6 +103,7 @@ fn run(c: &mut Comparison, sizes: &Sizes) -> Outcome {
     timed(&format!("{} conversions each way", sizes.conversions), || conversions::run(c, sizes.conversions))?;
     timed(&format!("{} round trips that came home", sizes.trips), || round_trips(c, sizes.trips))?;
     timed(&format!("{} pairs and triples of chains", sizes.joins), || joined(c, sizes.joins))?;
+    timed(&format!("{} rows of points", sizes.rows), || rows::run(c, sizes.rows))?;
     timed(&format!("{} lot plans", sizes.lots), || lots::run(c, sizes.lots))?;
     timed(&format!("{} roundings", sizes.roundings), || roundings::run(c, sizes.roundings))?;
     timed(&format!("{} geodetic and as many Cassini points", sizes.angles), || angles::run(c, sizes.angles))?;

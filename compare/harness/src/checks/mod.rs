@@ -9,6 +9,7 @@ pub mod later;
 pub mod lengths;
 pub mod lots;
 pub mod roundings;
+pub mod rows;
 pub mod rso;
 pub mod rso_causes;
 pub mod texts;

@@ -44,6 +44,10 @@ fn main() {
     whole("arau_inverse", &numbers::inverse(2021, &ARAU_CHAIN, &arau).unwrap_or_default());
     whole("forward_2009", &numbers::forward(2009, &CHAIN_2009, &POINT).unwrap_or_default());
     whole("inverse_2009", &numbers::inverse(2009, &CHAIN_2009, &POINT_7).unwrap_or_default());
+    let mut points = [ARAU, POINT, ARAU].concat();
+    (points[14], points[20]) = (77, 1);
+    whole("row", &row(0, &points));
+    whole("row_back", &row(1, &arau));
     whole("join", &numbers::join(2009, &CHAIN_2009[..13], 2009, &CHAIN_2009[13..]).unwrap_or_default());
     lot_plans();
     bits("cartesian", &angle::cartesian(2, 1234567890, 36700000123, 456789).unwrap_or_default());
@@ -76,6 +80,12 @@ fn main() {
     whole("later_fault_first", &fault(BAD, b""));
     whole("later_fault_ids", &fault(FIRST, OTHER));
     whole("later_fault_none", &fault(FIRST, SECOND));
+}
+
+fn row(direction: i64, points: &[i64]) -> Vec<i64> {
+    let mut answers = vec![0; points.len() / 7 * 8];
+    numbers::row(2021, &ARAU_CHAIN, direction, points, &mut answers).expect("answered");
+    answers
 }
 
 fn lot_plans() {

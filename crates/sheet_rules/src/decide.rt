@@ -1,6 +1,6 @@
 // One line decided by value, with nothing printed. The whole input is a module below this one, so that what these functions ask of their caller stays theirs.
 ghost use mathlib.Core.Path.{_≡_};
-ghost use Prim.Native.Nat.{_<_};
+ghost use Prim.Native.Nat.{_<_, _≤_};
 ghost use lib.ListN.{length};
 ghost use Rattle.chain.specs.Faults.{pointFault, stepFault};
 ghost use Rattle.line.specs.Readers.{readPoint, readStep};
@@ -19,11 +19,12 @@ use line::Fault;
 use line::PointLine;
 use line::StepLine;
 
+pub mod standing;
 pub mod whole;
 
 // The state after a line.
 fn after(state: State, refused: bool, closed: bool) -> State
-    requires { ⌜ state .line < 1000000 ⌝ }
+    requires { ⌜ state .line ≤ 1000000 ⌝ }
     ensures { λ r. ⌜ r ≡ afterIn state refused closed ⌝ }
 {
     State {
@@ -35,7 +36,7 @@ fn after(state: State, refused: bool, closed: bool) -> State
 
 // A line refused for what it says or where it stands, and whether it counts as a refused step, and as closing the chain.
 fn refuse(state: State, number: u8, refused: bool, closed: bool) -> Decided
-    requires { ⌜ state .line < 1000000 ⌝ }
+    requires { ⌜ state .line ≤ 1000000 ⌝ }
     ensures { λ r. ⌜ r ≡ refusedIn state number 0 refused closed ⌝ }
 {
     let next = after(state, refused, closed);
@@ -47,7 +48,7 @@ fn refuse(state: State, number: u8, refused: bool, closed: bool) -> Decided
 
 // A line refused for its form, likewise.
 fn malformed(state: State, fault: Fault, refused: bool, closed: bool) -> Decided
-    requires { ⌜ state .line < 1000000 ⌝ }
+    requires { ⌜ state .line ≤ 1000000 ⌝ }
     ensures { λ r. ⌜ r ≡ refusedIn state (fault .number) (fault .place) refused closed ⌝ }
 {
     let next = after(state, refused, closed);
@@ -59,7 +60,7 @@ fn malformed(state: State, fault: Fault, refused: bool, closed: bool) -> Decided
 
 // A step whose line is good by itself.
 fn take_step(state: State, step: Step, numbers: &mut Prepared) -> Decided
-    requires { ⌜ (state .line < 1000000) × (stepFault step ≡ 0) ⌝ }
+    requires { ⌜ (state .line ≤ 1000000) × (stepFault step ≡ 0) ⌝ }
     ensures { λ r. ⌜ ((s : Sheet) → Holds state (now (numbers .entry)) s → Gave (stepReply s (step-line.Step step)) (afterStep s (step-line.Step step)) (now (numbers .exit)) r) ⌝ }
 {
     if state.refused {
@@ -81,7 +82,7 @@ fn take_step(state: State, step: Step, numbers: &mut Prepared) -> Decided
 
 // A line that begins with S.
 fn decide_step(state: State, numbers: &mut Prepared, text: &[u8]) -> Decided
-    requires { ⌜ state .line < 1000000 ⌝ }
+    requires { ⌜ state .line ≤ 1000000 ⌝ }
     ensures { λ r. ⌜ ((s : Sheet) → Holds state (now (numbers .entry)) s → Gave (stepReply s (readStep (now (text .entry)))) (afterStep s (readStep (now (text .entry)))) (now (numbers .exit)) r) ⌝ }
 {
     match line::read_step(text) {
@@ -93,7 +94,7 @@ fn decide_step(state: State, numbers: &mut Prepared, text: &[u8]) -> Decided
 
 // A point whose line is good by itself.
 fn convert_point(state: State, numbers: &Prepared, point: Point) -> Decided
-    requires { ⌜ (state .line < 1000000) × (pointFault point ≡ 0) ⌝ }
+    requires { ⌜ (state .line ≤ 1000000) × (pointFault point ≡ 0) ⌝ }
     ensures { λ r. ⌜ ((s : Sheet) → Holds state (now (numbers .entry)) s → Gave (pointReply s (point-line.Point point)) (afterPoint s (point-line.Point point)) (now (numbers .entry)) r) ⌝ }
 {
     if state.refused {
@@ -113,7 +114,7 @@ fn convert_point(state: State, numbers: &Prepared, point: Point) -> Decided
 
 // A line that begins with P. A malformed one leaves the chain open; refused for what it says, it closes it.
 fn decide_point(state: State, numbers: &Prepared, text: &[u8]) -> Decided
-    requires { ⌜ state .line < 1000000 ⌝ }
+    requires { ⌜ state .line ≤ 1000000 ⌝ }
     ensures { λ r. ⌜ ((s : Sheet) → Holds state (now (numbers .entry)) s → Gave (pointReply s (readPoint (now (text .entry)))) (afterPoint s (readPoint (now (text .entry)))) (now (numbers .entry)) r) ⌝ }
 {
     match line::read_point(text) {
@@ -125,7 +126,7 @@ fn decide_point(state: State, numbers: &Prepared, text: &[u8]) -> Decided
 
 // Any line but the empty piece, by its first byte.
 fn decide(state: State, numbers: &mut Prepared, text: &[u8]) -> Decided
-    requires { ⌜ (state .line < 1000000) × (0 < length (now text)) ⌝ }
+    requires { ⌜ (state .line ≤ 1000000) × (0 < length (now text)) ⌝ }
     ensures { λ r. ⌜ ((s : Sheet) → Holds state (now (numbers .entry)) s → Gave (replyOf s (now (text .entry))) (nextOf s (now (text .entry))) (now (numbers .exit)) r) ⌝ }
 {
     let letter = text[0];

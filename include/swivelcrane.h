@@ -148,6 +148,30 @@ int64_t swivelcrane_later_fault(const uint8_t *first, size_t first_length, const
 int64_t swivelcrane_sheet(const uint8_t *input, size_t input_length, uint8_t *out, size_t out_length);
 int64_t swivelcrane_plan(const uint8_t *input, size_t input_length, uint8_t *out, size_t out_length);
 
+/* A sheet in fragments, as it comes over a radio link. The caller keeps the state in two arrays; all zeros is the state before
+ * the first call. The numbers, with what is allowed:
+ *   0  lines answered, 0 to 1,000,000   1  a line beginning with S was refused, 0 or 1   2  a point line closed the chain, 0 or 1
+ *   3  the sheet is finished, 0 or 1    4  bytes of the open line that are kept, 0 to 200 (200 also where it has more)
+ *   5  0                                6  steps in the chain, 0 to 8
+ *   7..110  the steps, SWIVELCRANE_STEP_NUMBERS each; those past the last are not read
+ * The bytes are the open line's. Both arrays are the call's to write. */
+#define SWIVELCRANE_STREAM_NUMBERS 111
+#define SWIVELCRANE_STREAM_BYTES 200
+
+/* Room for any answer: answer has at least so many elements. */
+#define SWIVELCRANE_ANSWER_ROOM 100
+
+/* Takes the bytes of a fragment up to and with its first line feed, or all of them, and answers the line that they end as a whole
+ * sheet would. told has 2 elements: the bytes taken, and the length of the answer, whose bytes stand at the start of answer (0
+ * for a line that prints nothing), or -1 where no line ended. Call again with what was not taken. A sheet may have any
+ * length; a line past the 1,000,000th is answered with refusal 28, numbered 1,000,001.
+ * Refusal: 29, where the sheet is finished, a number is not what is allowed, or the chain is bad; nothing is written. */
+int64_t swivelcrane_feed(int64_t *numbers, size_t numbers_length, uint8_t *bytes, size_t bytes_length, const uint8_t *fragment,
+                         size_t fragment_length, uint8_t *answer, size_t answer_length, int64_t *told, size_t told_length);
+/* Ends the sheet: a line that is left open is answered, in the same way. Afterwards every call with this state answers 29. */
+int64_t swivelcrane_finish(int64_t *numbers, size_t numbers_length, uint8_t *bytes, size_t bytes_length, uint8_t *answer,
+                           size_t answer_length, int64_t *told, size_t told_length);
+
 #ifdef __cplusplus
 }
 #endif

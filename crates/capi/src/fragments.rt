@@ -18,8 +18,7 @@ fn are_sized(numbers: usize, bytes: usize, answer: usize, told: usize) -> bool
 }
 
 // Writes the state after a call, how many bytes were taken and how long the answer is.
-fn put_state(fed: Fed, length: i64, numbers: &mut [i64], bytes: &mut [u8], told: &mut [i64])
-{
+fn put_state(fed: Fed, length: i64, numbers: &mut [i64], bytes: &mut [u8], told: &mut [i64]) {
     let stream = fed.stream;
     let taken = fed.taken as i64;
     state::put_numbers(numbers, stream);
@@ -29,8 +28,13 @@ fn put_state(fed: Fed, length: i64, numbers: &mut [i64], bytes: &mut [u8], told:
 }
 
 // Writes what a call gave, or answers the refusal.
-fn give(fed: Fed, numbers: &mut [i64], bytes: &mut [u8], answer: &mut [u8], told: &mut [i64]) -> i64
-{
+fn give(
+    fed: Fed,
+    numbers: &mut [i64],
+    bytes: &mut [u8],
+    answer: &mut [u8],
+    told: &mut [i64],
+) -> i64 {
     let outcome = fed.outcome;
     match outcome {
         Outcome::Refused(n) => status(n),
@@ -64,7 +68,13 @@ pub extern "C" fn swivelcrane_feed(
         return status(refusal::STATE);
     }
     let stream = state::stream_from(numbers, bytes);
-    give(sheet_stream::feed(stream, fragment), numbers, bytes, answer, told)
+    give(
+        sheet_stream::feed(stream, fragment),
+        numbers,
+        bytes,
+        answer,
+        told,
+    )
 }
 
 // The end of the sheet, and the answer to a line that is left open.

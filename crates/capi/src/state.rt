@@ -27,8 +27,10 @@ pub(crate) fn in_range(n: &[i64]) -> bool
     requires { ⌜ length (now n) ≡ 111 ⌝ }
     ensures { λ r. ⌜ r ≡ stateRange (now (n .entry)) ⌝ }
 {
-    let counts = ranges::within(0, n[4], 200) & (ranges::equal(0, n[5]) & ranges::within(0, n[6], 8));
-    let flags = ranges::within(0, n[1], 1) & (ranges::within(0, n[2], 1) & (ranges::within(0, n[3], 1) & counts));
+    let counts = ranges::within(0, n[4], 200)
+        & (ranges::equal(0, n[5]) & ranges::within(0, n[6], 8));
+    let flags = ranges::within(0, n[1], 1)
+        & (ranges::within(0, n[2], 1) & (ranges::within(0, n[3], 1) & counts));
     ranges::within(0, n[0], 1000000) & flags
 }
 

@@ -23,6 +23,7 @@ use line::Fault;
 use line::PointLine;
 use line::StepLine;
 
+pub mod standing;
 pub mod whole;
 
 // The state after a line.

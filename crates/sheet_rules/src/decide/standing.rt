@@ -62,7 +62,8 @@ fn prepare(chain: Chain, numbers: &mut Prepared) -> bool
 fn is_counted(line: u64, steps: usize) -> bool
     ensures { λ r. ⌜ r ≡ counted line steps ⌝ }
 {
-    (steps as u64 < line) & (line <= MOST_LINES + 1)
+    let before = steps as u64;
+    (before < line) & (line <= MOST_LINES + 1)
 }
 
 // Whether a sheet can stand here: the line's number is 1 to 1,000,001, there were no more steps than lines before it, and the chain is good.

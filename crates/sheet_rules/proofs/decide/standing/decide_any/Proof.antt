@@ -3,7 +3,7 @@ use mathlib.Core.Path.{_≡_, refl, sym, _∙_}
 use native.Mathlib.Omega.{arith}
 use borrow.Author.Tests.{ne-eqb}
 use lib.ListN.{length, getD, List·getD-eq-default}
-use Rattle.line.specs.Bytes.{letterS, letterP}
+use Rattle.line.specs.Bytes.{letterS, letterP, letterE}
 use Rattle.sheet_rules.specs.Sheet.{replyOf, nextOf}
 use Rattle.sheet_rules.proofs.Laws.{gave-malformed}
 use borrow.Author.Needs.{needs}
@@ -23,7 +23,8 @@ returns c = λ s h.
     let z : getD t 0 0 ≡ 0 = List·getD-eq-default t 0 (omega (arith, c .before .before .if1 .taken)) in
     let p = ne-eqb (getD t 0 0) letterS (λ e. omega (arith, z, e)) in
     let q = ne-eqb (getD t 0 0) letterP (λ e. omega (arith, z, e)) in
-    rw (p, q) (gave-malformed h _ _ _ _ (h .refused) (h .closed) (c .before .strange .ensures) _ (c .malformed .ensures))
+    let r = ne-eqb (getD t 0 0) letterE (λ e. omega (arith, z, e)) in
+    rw (p, q, r) (gave-malformed h _ _ _ _ (h .refused) (h .closed) (c .before .strange .ensures) _ (c .malformed .ensures))
 
 decide-requires : tie.Need-decide-requires
 decide-requires c κs = search needs

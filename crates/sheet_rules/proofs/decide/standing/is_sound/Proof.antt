@@ -12,7 +12,7 @@ is-counted-requires : tie.Need-is-counted-requires
 is-counted-requires c κs = search needs
 
 returns : tie.Need-returns
-returns c = sym (sound-told (c .before .before .before .args .standing) _ _ (c .is-counted .ensures) (c .before .prepare .ensures .told))
+returns c = sym (sound-told (c .before .before .before .before .args .standing) _ _ (c .is-counted .ensures) (c .before .prepare .ensures .told))
 
 pub is-sound-spec : {M : Type 1} → statement M
 is-sound-spec = tie.close (tie.spec prepare-requires is-counted-requires returns)

@@ -2,8 +2,11 @@
 use mathlib.Core.Path.{_≡_, sym, _∙_}
 use Prim.Native.Nat.{_<_}
 use native.Mathlib.Omega.{arith}
+use mir.Syntax.{w64}
+use mir.Val.{toZ, ofZ}
 use lib.ListN.{length, length-map, length-take}
 use Rattle.sheet_rules.proofs.OneLine.{chain-more}
+use borrow.Author.Needs.{needs}
 use Rattle.sheet_rules.proofs.decide.standing.with_step.Statement.{statement}
 use Rattle.sheet_rules.proofs.decide.standing.with_step.Tie as tie
 
@@ -24,7 +27,10 @@ add-t5 : tie.Need-add-t5
 add-t5 c = omega (arith, few (c .before))
 
 returns : tie.Need-returns
-returns c = chain-more (c .before .args .chain) (c .before .args .step) (omega (arith, long (c .before), few (c .before)))
+returns c =
+    let a = c .before .before .args in
+    let e : toZ w64 (ofZ w64 (a .chain .profile)) ≡ a .chain .profile = search needs in
+    rw e (chain-more (a .chain) (a .step) (omega (arith, long (c .before .before), few (c .before .before))))
 
 pub with-step-spec : {M : Type 1} → statement M
 with-step-spec = tie.close (tie.spec mul-steps array-set-from-steps add-t5 returns)

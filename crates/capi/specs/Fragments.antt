@@ -1,16 +1,15 @@
 -- A sheet in fragments: its state out of numbers and bytes and back, in the order that include/swivelcrane.h gives, and what the two calls answer.
-use Prim.Native.Nat.{ℕ, zero, suc, _+_, _-_, _*_}
+use Prim.Native.Nat.{ℕ, suc, _+_, _-_, _*_}
 use mathlib.Core.Path.{_≡_}
 use mathlib.Core.Bool.{Bool, true, false, not, _&&_}
 use mathlib.Core.List.{List, [], _∷_, _++_}
 use lib.Dec.{eqb, leb, ltb}
 use lib.IntN.{ℤ, pos, negℤ, natAbs}
-use lib.ListN.{length, getD, take, drop, replicate}
+use lib.ListN.{length, getD, take, drop}
 use lib.Seq.{sets}
 use Rattle.refusal.specs.Numbers as refusal
 use Rattle.refusal.specs.Order.{pick}
 use Rattle.ranges.specs.Ranges.{within, equal}
-use Rattle.chain.specs.declared.Realization.{Realization}
 use Rattle.chain.specs.declared.Convention.{Convention}
 use Rattle.chain.specs.declared.Convention.the-variants.{PositionVector, CoordinateFrame}
 use Rattle.chain.specs.declared.Kind.{Kind}
@@ -19,53 +18,40 @@ use Rattle.chain.specs.declared.Step.{Step}
 use Rattle.chain.specs.declared.Chain.{Chain}
 use Rattle.line.specs.Bytes.{letterB, letterC, letterF, letterP, letterT, letterV}
 use Rattle.sheet_rules.specs.Sheet.{replyText}
-use Rattle.sheet_rules.specs.OneLine.{mostLines}
 use Rattle.sheet_stream.specs.declared.Stream.{Stream}
 use Rattle.sheet_stream.specs.declared.Outcome.{Outcome}
-use Rattle.sheet_stream.specs.declared.Outcome.the-variants as outcome
+use Rattle.sheet_stream.specs.declared.Outcome.the-variants.{Open, Line, Refused}
 use Rattle.sheet_stream.specs.declared.Fed.{Fed}
 use Rattle.sheet_stream.specs.Fragments.{feedOf, finishOf}
 use Rattle.capi.specs.Chains.{number, noStep, chainFrom}
 
--- ---- the lengths: of the state's numbers (seven, and 13 to each of eight steps) and bytes, of what is told, and of the room for an answer
-abbrev pub stateNumbers : ℕ
-stateNumbers = 111
+-- ---- the lengths: seven numbers and 13 to each of eight steps; the open line's bytes; room for an answer
+unfoldable pub sizedState : ℕ → ℕ → ℕ → Bool
+sizedState numbers bytes out = eqb numbers 111 && eqb bytes 200 && leb 200 out
 
-abbrev pub stateBytes : ℕ
-stateBytes = 200
-
-abbrev pub answerRoom : ℕ
-answerRoom = 100
-
-unfoldable pub sizedState : ℕ → ℕ → ℕ → ℕ → Bool
-sizedState numbers bytes answer told = eqb numbers stateNumbers && (eqb bytes stateBytes && (leb answerRoom answer && eqb told 2))
-
--- ---- the state out of numbers: lines answered, refused, closed, finished, bytes kept, 0, steps; then the steps
+-- ---- the state out of numbers: lines answered, bytes kept, refused, closed, finished, profile, steps; then the steps
 abbrev pub isFlag : ℤ → Bool
 isFlag n = within (pos 0) n (pos 1)
 
+-- the counts and the flags; a profile that is none is the chain's fault
 unfoldable pub stateRange : List ℤ → Bool
 stateRange ns =
-    within (pos 0) (number ns 0) (pos mostLines)
-    && (isFlag (number ns 1) && (isFlag (number ns 2) && (isFlag (number ns 3)
-    && (within (pos 0) (number ns 4) (pos stateBytes) && (equal (pos 0) (number ns 5) && within (pos 0) (number ns 6) (pos 8))))))
+    (within (pos 0) (number ns 0) (pos 1000000) && within (pos 0) (number ns 1) (pos 200) && within (pos 0) (number ns 6) (pos 8))
+    && (isFlag (number ns 2) && isFlag (number ns 3) && isFlag (number ns 4))
 
 abbrev pub flag : ℤ → Bool
 flag n = not (equal (pos 0) n)
 
-abbrev pub stepNumbers : ℕ
-stepNumbers = 13
-
--- only the numbers of the steps within the length are looked at
+-- so many steps, from the eighth number on; the numbers past them are not looked at
 unfoldable pub chainIn : List ℤ → Chain
-chainIn ns = chainFrom (take (stepNumbers * natAbs (number ns 6)) (drop 7 ns))
+chainIn ns = chainFrom (number ns 5) (take (13 * natAbs (number ns 6)) (drop 7 ns))
 
 unfoldable pub streamFrom : List ℤ → List ℕ → Stream
 streamFrom ns bytes = record {
-  standing = record { line = suc (natAbs (number ns 0)); chain = chainIn ns; refused = flag (number ns 1); closed = flag (number ns 2) };
-  count = natAbs (number ns 4);
+  standing = record { line = natAbs (number ns 0) + 1; chain = chainIn ns; refused = flag (number ns 2); closed = flag (number ns 3) };
+  count = natAbs (number ns 1);
   kept = bytes;
-  finished = flag (number ns 3);
+  finished = flag (number ns 4);
 }
 
 -- ---- and back
@@ -73,14 +59,14 @@ abbrev pub bit : Bool → ℤ
 bit true = pos 1
 bit false = pos 0
 
-unfoldable pub headerOf : Stream → List ℤ
-headerOf s =
+unfoldable pub headOf : Stream → List ℤ
+headOf s =
     pos (s .standing .line - 1)
+    ∷ pos (s .count)
     ∷ bit (s .standing .refused)
     ∷ bit (s .standing .closed)
     ∷ bit (s .finished)
-    ∷ pos (s .count)
-    ∷ pos 0
+    ∷ s .standing .chain .profile
     ∷ pos (s .standing .chain .length)
     ∷ []
 
@@ -89,86 +75,99 @@ abbrev pub conventionNumber : Convention → ℤ
 conventionNumber PositionVector = pos letterP
 conventionNumber CoordinateFrame = pos letterC
 
-abbrev pub withEnds : ℤ → ℤ → Step → List ℤ → List ℤ
-withEnds kind convention s figures = kind ∷ convention ∷ s .before .datum ∷ s .before .epoch ∷ s .after .datum ∷ s .after .epoch ∷ figures
+abbrev pub row : ℤ → ℤ → Step → ℤ → ℤ → ℤ → ℤ → ℤ → ℤ → ℤ → List ℤ
+row kind convention s a b c d e f g =
+    kind
+    ∷ convention
+    ∷ s .before .datum
+    ∷ s .before .epoch
+    ∷ s .after .datum
+    ∷ s .after .epoch
+    ∷ a ∷ b ∷ c ∷ d ∷ e ∷ f ∷ g
+    ∷ []
 
-abbrev pub kindNumbers : Kind → Step → List ℤ
-kindNumbers (Shift t) s = withEnds (pos letterT) (pos 0) s (t .dx ∷ t .dy ∷ t .dz ∷ pos 0 ∷ pos 0 ∷ pos 0 ∷ pos 0 ∷ [])
-kindNumbers (Velocity t) s = withEnds (pos letterV) (pos 0) s (t .vx ∷ t .vy ∷ t .vz ∷ pos 0 ∷ pos 0 ∷ pos 0 ∷ pos 0 ∷ [])
-kindNumbers (BursaWolf t) s =
-    withEnds (pos letterB) (conventionNumber (t .convention)) s (t .dx ∷ t .dy ∷ t .dz ∷ t .rx ∷ t .ry ∷ t .rz ∷ t .s ∷ [])
-kindNumbers Frame s = withEnds (pos letterF) (pos 0) s (replicate 7 (pos 0))
+abbrev pub kindRow : Kind → Step → List ℤ
+kindRow (Shift t) s = row (pos letterT) (pos 0) s (t .dx) (t .dy) (t .dz) (pos 0) (pos 0) (pos 0) (pos 0)
+kindRow (Velocity t) s = row (pos letterV) (pos 0) s (t .vx) (t .vy) (t .vz) (pos 0) (pos 0) (pos 0) (pos 0)
+kindRow (BursaWolf t) s = row (pos letterB) (conventionNumber (t .convention)) s (t .dx) (t .dy) (t .dz) (t .rx) (t .ry) (t .rz) (t .s)
+kindRow Frame s = row (pos letterF) (pos 0) s (pos 0) (pos 0) (pos 0) (pos 0) (pos 0) (pos 0) (pos 0)
 
-unfoldable pub numbersOfStep : Step → List ℤ
-numbersOfStep s = kindNumbers (s .kind) s
+unfoldable pub rowOf : Step → List ℤ
+rowOf s = kindRow (s .kind) s
 
--- the state's numbers after a call, from those before it: a step that was accepted, past those that were there, and the seven numbers
+-- a step that was taken in stands past those that were there
 unfoldable pub withNewStep : List ℤ → Chain → List ℤ
 withNewStep ns c =
-    pick (ltb (natAbs (number ns 6)) (c .length)) (sets ns (7 + stepNumbers * natAbs (number ns 6)) (numbersOfStep (getD (c .steps) (natAbs (number ns 6)) noStep))) ns
+    pick (ltb (natAbs (number ns 6)) (c .length)) (sets ns (7 + 13 * natAbs (number ns 6)) (rowOf (getD (c .steps) (natAbs (number ns 6)) noStep))) ns
 
+-- the state's numbers after a call, from those before it
 unfoldable pub numbersWith : List ℤ → Stream → List ℤ
-numbersWith ns s = sets (withNewStep ns (s .standing .chain)) 0 (headerOf s)
+numbersWith ns s = sets (withNewStep ns (s .standing .chain)) 0 (headOf s)
 
--- ---- what a call does to the four arrays, and what it returns
+-- ---- a call: arrays of a wrong length; refused; or the state after it, and what the line that ended prints, nothing where none ended
 pub data Called : Type 0 where
   wrongLength : Called
   refused : ℕ → Called
-  gives : Stream → ℕ → Called
-  answers : Stream → ℕ → List ℕ → Called
+  answers : Stream → List ℕ → Called
 
-abbrev pub called : Fed → Outcome → Called
-called r outcome.Open = gives (r .stream) (r .taken)
-called r (outcome.Line a) = answers (r .stream) (r .taken) (replyText a)
-called r (outcome.Refused n) = refused n
+abbrev pub ofOutcome : Stream → Outcome → Called
+ofOutcome s Open = answers s []
+ofOutcome s (Line r) = answers s (replyText r)
+ofOutcome s (Refused n) = refused n
 
-unfoldable pub stateCall : (Stream → Fed) → List ℤ → List ℕ → List ℕ → List ℤ → Called
-stateCall f numbers bytes answer told =
-    pick (sizedState (length numbers) (length bytes) (length answer) (length told))
-    (pick (stateRange numbers) (called (f (streamFrom numbers bytes)) (f (streamFrom numbers bytes) .outcome)) (refused refusal.state))
-    wrongLength
+abbrev pub called : Fed → Called
+called r = ofOutcome (r .stream) (r .outcome)
 
-abbrev pub feedCall : List ℕ → List ℤ → List ℕ → List ℕ → List ℤ → Called
-feedCall fragment = stateCall (λ s. feedOf s fragment)
+unfoldable pub stateCall : (Stream → Fed) → List ℤ → List ℕ → Bool → Called
+stateCall f numbers bytes sized =
+    pick sized (pick (stateRange numbers) (called (f (streamFrom numbers bytes))) (refused refusal.state)) wrongLength
 
-abbrev pub finishCall : List ℤ → List ℕ → List ℕ → List ℤ → Called
-finishCall = stateCall finishOf
-
-abbrev pub statusOf : Called → ℤ
-statusOf wrongLength = pos 255
-statusOf (refused n) = pos n
-statusOf (gives s n) = pos 0
-statusOf (answers s n text) = pos 0
+-- the length of what is printed; minus the number of a refusal or of a wrong length
+abbrev pub lengthOf : Called → ℤ
+lengthOf wrongLength = negℤ (pos 255)
+lengthOf (refused n) = negℤ (pos n)
+lengthOf (answers s text) = pos (length text)
 
 abbrev pub numbersAfter : Called → List ℤ → List ℤ
 numbersAfter wrongLength before = before
 numbersAfter (refused n) before = before
-numbersAfter (gives s n) before = numbersWith before s
-numbersAfter (answers s n text) before = numbersWith before s
+numbersAfter (answers s text) before = numbersWith before s
 
 abbrev pub bytesAfter : Called → List ℕ → List ℕ
 bytesAfter wrongLength before = before
 bytesAfter (refused n) before = before
-bytesAfter (gives s n) before = s .kept
-bytesAfter (answers s n text) before = s .kept
+bytesAfter (answers s text) before = s .kept
 
--- the bytes past an answer are as they were
-abbrev pub answerAfter : Called → List ℕ → List ℕ
-answerAfter wrongLength before = before
-answerAfter (refused n) before = before
-answerAfter (gives s n) before = before
-answerAfter (answers s n text) before = text ++ drop (length text) before
+-- the bytes past what is printed are as they were
+abbrev pub outAfter : Called → List ℕ → List ℕ
+outAfter wrongLength before = before
+outAfter (refused n) before = before
+outAfter (answers s text) before = text ++ drop (length text) before
 
--- the bytes taken, and the answer's length, -1 where no line ended
-abbrev pub toldAfter : Called → List ℤ → List ℤ
-toldAfter wrongLength before = before
-toldAfter (refused n) before = before
-toldAfter (gives s n) before = pos n ∷ negℤ (pos 1) ∷ []
-toldAfter (answers s n text) before = pos n ∷ pos (length text) ∷ []
-
-pub record Streamed (c : Called) (numbers numbers' : List ℤ) (bytes bytes' answer answer' : List ℕ) (told told' : List ℤ) (r : ℤ) : Type 0 where
-  pub status : r ≡ statusOf c
+pub record Stated (c : Called) (numbers numbers' : List ℤ) (bytes bytes' out out' : List ℕ) (r : ℤ) : Type 0 where
+  pub status : r ≡ lengthOf c
   pub numbers : numbers' ≡ numbersAfter c numbers
   pub bytes : bytes' ≡ bytesAfter c bytes
-  pub answer : answer' ≡ answerAfter c answer
-  pub told : told' ≡ toldAfter c told
+  pub out : out' ≡ outAfter c out
+
+-- ---- what is told of a call with a fragment: the bytes taken, and 1 where a line was answered, 0 where none ended
+abbrev pub toldOf : ℕ → Outcome → List ℤ → List ℤ
+toldOf n Open before = pos n ∷ pos 0 ∷ []
+toldOf n (Line r) before = pos n ∷ pos 1 ∷ []
+toldOf n (Refused k) before = before
+
+unfoldable pub toldAfter : (Stream → Fed) → List ℤ → List ℕ → Bool → List ℤ → List ℤ
+toldAfter f numbers bytes sized before =
+    pick sized (pick (stateRange numbers) (toldOf (f (streamFrom numbers bytes) .taken) (f (streamFrom numbers bytes) .outcome) before) before) before
+
+-- the lengths of all that a call with a fragment is lent
+abbrev pub sizedFeed : List ℤ → List ℕ → List ℕ → List ℤ → Bool
+sizedFeed numbers bytes out told = sizedState (length numbers) (length bytes) (length out) && eqb (length told) 2
+
+pub record Streamed (fragment : List ℕ) (numbers numbers' : List ℤ) (bytes bytes' out out' : List ℕ) (told told' : List ℤ) (r : ℤ) : Type 0 where
+  pub state : Stated (stateCall (λ s. feedOf s fragment) numbers bytes (sizedFeed numbers bytes out told)) numbers numbers' bytes bytes' out out' r
+  pub told : told' ≡ toldAfter (λ s. feedOf s fragment) numbers bytes (sizedFeed numbers bytes out told) told
+
+abbrev pub Ended : List ℤ → List ℤ → List ℕ → List ℕ → List ℕ → List ℕ → ℤ → Type 0
+Ended numbers numbers' bytes bytes' out out' r =
+    Stated (stateCall finishOf numbers bytes (sizedState (length numbers) (length bytes) (length out))) numbers numbers' bytes bytes' out out' r

@@ -1,15 +1,14 @@
 // The state of a sheet in fragments, out of numbers and bytes and back.
 ghost use mathlib.Core.Path.{_≡_};
 ghost use mathlib.Core.Bool.{true};
-ghost use mathlib.Core.List.{[], _∷_};
-ghost use Prim.Native.Nat.{_+_, _*_, _≤_, _<_};
+ghost use Prim.Native.Nat.{_<_, _≤_};
 ghost use lib.IntN.{natAbs, pos};
-ghost use lib.ListN.{length, take, drop, getD};
-ghost use lib.Seq.{sets};
+ghost use lib.ListN.{length};
 ghost use Rattle.ranges.specs.Ranges.{within};
-ghost use Rattle.capi.specs.Chains.{number, noStep, chainFrom};
-ghost use Rattle.capi.specs.Fragments.{stateRange, bit as Fragments·bit, flag as Fragments·flag, conventionNumber, streamFrom, headerOf, numbersOfStep, withNewStep, numbersWith};
+ghost use Rattle.sheet_stream.specs.Fragments.{Countable};
+ghost use Rattle.capi.specs.Fragments.{isFlag, stateRange, bit as Fragments·bit, flag as Fragments·flag, conventionNumber, chainIn, streamFrom, headOf, rowOf, withNewStep, numbersWith};
 use crate::decode::chain_from;
+use crate::joining::copy;
 use chain::Chain;
 use chain::Convention;
 use chain::Kind;
@@ -18,20 +17,26 @@ use sheet_rules::Standing;
 use sheet_stream::Stream;
 
 // The state's numbers before its steps, and the numbers to a step.
-const HEADER: usize = 7;
+const HEAD: usize = 7;
 
 const STEP: usize = 13;
 
-// Whether each of the seven numbers is in its range: lines answered, refused, closed, finished, bytes kept, 0, steps.
+fn is_flag(n: i64) -> bool
+    ensures { λ r. ⌜ r ≡ isFlag n ⌝ }
+{
+    ranges::within(0, n, 1)
+}
+
+// Whether the counts and the flags are in their ranges: lines answered, bytes kept, refused, closed, finished, steps.
 pub(crate) fn in_range(n: &[i64]) -> bool
     requires { ⌜ length (now n) ≡ 111 ⌝ }
     ensures { λ r. ⌜ r ≡ stateRange (now (n .entry)) ⌝ }
 {
-    let counts = ranges::within(0, n[4], 200)
-        & (ranges::equal(0, n[5]) & ranges::within(0, n[6], 8));
-    let flags = ranges::within(0, n[1], 1)
-        & (ranges::within(0, n[2], 1) & (ranges::within(0, n[3], 1) & counts));
-    ranges::within(0, n[0], 1000000) & flags
+    let counts = ranges::within(0, n[0], 1000000)
+        & ranges::within(0, n[1], 200)
+        & ranges::within(0, n[6], 8);
+    let flags = is_flag(n[2]) & is_flag(n[3]) & is_flag(n[4]);
+    counts & flags
 }
 
 // A number in one of those ranges, as a count.
@@ -53,7 +58,7 @@ fn bytes_from(bytes: &[u8]) -> [u8; 200]
     ensures { λ r. ⌜ r ≡ now (bytes .entry) ⌝ }
 {
     let mut kept = [0u8; 200];
-    let mut i = 0;
+    let mut i: usize = 0;
     while i < 200 {
         kept[i] = bytes[i];
         i += 1;
@@ -61,32 +66,39 @@ fn bytes_from(bytes: &[u8]) -> [u8; 200]
     kept
 }
 
-// The chain of so many steps.
-fn chain_in(n: &[i64], steps: usize) -> Chain
-    requires { ⌜ (length (now n) ≡ 111) × (steps ≤ 8) ⌝ }
-    ensures { λ r. ⌜ r ≡ chainFrom (take (13 * steps) (drop 7 (now (n .entry)))) ⌝ }
+// The chain of the steps within the state's count.
+fn chain_in(n: &[i64]) -> Chain
+    requires { ⌜ (length (now n) ≡ 111) × (stateRange (now n) ≡ true) ⌝ }
+    ensures { λ r. ⌜ r ≡ chainIn (now (n .entry)) ⌝ }
 {
-    let end = HEADER + STEP * steps;
-    chain_from(&n[HEADER..end])
+    let profile = n[5];
+    let steps = count(n[6]);
+    let end = HEAD + STEP * steps;
+    chain_from(profile, &n[HEAD..end])
 }
 
+// A state whose counts and flags are in their ranges.
 pub(crate) fn stream_from(n: &[i64], bytes: &[u8]) -> Stream
     requires { ⌜ (length (now n) ≡ 111) × (length (now bytes) ≡ 200) × (stateRange (now n) ≡ true) ⌝ }
     ensures { λ r. ⌜ r ≡ streamFrom (now (n .entry)) (now (bytes .entry)) ⌝ }
 {
     let lines = count(n[0]);
-    let chain = chain_in(n, count(n[6]));
+    let kept_count = count(n[1]);
+    let refused = flag(n[2]);
+    let closed = flag(n[3]);
+    let finished = flag(n[4]);
+    let chain = chain_in(n);
     let kept = bytes_from(bytes);
     Stream {
         standing: Standing {
             line: lines as u64 + 1,
             chain: chain,
-            refused: flag(n[1]),
-            closed: flag(n[2]),
+            refused: refused,
+            closed: closed,
         },
-        count: count(n[4]),
+        count: kept_count,
         kept: kept,
-        finished: flag(n[3]),
+        finished: finished,
     }
 }
 
@@ -99,6 +111,22 @@ fn bit(b: bool) -> i64
     0
 }
 
+// The state's first seven numbers.
+fn head_of(stream: Stream) -> [i64; 7]
+    requires { ⌜ Countable stream ⌝ }
+    ensures { λ r. ⌜ r ≡ headOf stream ⌝ }
+{
+    let standing = stream.standing;
+    let chain = standing.chain;
+    let lines = (standing.line - 1) as i64;
+    let kept = stream.count as i64;
+    let refused = bit(standing.refused);
+    let closed = bit(standing.closed);
+    let finished = bit(stream.finished);
+    let steps = chain.length as i64;
+    [lines, kept, refused, closed, finished, chain.profile, steps]
+}
+
 fn convention_number(convention: Convention) -> i64
     ensures { λ r. ⌜ r ≡ conventionNumber convention ⌝ }
 {
@@ -108,94 +136,36 @@ fn convention_number(convention: Convention) -> i64
     }
 }
 
-// A step's kind, convention and ends from a place on.
-fn put_ends(n: &mut [i64], at: usize, kind: i64, convention: i64, step: Step)
-    requires { ⌜ at + 13 ≤ length (now n) ⌝ }
-    ensures { λ _. ⌜ now (n .exit) ≡ sets (now (n .entry)) at (kind ∷ convention ∷ step .before .datum ∷ step .before .epoch ∷ step .after .datum ∷ step .after .epoch ∷ []) ⌝ }
+// A step's 13 numbers.
+fn row_of(step: Step) -> [i64; 13]
+    ensures { λ r. ⌜ r ≡ rowOf step ⌝ }
 {
-    let a = step.before.datum;
-    let b = step.before.epoch;
-    let c = step.after.datum;
-    let d = step.after.epoch;
-    n[at] = kind;
-    n[at + 1] = convention;
-    n[at + 2] = a;
-    n[at + 3] = b;
-    n[at + 4] = c;
-    n[at + 5] = d;
-}
-
-// The figures of its kind.
-fn put_figures(n: &mut [i64], at: usize, a: i64, b: i64, c: i64, d: i64, e: i64, f: i64, g: i64)
-    requires { ⌜ at + 13 ≤ length (now n) ⌝ }
-    ensures { λ _. ⌜ now (n .exit) ≡ sets (now (n .entry)) (at + 6) (a ∷ b ∷ c ∷ d ∷ e ∷ f ∷ g ∷ []) ⌝ }
-{
-    n[at + 6] = a;
-    n[at + 7] = b;
-    n[at + 8] = c;
-    n[at + 9] = d;
-    n[at + 10] = e;
-    n[at + 11] = f;
-    n[at + 12] = g;
-}
-
-// A step's 13 numbers from a place on.
-fn put_step(n: &mut [i64], at: usize, step: Step)
-    requires { ⌜ at + 13 ≤ length (now n) ⌝ }
-    ensures { λ _. ⌜ now (n .exit) ≡ sets (now (n .entry)) at (numbersOfStep step) ⌝ }
-{
+    let p = step.before.datum;
+    let q = step.before.epoch;
+    let r = step.after.datum;
+    let s = step.after.epoch;
     let kind = step.kind;
     match kind {
-        Kind::Shift(t) => {
-            put_ends(n, at, b'T' as i64, 0, step);
-            put_figures(n, at, t.dx, t.dy, t.dz, 0, 0, 0, 0);
-        }
-        Kind::Velocity(t) => {
-            put_ends(n, at, b'V' as i64, 0, step);
-            put_figures(n, at, t.vx, t.vy, t.vz, 0, 0, 0, 0);
-        }
+        Kind::Shift(t) => [b'T' as i64, 0, p, q, r, s, t.dx, t.dy, t.dz, 0, 0, 0, 0],
+        Kind::Velocity(t) => [b'V' as i64, 0, p, q, r, s, t.vx, t.vy, t.vz, 0, 0, 0, 0],
         Kind::BursaWolf(t) => {
-            let convention = t.convention;
-            put_ends(n, at, b'B' as i64, convention_number(convention), step);
-            put_figures(n, at, t.dx, t.dy, t.dz, t.rx, t.ry, t.rz, t.s);
+            let convention = convention_number(t.convention);
+            [b'B' as i64, convention, p, q, r, s, t.dx, t.dy, t.dz, t.rx, t.ry, t.rz, t.s]
         }
-        Kind::Frame => {
-            put_ends(n, at, b'F' as i64, 0, step);
-            put_figures(n, at, 0, 0, 0, 0, 0, 0, 0);
-        }
+        Kind::Frame => [b'F' as i64, 0, p, q, r, s, 0, 0, 0, 0, 0, 0, 0],
     }
 }
 
-// The seven numbers.
-fn put_header(n: &mut [i64], stream: Stream)
-    requires { ⌜ (length (now n) ≡ 111) × Countable stream ⌝ }
-    ensures { λ _. ⌜ now (n .exit) ≡ sets (now (n .entry)) 0 (headerOf stream) ⌝ }
-{
-    let standing = stream.standing;
-    let lines = (standing.line - 1) as i64;
-    let refused = bit(standing.refused);
-    let closed = bit(standing.closed);
-    let finished = bit(stream.finished);
-    let kept = stream.count as i64;
-    let chain = standing.chain;
-    let steps = chain.length as i64;
-    n[0] = lines;
-    n[1] = refused;
-    n[2] = closed;
-    n[3] = finished;
-    n[4] = kept;
-    n[5] = 0;
-    n[6] = steps;
-}
-
-// A step that was accepted past the first `steps`, if there is one.
-fn put_new_step(n: &mut [i64], steps: usize, chain: Chain)
-    requires { ⌜ (length (now n) ≡ 111) × (steps ≡ natAbs (number (now n) 6)) × (steps ≤ 8) × (chain .length ≤ 8) ⌝ }
+// A step that was taken in, past those that were there.
+fn put_new_step(n: &mut [i64], chain: Chain)
+    requires { ⌜ (length (now n) ≡ 111) × (stateRange (now n) ≡ true) × (chain .length ≤ 8) ⌝ }
     ensures { λ _. ⌜ now (n .exit) ≡ withNewStep (now (n .entry)) chain ⌝ }
 {
+    let steps = count(n[6]);
     if steps < chain.length {
         let step = chain.steps[steps];
-        put_step(n, HEADER + STEP * steps, step);
+        let row = row_of(step);
+        copy(&row, n, HEAD + STEP * steps);
     }
 }
 
@@ -204,20 +174,18 @@ pub(crate) fn put_numbers(n: &mut [i64], stream: Stream)
     requires { ⌜ (length (now n) ≡ 111) × (stateRange (now n) ≡ true) × Countable stream ⌝ }
     ensures { λ _. ⌜ now (n .exit) ≡ numbersWith (now (n .entry)) stream ⌝ }
 {
-    let steps = count(n[6]);
+    let head = head_of(stream);
     let standing = stream.standing;
-    let chain = standing.chain;
-    put_new_step(n, steps, chain);
-    put_header(n, stream);
+    put_new_step(n, standing.chain);
+    copy(&head, n, 0);
 }
 
-// The open line's bytes.
-pub(crate) fn put_bytes(bytes: &mut [u8], stream: Stream)
+// The open line's bytes after a call.
+pub(crate) fn put_bytes(kept: &[u8; 200], bytes: &mut [u8])
     requires { ⌜ length (now bytes) ≡ 200 ⌝ }
-    ensures { λ _. ⌜ now (bytes .exit) ≡ stream .kept ⌝ }
+    ensures { λ _. ⌜ now (bytes .exit) ≡ now (kept .entry) ⌝ }
 {
-    let kept = stream.kept;
-    let mut i = 0;
+    let mut i: usize = 0;
     while i < 200 {
         bytes[i] = kept[i];
         i += 1;

@@ -9,11 +9,11 @@ use borrow.Author.Tests.{le-ltb, lt-ltb, le-leb, leb-true, leb-false, eqb-true, 
 use lib.Dec.{ltb, leb, eqb}
 use lib.IntN.{ℤ}
 use lib.ListN.{length, getD, take, drop, set, length-append, length-take, take-append-drop}
-use lib.Seq.{take-length, take-append-seam, length-take-le, set-split}
+use lib.Seq.{drop-nil, take-length, take-append-seam, length-take-le, set-split}
 use Rattle.refusal.specs.Numbers as refusal
 use Rattle.refusal.specs.Order.{first, pick, unless, _gives_}
 use Rattle.refusal.proofs.Orders.{head-holds, step-passed, unless-none}
-use Rattle.ranges.specs.Ranges.{profileRange}
+use Rattle.ranges.specs.Ranges.{within, profileRange}
 use Rattle.chain.specs.declared.Step.{Step}
 use Rattle.chain.specs.declared.Point.{Point}
 use Rattle.chain.specs.declared.Chain.{Chain}
@@ -44,7 +44,7 @@ use Rattle.sheet_rules.specs.declared.Response.the-variants as response
 use Rattle.sheet_rules.specs.Sheet.{Sheet, refuse, malformed, stepTests, stepReply, pointReply, editionReply, afterStep, afterPoint, withStep, withoutStep, withEdition, editionTests, afterEdition, passed, replyOf, nextOf}
 use Rattle.sheet_rules.specs.State.{Holds, Gave}
 use Rattle.sheet_rules.proofs.Laws.{next-line, no-steps}
-use Rattle.sheet_rules.specs.OneLine.{mostLines, said, chainWith, standingAt, counted, soundStanding, past, replyTo, afterLine, answered, lineAnswered, answeredTo, stepsAfter}
+use Rattle.sheet_rules.specs.OneLine.{mostLines, said, chainWith, standingAt, freshAt, counted, soundStanding, past, replyTo, afterLine, answered, lineAnswered, answeredTo, stepsAfter}
 
 -- ---- the steps after a line
 steps-by : (s : Sheet) (l : List ℕ) → nextOf s l .steps ≡ stepsAfter (s .steps) (eqb (getD l 0 0) letterS) (replyOf s l) (readStep (s .profile) l)
@@ -175,12 +175,51 @@ module _ (st : Standing) (l : List ℕ) where
   unfolding replyTo past
   reply-rules h = rw (le-ltb mostLines (st .line) h)
 
-  after-at : st .line ≤ mostLines → afterLine st l ≡ standingAt (st .chain) (nextOf (said st) l)
+  pub after-at : st .line ≤ mostLines → afterLine st l ≡ standingAt (st .chain) (nextOf (said st) l)
   unfolding afterLine past
   after-at h = rw (le-ltb mostLines (st .line) h)
 
   pub after-rules : st .line ≤ mostLines → said (afterLine st l) ≡ nextOf (said st) l
   after-rules h = ap said (after-at h) ∙ said-at (st .chain) (nextOf (said st) l)
+
+-- ---- a line more, in a chain's own places
+-- no line takes a step away
+grows : (s : Sheet) (l : List ℕ) → length (s .steps) ≤ length (nextOf s l .steps)
+unfolding nextOf
+grows s l = by-letters (λ (x : Sheet). length (s .steps) ≤ length (x .steps)) letterS letterP letterE l _ _ _ _ (step (readStep (s .profile) l)) same (edition (readEdition l)) same
+  where
+    same : length (s .steps) ≤ length (s .steps)
+    same = omega arith
+
+    step : (r : StepLine) → length (s .steps) ≤ length (afterStep s r .steps)
+    step (step-line.Malformed f) = same
+    step (step-line.Refused n) = same
+    step (step-line.Step t) = go (first (stepTests s t))
+      where
+        go : (n : ℕ) → length (s .steps) ≤ length (unless n (λ _. withoutStep s) (withStep s t) .steps)
+        go zero = omega (arith, length-append (s .steps) (t ∷ []))
+        go (suc n) = same
+
+    edition : (d : EditionLine) → length (s .steps) ≤ length (afterEdition s d .steps)
+    edition (edition-line.Malformed f) = same
+    edition (edition-line.Edition y) = go (first (editionTests s y))
+      where
+        go : (n : ℕ) → length (s .steps) ≤ length (unless n (λ _. withoutStep s) (withEdition s y) .steps)
+        go zero = same
+        go (suc n) = same
+
+past-places : (xs ys : List Step) (m : ℕ) → length xs ≤ m → drop m (xs ++ drop (length xs) ys) ≡ drop m ys
+past-places [] ys m h = refl
+past-places (x ∷ xs) ys zero h = absurd (omega arith)
+past-places (x ∷ xs) [] (suc m) h = ap (λ (l : List Step). drop m (xs ++ l)) (sym (drop-nil (length xs))) ∙ past-places xs [] m (omega arith) ∙ drop-nil m
+past-places (x ∷ xs) (y ∷ ys) (suc m) h = past-places xs ys m (omega arith)
+
+pub after-standing : (c : Chain) (s : Sheet) (l : List ℕ) → s .line ≤ mostLines → afterLine (standingAt c s) l ≡ standingAt c (nextOf s l)
+after-standing c s l h =
+    after-at (standingAt c s) l h
+    ∙ ap (λ (x : Sheet). standingAt (chainWith c (s .profile) (s .steps)) (nextOf x l)) (said-at c s)
+    ∙ ap (λ (p : List Step). record { line = nextOf s l .line; chain = record { steps = nextOf s l .steps ++ p; length = length (nextOf s l .steps); profile = nextOf s l .profile }; refused = nextOf s l .refused; closed = nextOf s l .closed })
+    (past-places (s .steps) (c .steps) (length (nextOf s l .steps)) (grows s l))
 
 -- what the rules say alike of two lines is answered alike
 pub same-reply : (st : Standing) (k l : List ℕ) → replyOf (said st) k ≡ replyOf (said st) l → replyTo st k ≡ replyTo st l
@@ -211,6 +250,11 @@ sound-parts st e =
 pub sound-made : (st : Standing) → Sound st → soundStanding st ≡ true
 unfolding soundStanding counted
 sound-made st p = rw (lt-ltb (st .chain .length) (st .line) (p .from), le-leb (st .line) (suc mostLines) (p .to), p .chain)
+
+-- nothing read yet
+pub fresh-sound : (places : List Step) → Sound (freshAt places)
+unfolding within
+fresh-sound places = record { from = omega arith; to = omega arith; chain = refl }
 
 -- ---- it stays sound
 abbrev Good : ℤ → List Step → Type 0

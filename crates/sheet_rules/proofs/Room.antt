@@ -27,13 +27,15 @@ use Rattle.line.specs.Text.{decimal, integer, refusalText}
 use Rattle.line.proofs.Lengths.{length-integer, length-point}
 use Rattle.line.proofs.Texts.{refusal-is}
 use Rattle.line.proofs.Readers.{Small, strange-small, point-outcome, step-outcome, edition-outcome}
-use Rattle.listing.proofs.Fold.{by-letters}
-use Rattle.listing.specs.Fold.{roomFor}
+use Rattle.listing.proofs.Fold.{by-letters, printed-lines}
+use Rattle.line.specs.Lines.{lines}
+use Rattle.listing.specs.Fold.{run, longestInput, roomFor}
 use Rattle.listing.proofs.Room.{Roomy, refusal-fits, printed-fits}
 use Rattle.sheet_rules.specs.declared.Reply.{Reply}
 use Rattle.sheet_rules.specs.declared.Reply.the-variants as reply
 use Rattle.sheet_rules.specs.Sheet.{Sheet, fresh, rules, replyText, refuse, malformed, stepTests, stepReply, conversionReply, pointReply, editionTests, editionReply, replyOf, sheetOf}
-use Rattle.sheet_rules.specs.OneLine.{mostLines}
+use Rattle.sheet_rules.specs.declared.Standing.{Standing}
+use Rattle.sheet_rules.specs.OneLine.{mostLines, said, past, replyTo}
 use Rattle.sheet_rules.proofs.Laws.{next-line}
 
 -- a reply has at most n bytes
@@ -88,8 +90,21 @@ pub reply-short : (s : Sheet) (l : List ℕ) → s .line ≤ suc mostLines → l
 reply-short s l h =
     reply-fits s l 100 (λ k m. refusal-short (s .line) k 0 h m (omega arith)) (λ f m. refusal-short (s .line) (f .number) (f .place) h (m .number) (m .low)) (λ _. omega arith)
 
+pub answer-short : (st : Standing) (l : List ℕ) → st .line ≤ suc mostLines → length (replyText (replyTo st l)) ≤ 100
+unfolding replyTo
+answer-short st l h = go (past st)
+  where
+    go : (b : Bool) → length (replyText (pick b (reply.Refused (suc mostLines) refusal.limit 0) (replyOf (said st) l))) ≤ 100
+    go true = refusal-short (suc mostLines) refusal.limit 0 (omega arith) (omega arith) (omega arith)
+    go false = reply-short (said st) l h
+
 pub roomy : Roomy rules (λ (s : Sheet). s .line)
 roomy = record { counts = next-line; short = short }
+
+-- what a sheet prints that is not too long
+pub sheet-lines : (input : List ℕ) → length input ≤ longestInput → sheetOf input ≡ run rules fresh (lines input)
+unfolding sheetOf
+sheet-lines input h = printed-lines rules fresh input h
 
 pub sheet-fits : (input : List ℕ) → length (sheetOf input) ≤ roomFor (length input)
 unfolding sheetOf

@@ -14,7 +14,7 @@ use Rattle.sheet_stream.specs.declared.Fed.{Fed}
 use Rattle.sheet_stream.specs.declared.Outcome.the-variants.{Open, Line, Refused}
 use Rattle.sheet_stream.specs.Fragments.{keep, ended, endReply, fed, later, scan, sound, feedOf}
 use Rattle.sheet_stream.specs.Calls.{Told, told, after, saidBy, calls, deliver, joined, bytes, AnyCalls, done, call}
-use Rattle.sheet_stream.specs.WholeSheet.{CutsDontMatter, AnyCaller}
+use Rattle.sheet_stream.specs.WholeSheet.{CutsDontMatter}
 use Rattle.sheet_stream.proofs.Laws.{Sound, sound-parts, sound-made, sound-ended, sound-keep, sound-scan, feed-sound, takes}
 
 -- one call, and the bytes that it left
@@ -91,7 +91,7 @@ scan-any s (b ∷ f) rest = go (eqb b lineFeed) refl (scan-any (keep s b) f rest
     go true q ih = bytes-feed s b rest q
     go false q ih = bytes-keep s b (take (scan (keep s b) f .taken) f ++ rest) q ∙ ih
 
-any-calls : {s s' : Stream} {text : List ℕ} {rs : List Reply} → Sound s → AnyCalls s text rs s' → bytes s text ≡ told rs s'
+pub any-calls : {s s' : Stream} {text : List ℕ} {rs : List Reply} → Sound s → AnyCalls s text rs s' → bytes s text ≡ told rs s'
 any-calls p done = sym (none _)
 any-calls {s} {s'} p (call {rest = rest} {rs = rs} f more) =
     let e = feed-sound s f (sound-made s p) in
@@ -101,6 +101,3 @@ any-calls {s} {s'} p (call {rest = rest} {rs = rs} f more) =
   where
     go : (f rest : List ℕ) (rs : List Reply) → feedOf s f ≡ scan s f → bytes (feedOf s f .stream) rest ≡ told rs s' → bytes s (take (feedOf s f .taken) f ++ rest) ≡ told (saidBy (feedOf s f .outcome) ++ rs) s'
     go f rest rs e i = rw e (scan-any s f rest ∙ ap (after (saidBy (scan s f .outcome))) (rw e at i))
-
-pub any-caller : AnyCaller
-any-caller s t text rs e c = any-calls (sound-parts s e) c

@@ -22,11 +22,12 @@ use Rattle.sheet_rules.specs.declared.Response.the-variants as response
 use Rattle.sheet_rules.specs.OneLine.{mostLines, said, soundStanding, replyTo, afterLine, answered, answeredTo, lineAnswered}
 use Rattle.sheet_rules.proofs.OneLine.{both, sound-after, reply-rules, reply-past}
 use Rattle.sheet_rules.proofs.OneLine as line
+use Rattle.sheet_rules.proofs.Room.{answer-short}
 use Rattle.sheet_rules.proofs.Unread.{NoFeed, open-18}
 use Rattle.sheet_stream.specs.declared.Stream.{Stream}
 use Rattle.sheet_stream.specs.declared.Fed.{Fed}
 use Rattle.sheet_stream.specs.declared.Outcome.the-variants.{Open, Line, Refused}
-use Rattle.sheet_stream.specs.Fragments.{between, empty, keep, held, closing, ended, endReply, fed, later, scan, sound, unsound, feedOf, finishOf}
+use Rattle.sheet_stream.specs.Fragments.{between, empty, keep, held, closing, ended, endReply, fed, later, scan, sound, unsound, feedOf, finishOf, Countable, Short}
 
 -- ---- a sound state
 pub record Sound (s : Stream) : Type 0 where
@@ -174,7 +175,7 @@ finish-18 s e k n h l =
     ap (λ (r : Fed). r .outcome) (finish-open s e (λ q. omega arith))
     ∙ ap Line (reply-rules (s .standing) (held s) l ∙ open-18 (said (s .standing)) (held s) n (omega arith) ∙ ap (reply.Refused (s .standing .line) refusal.length) m)
 
-pub finish-28 : (s : Stream) → sound s ≡ true → 0 < s .count → mostLines < s .standing .line → finishOf s .outcome ≡ Line (reply.Refused (suc mostLines) 28 0)
+pub finish-28 : (s : Stream) → sound s ≡ true → 0 < s .count → mostLines < s .standing .line → finishOf s .outcome ≡ Line (reply.Refused (suc mostLines) refusal.limit 0)
 finish-28 s e h l = ap (λ (r : Fed). r .outcome) (finish-open s e (λ q. omega arith)) ∙ ap Line (reply-past (s .standing) (held s) l)
 
 -- ---- for callers: no more is taken than there is
@@ -254,3 +255,72 @@ module _ (s : Stream) (l : List ℕ) (n : ℕ) (fin : Bool) (a : Answered) (e : 
       go : (b : Bool) → pick {A = Answered} b (answered (afterLine (s .standing) l) (response.Replied (replyTo (s .standing) l))) (answered (s .standing) response.Unsound) .response ≡ response.Replied r → a .standing ≡ pick {A = Answered} b (answered (afterLine (s .standing) l) (response.Replied (replyTo (s .standing) l))) (answered (s .standing) response.Unsound) .standing → fed (between (a .standing) fin) n (Line r) ≡ pick b (fed (between (afterLine (s .standing) l) fin) n (Line (replyTo (s .standing) l))) (unsound s)
       go true z y = let x : replyTo (s .standing) l ≡ r = cc in rw (y, x)
       go false z y = absurd (let x : _≡_ {A = ℕ} 0 1 = cc in omega arith)
+
+-- ---- for a caller that keeps the state as numbers
+countable : (s : Stream) → Sound s → Countable s
+countable s p = record {
+  from = omega (arith, p .standing .from);
+  to = p .standing .to;
+  count = p .count;
+  steps = line.sound-short (s .standing) (line.sound-made (s .standing) (p .standing));
+}
+
+pub fed-countable : (s : Stream) (f : List ℕ) → Countable s → Countable (feedOf s f .stream)
+unfolding feedOf
+fed-countable s f c = go (sound s) refl
+  where
+    go : (t : Bool) → sound s ≡ t → Countable (pick {A = Fed} t (scan s f) (unsound s) .stream)
+    go true e = countable (scan s f .stream) (sound-scan s f (sound-parts s e))
+    go false e = c
+
+pub finished-countable : (s : Stream) → Countable s → Countable (finishOf s .stream)
+unfolding finishOf
+finished-countable s c = go (sound s) (eqb (s .count) 0) refl
+  where
+    ended-so : (st : Standing) → line.Sound st → Countable (between st true)
+    ended-so st p = record {
+      from = omega (arith, p .from);
+      to = p .to;
+      count = omega arith;
+      steps = line.sound-short st (line.sound-made st p);
+    }
+
+    go : (t u : Bool) → sound s ≡ t → Countable (pick {A = Fed} t (pick {A = Fed} u (fed (between (s .standing) true) 0 Open) (fed (between (afterLine (s .standing) (held s)) true) 0 (Line (replyTo (s .standing) (held s))))) (unsound s) .stream)
+    go true true e = ended-so (s .standing) (sound-parts s e .standing)
+    go true false e = ended-so (afterLine (s .standing) (held s)) (sound-after (s .standing) (held s) (sound-parts s e .standing))
+    go false u e = c
+
+-- an answer has at most 100 bytes
+keep-standing : (s : Stream) (b : ℕ) → keep s b .standing ≡ s .standing
+unfolding keep
+keep-standing s b = go (ltb (s .count) longestLine)
+  where
+    go : (t : Bool) → pick {A = Stream} t (record { standing = s .standing; count = s .count + 1; kept = set (s .kept) (s .count) b; finished = s .finished }) s .standing ≡ s .standing
+    go true = refl
+    go false = refl
+
+scan-short : (s : Stream) (f : List ℕ) → s .standing .line ≤ suc mostLines → Short (scan s f .outcome)
+unfolding scan endReply
+scan-short s [] h = tt
+scan-short s (b ∷ f) h = go (eqb b lineFeed) (scan-short (keep s b) f (rw (keep-standing s b) h))
+  where
+    go : (t : Bool) → Short (scan (keep s b) f .outcome) → Short (pick {A = Fed} t (fed (ended s) 1 (Line (endReply s))) (later (scan (keep s b) f)) .outcome)
+    go true i = answer-short (s .standing) (closing s) h
+    go false i = i
+
+pub fed-short : (s : Stream) (f : List ℕ) → Countable s → Short (feedOf s f .outcome)
+unfolding feedOf
+fed-short s f c = go (sound s)
+  where
+    go : (t : Bool) → Short (pick {A = Fed} t (scan s f) (unsound s) .outcome)
+    go true = scan-short s f (c .to)
+    go false = tt
+
+pub finished-short : (s : Stream) → Countable s → Short (finishOf s .outcome)
+unfolding finishOf
+finished-short s c = go (sound s) (eqb (s .count) 0)
+  where
+    go : (t u : Bool) → Short (pick {A = Fed} t (pick {A = Fed} u (fed (between (s .standing) true) 0 Open) (fed (between (afterLine (s .standing) (held s)) true) 0 (Line (replyTo (s .standing) (held s))))) (unsound s) .outcome)
+    go true true = tt
+    go true false = answer-short (s .standing) (held s) (c .to)
+    go false u = tt

@@ -2,7 +2,7 @@
 use Prim.Native.Nat.{ℕ, zero, suc, _+_, _-_, _≤_, _<_, min}
 use mathlib.Core.Path.{_≡_, refl, sym, ap, _∙_}
 use mathlib.Core.Bool.{Bool, true, false}
-use mathlib.Core.List.{List, [], _∷_, _++_, append-assoc}
+use mathlib.Core.List.{List, [], _∷_, _++_, append-assoc, append-nil}
 use lib.Dec.{eqb, ltb}
 use lib.ListN.{length, take, set, replicate, length-append, length-set, length-replicate}
 use lib.Seq.{take-all, take-suc-set, take-append-le, take-nil}
@@ -11,26 +11,29 @@ use native.Mathlib.Omega.{arith}
 use borrow.Author.Tests.{eqb-true, eqb-false, ltb-true, ltb-false}
 use Rattle.refusal.specs.Order.{pick}
 use Rattle.chain.specs.declared.Step.{Step}
+use Rattle.chain.specs.declared.Chain.{Chain}
 use Rattle.line.specs.Bytes.{lineFeed}
 use Rattle.line.specs.Fields.{longestLine, front}
 use Rattle.line.specs.Lines.{lines}
 use Rattle.listing.specs.Fold as listing
+use Rattle.listing.specs.Fold.{longestInput}
 use Rattle.sheet_rules.specs.declared.Reply.{Reply}
 use Rattle.sheet_rules.specs.declared.Standing.{Standing}
 use Rattle.sheet_rules.specs.Sheet.{Sheet, rules, replyText, nextOf}
 use Rattle.sheet_rules.specs.Sheet as sheet
-use Rattle.sheet_rules.specs.OneLine.{mostLines, said, freshAt, replyTo, afterLine}
+use Rattle.sheet_rules.specs.OneLine.{mostLines, said, standingAt, freshAt, replyTo, afterLine}
 use Rattle.sheet_rules.proofs.Laws.{next-line}
-use Rattle.sheet_rules.proofs.OneLine.{reply-past, after-past, reply-rules, after-rules, same-reply, same-after}
+use Rattle.sheet_rules.proofs.OneLine.{reply-past, after-past, reply-rules, after-rules, after-standing, same-reply, same-after}
 use Rattle.sheet_rules.proofs.OneLine as line
+use Rattle.sheet_rules.proofs.Room.{sheet-lines}
 use Rattle.sheet_rules.proofs.Unread.{NoFeed, none-yet, one-more, cut-reply, cut-next, open-reply, open-next}
 use Rattle.sheet_stream.specs.declared.Stream.{Stream}
 use Rattle.sheet_stream.specs.declared.Outcome.the-variants.{Open, Line, Refused}
 use Rattle.sheet_stream.specs.Fragments.{empty, between, fresh, keep, held, closing, ended, endReply, finishOf}
-use Rattle.sheet_stream.specs.Calls.{Told, told, after, saidBy, deliver, joined, bytes, finished, run, last, rulesRun, rulesLast, texts}
-use Rattle.sheet_stream.specs.WholeSheet.{OneRun, AsTheRules, StandsAsTheRules, PrintsAsTheRules, pastLimit}
+use Rattle.sheet_stream.specs.Calls.{Told, told, after, deliver, joined, bytes, finished, rulesRun, rulesLast, texts}
+use Rattle.sheet_stream.specs.WholeSheet.{OverTheLink, oneRun, answersTo, closingOf, noSteps, pastLimit}
 use Rattle.sheet_stream.proofs.Laws.{Sound, sound-parts, sound-made, sound-ended, sound-keep, finish-none, finish-open}
-use Rattle.sheet_stream.proofs.Cuts.{deliver-bytes}
+use Rattle.sheet_stream.proofs.Cuts.{deliver-bytes, any-calls}
 
 -- ---- the lines of a text that follows an open line
 abbrev openEnd : List ℕ → List (List ℕ)
@@ -130,7 +133,15 @@ open-line s st w h n = go (ltb (length w) longestLine) refl
         let m = ltb-false (length w) longestLine q in
         rw (h .begins) (record { reply = same-reply st _ _ (open-reply (said st) w n m); next = same-after st _ _ (open-next (said st) w n m) })
 
--- ---- the run, line by line
+-- ---- the run, line by line, with the limit
+run : Standing → List (List ℕ) → List Reply
+run st [] = []
+run st (l ∷ ls) = replyTo st l ∷ run (afterLine st l) ls
+
+last : Standing → List (List ℕ) → Standing
+last st [] = st
+last st (l ∷ ls) = last (afterLine st l) ls
+
 abbrev Ran : Standing → List (List ℕ) → Told
 Ran st ls = told (run st ls) (between (last st ls) true)
 
@@ -167,15 +178,7 @@ runs (b ∷ f) s st w p n h =
     go false q e k = k (eqb-false b lineFeed q)
 
 fresh-sound : (places : List Step) → Sound (fresh places)
-fresh-sound places = record { going = refl; count = omega arith; standing = record { from = omega arith; to = omega arith; chain = refl } }
-
--- the answers and the closing state, whatever the fragments
-pub one-run : OneRun
-one-run places fs =
-    let p = fresh-sound places in
-    ap finished (deliver-bytes (fresh places) fs p)
-    ∙ runs (joined fs) (fresh places) (freshAt places) [] p none-yet (held-none (freshAt places) false)
-    ∙ ap (Ran (freshAt places)) (from-lines [] (joined fs) ∙ glue-none (lines (joined fs)))
+fresh-sound places = record { going = refl; count = omega arith; standing = line.fresh-sound places }
 
 -- ---- the run is the rules' own up to the limit, then 28 for each further line
 limited : (ls : List (List ℕ)) (st : Standing) (k : ℕ) → st .line + k ≡ suc mostLines → run st ls ≡ rulesRun (said st) (take k ls) ++ replicate (length ls - k) pastLimit
@@ -193,20 +196,28 @@ limited (l ∷ ls) st (suc k) e =
     let j : rulesRun (said (afterLine st l)) (take k ls) ≡ rulesRun (nextOf (said st) l) (take k ls) = ap (λ (x : Sheet). rulesRun x (take k ls)) (after-rules st l h) in
     rw (reply-rules st l h, i, j, y)
 
-pub as-the-rules : AsTheRules
-as-the-rules places ls = limited ls (freshAt places) mostLines refl
-
-stands : (ls : List (List ℕ)) (st : Standing) (k : ℕ) → st .line + k ≡ suc mostLines → said (last st ls) ≡ rulesLast (said st) (take k ls)
+-- and leaves the sheet where the rules leave it, in the places of the chain that it began with
+stands : (ls : List (List ℕ)) (c : Chain) (s : Sheet) (k : ℕ) → s .line + k ≡ suc mostLines → last (standingAt c s) ls ≡ standingAt c (rulesLast s (take k ls))
 unfolding last rulesLast
-stands [] st k e = rw (take-nil k)
-stands (l ∷ ls) st zero e = rw (after-past st l (omega arith)) (stands ls st zero e)
-stands (l ∷ ls) st (suc k) e =
-    let h : st .line ≤ mostLines = omega arith in
-    let n : afterLine st l .line ≡ st .line + 1 = ap (λ (x : Sheet). x .line) (after-rules st l h) ∙ next-line (said st) l in
-    stands ls (afterLine st l) k (omega arith) ∙ ap (λ (x : Sheet). rulesLast x (take k ls)) (after-rules st l h)
+stands [] c s k e = rw (take-nil k)
+stands (l ∷ ls) c s zero e = rw (after-past (standingAt c s) l (omega arith)) (stands ls c s zero e)
+stands (l ∷ ls) c s (suc k) e =
+    ap (λ (st : Standing). last st ls) (after-standing c s l (omega arith)) ∙ stands ls c (nextOf s l) k (omega (arith, next-line s l))
 
-pub stands-as-the-rules : StandsAsTheRules
-stands-as-the-rules places ls = stands ls (freshAt places) mostLines refl
+ran : (places : List Step) (text : List ℕ) → Ran (freshAt places) (lines text) ≡ oneRun places text
+unfolding answersTo closingOf
+ran places text =
+    rw (limited (lines text) (freshAt places) mostLines refl, stands (lines text) (noSteps places) sheet.fresh mostLines refl)
+
+-- the answers and the closing state, byte by byte
+bytes-run : (places : List Step) (text : List ℕ) → finished (bytes (fresh places) text) ≡ oneRun places text
+bytes-run places text =
+    runs text (fresh places) (freshAt places) [] (fresh-sound places) none-yet (held-none (freshAt places) false)
+    ∙ ap (Ran (freshAt places)) (from-lines [] text ∙ glue-none (lines text))
+    ∙ ran places text
+
+cut : (places : List Step) (fs : List (List ℕ)) → finished (deliver (fresh places) fs) ≡ oneRun places (joined fs)
+cut places fs = ap finished (deliver-bytes (fresh places) fs (fresh-sound places)) ∙ bytes-run places (joined fs)
 
 -- ---- and prints what a whole sheet prints
 prints : (ls : List (List ℕ)) (s : Sheet) → texts (rulesRun s ls) ≡ listing.run rules s ls
@@ -214,5 +225,30 @@ unfolding texts rulesRun listing.run
 prints [] s = refl
 prints (l ∷ ls) s = ap (λ (t : List ℕ). replyText (sheet.replyOf s l) ++ t) (prints ls (nextOf s l))
 
-pub prints-as-the-rules : PrintsAsTheRules
-prints-as-the-rules ls = prints ls sheet.fresh
+count-lines : (f : List ℕ) → length (lines f) ≤ length f
+unfolding lines
+count-lines [] = omega arith
+count-lines (b ∷ f) = go (eqb b lineFeed) (lines f) (count-lines f)
+  where
+    go : (t : Bool) (ls : List (List ℕ)) → length ls ≤ length f → length (pick t ((b ∷ []) ∷ ls) (front b ls)) ≤ suc (length f)
+    go true ls h = omega (arith, h)
+    go false [] h = omega arith
+    go false (l ∷ ls) h = omega (arith, h)
+
+-- with a limit that is not reached
+all-answered : (k : ℕ) (ls : List (List ℕ)) → length ls ≤ k → texts (rulesRun sheet.fresh (take k ls) ++ replicate (length ls - k) pastLimit) ≡ listing.run rules sheet.fresh ls
+all-answered k ls h = let z : length ls - k ≡ 0 = omega (arith, h) in rw (z, take-all k ls h, append-nil) (prints ls sheet.fresh)
+
+printed : (places : List Step) (fs : List (List ℕ)) → length (joined fs) ≤ longestInput → texts (finished (deliver (fresh places) fs) .replies) ≡ sheet.sheetOf (joined fs)
+unfolding answersTo
+printed places fs h =
+    ap (λ (t : Told). texts (t .replies)) (cut places fs)
+    ∙ all-answered mostLines (lines (joined fs)) (omega (arith, count-lines (joined fs), h))
+    ∙ sym (sheet-lines (joined fs) h)
+
+pub over-the-link : OverTheLink
+over-the-link = record {
+  cut = cut;
+  called = λ places text rs t c. ap finished (sym (any-calls (fresh-sound places) c)) ∙ bytes-run places text;
+  printed = printed;
+}

@@ -6,9 +6,7 @@ use lib.ListN.{length, take, drop}
 use Rattle.refusal.specs.Order.{pick}
 use Rattle.line.specs.Bytes.{lineFeed}
 use Rattle.sheet_rules.specs.declared.Reply.{Reply}
-use Rattle.sheet_rules.specs.declared.Standing.{Standing}
 use Rattle.sheet_rules.specs.Sheet.{Sheet, replyText, replyOf, nextOf}
-use Rattle.sheet_rules.specs.OneLine.{replyTo, afterLine}
 use Rattle.sheet_stream.specs.declared.Stream.{Stream}
 use Rattle.sheet_stream.specs.declared.Outcome.{Outcome}
 use Rattle.sheet_stream.specs.declared.Outcome.the-variants.{Open, Line, Refused}
@@ -61,16 +59,7 @@ bytes s (b ∷ f) = pick (eqb b lineFeed) (after (endReply s ∷ []) (bytes (end
 unfoldable pub finished : Told → Told
 finished t = after (t .replies) (told (saidBy (finishOf (t .state) .outcome)) (finishOf (t .state) .stream))
 
--- ---- in one run: each line in order
-unfoldable pub run : Standing → List (List ℕ) → List Reply
-run st [] = []
-run st (l ∷ ls) = replyTo st l ∷ run (afterLine st l) ls
-
-unfoldable pub last : Standing → List (List ℕ) → Standing
-last st [] = st
-last st (l ∷ ls) = last (afterLine st l) ls
-
--- by the sheet's rules alone, with no limit
+-- ---- in one run, by the sheet's rules alone: each line in order
 unfoldable pub rulesRun : Sheet → List (List ℕ) → List Reply
 rulesRun s [] = []
 rulesRun s (l ∷ ls) = replyOf s l ∷ rulesRun (nextOf s l) ls

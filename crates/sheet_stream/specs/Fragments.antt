@@ -1,10 +1,11 @@
 -- A sheet that arrives in fragments: what a call with a fragment answers, and what the finish does.
-use Prim.Native.Nat.{ℕ, suc, _+_}
+use Prim.Native.Nat.{ℕ, suc, _+_, _≤_}
 use mathlib.Core.Bool.{Bool, true, false, not, _&&_}
 use mathlib.Core.List.{List, [], _∷_, _++_}
 use lib.Dec.{eqb, leb, ltb}
 use lib.IntN.{pos}
 use lib.ListN.{length, take, set, replicate}
+use Rattle.refusal.specs.Numbers as refusal
 use Rattle.refusal.specs.Order.{pick}
 use Rattle.chain.specs.declared.Step.{Step}
 use Rattle.chain.specs.declared.Kind.the-variants.{Frame}
@@ -12,7 +13,8 @@ use Rattle.line.specs.Bytes.{lineFeed}
 use Rattle.line.specs.Fields.{longestLine}
 use Rattle.sheet_rules.specs.declared.Reply.{Reply}
 use Rattle.sheet_rules.specs.declared.Standing.{Standing}
-use Rattle.sheet_rules.specs.OneLine.{freshAt, soundStanding, replyTo, afterLine}
+use Rattle.sheet_rules.specs.Sheet.{replyText}
+use Rattle.sheet_rules.specs.OneLine.{mostLines, freshAt, soundStanding, replyTo, afterLine}
 use Rattle.sheet_stream.specs.declared.Stream.{Stream}
 use Rattle.sheet_stream.specs.declared.Outcome.{Outcome}
 use Rattle.sheet_stream.specs.declared.Outcome.the-variants.{Open, Line, Refused}
@@ -69,7 +71,7 @@ unfoldable pub sound : Stream → Bool
 sound s = not (s .finished) && (leb (s .count) longestLine && soundStanding (s .standing))
 
 abbrev pub unsound : Stream → Fed
-unsound s = fed s 0 (Refused 29)
+unsound s = fed s 0 (Refused refusal.state)
 
 unfoldable pub feedOf : Stream → List ℕ → Fed
 feedOf s f = pick (sound s) (scan s f) (unsound s)
@@ -82,3 +84,15 @@ finishOf s =
     (fed (between (s .standing) true) 0 Open)
     (fed (between (afterLine (s .standing) (held s)) true) 0 (Line (replyTo (s .standing) (held s)))))
     (unsound s)
+
+-- ---- for a caller that keeps the state as numbers: how large its counts are, and how long an answer is
+pub record Countable (s : Stream) : Type 0 where
+  pub from : 1 ≤ s .standing .line
+  pub to : s .standing .line ≤ suc mostLines
+  pub count : s .count ≤ longestLine
+  pub steps : s .standing .chain .length ≤ 8
+
+abbrev pub Short : Outcome → Type 0
+Short Open = Unit {0}
+Short (Line r) = length (replyText r) ≤ 100
+Short (Refused n) = Unit {0}

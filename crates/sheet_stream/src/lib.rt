@@ -14,8 +14,6 @@ use sheet_rules::Reply;
 use sheet_rules::Response;
 use sheet_rules::Standing;
 
-const STATE: u8 = 29;
-
 const LINE_FEED: u8 = 10;
 
 // The longest line, in bytes, with its line feed.
@@ -38,7 +36,7 @@ pub enum Outcome {
     Open,
     // A line ended: the reply to it, which may print nothing.
     Line(Reply),
-    // STATE: the sheet is finished, a count is out of range, or the chain is bad.
+    // Refusal STATE: the sheet is finished, a count is out of range, or the chain is bad.
     Refused(u8),
 }
 
@@ -79,6 +77,7 @@ pub fn fresh() -> Stream
             chain: Chain {
                 steps: steps,
                 length: 0,
+                profile: chain::LATEST,
             },
             refused: false,
             closed: false,
@@ -96,7 +95,7 @@ fn refused(stream: Stream) -> Fed
     Fed {
         stream: stream,
         taken: 0,
-        outcome: Outcome::Refused(STATE),
+        outcome: Outcome::Refused(refusal::STATE),
     }
 }
 

@@ -10,8 +10,8 @@
  * its answer: nothing has to be checked beforehand.
  *
  * Every array is handed over as a pointer and the number of its elements. A pointer must be valid for that many elements,
- * also where there are none; arrays that are written must not overlap others of the same call. There is no state: calls
- * may run side by side. */
+ * also where there are none; arrays that are written must not overlap others of the same call. There is no state but what
+ * the caller keeps: calls may run side by side. */
 #ifndef SWIVELCRANE_H
 #define SWIVELCRANE_H
 
@@ -24,7 +24,7 @@ extern "C" {
 
 /* The version of this interface: a function or a number that is added raises the minor, any other change the major. */
 #define SWIVELCRANE_VERSION_MAJOR 4
-#define SWIVELCRANE_VERSION_MINOR 1
+#define SWIVELCRANE_VERSION_MINOR 2
 
 /* The refusal numbers by name; README.md says of each what to do. 1 is not given. */
 enum swivelcrane_refusal {
@@ -50,7 +50,9 @@ enum swivelcrane_refusal {
     SWIVELCRANE_REFUSAL_ID = 21,       /* an id that is not 1 to 16 of A-Z, 0-9 and hyphen */
     SWIVELCRANE_REFUSAL_PLAIN = 22,    /* a number that is not in plain form */
     SWIVELCRANE_REFUSAL_PLANE = 23,    /* an easting or northing not finite, or 10,000,000 m or more in size */
-    SWIVELCRANE_REFUSAL_PROFILE = 25   /* a step or a point that the chain's profile doesn't have */
+    SWIVELCRANE_REFUSAL_PROFILE = 25,  /* a step or a point that the chain's profile doesn't have */
+    SWIVELCRANE_REFUSAL_LIMIT = 28,    /* a line past the first million: only in the text of a sheet in fragments */
+    SWIVELCRANE_REFUSAL_STATE = 29     /* a call after the finish, or with a state that is none */
 };
 
 /* An array has not the number of elements that its call asks for. It comes before every refusal. */
@@ -148,29 +150,29 @@ int64_t swivelcrane_later_fault(const uint8_t *first, size_t first_length, const
 int64_t swivelcrane_sheet(const uint8_t *input, size_t input_length, uint8_t *out, size_t out_length);
 int64_t swivelcrane_plan(const uint8_t *input, size_t input_length, uint8_t *out, size_t out_length);
 
-/* A sheet in fragments, as it comes over a radio link. The caller keeps the state in two arrays; all zeros is the state before
- * the first call. The numbers, with what is allowed:
- *   0  lines answered, 0 to 1,000,000   1  a line beginning with S was refused, 0 or 1   2  a point line closed the chain, 0 or 1
- *   3  the sheet is finished, 0 or 1    4  bytes of the open line that are kept, 0 to 200 (200 also where it has more)
- *   5  0                                6  steps in the chain, 0 to 8
- *   7..110  the steps, SWIVELCRANE_STEP_NUMBERS each; those past the last are not read
- * The bytes are the open line's. Both arrays are the call's to write. */
+/* A sheet in fragments, as they come over a radio link. The caller keeps its state between the calls: numbers, and the bytes of the
+ * line that is open. Numbers to a state, in this order:
+ *   0  lines answered, 0 to 1,000,000   1  bytes kept of the open line, 0 to 200 (200: it is too long, the rest is skipped)
+ *   2  1 where a line beginning with S or E was refused, else 0   3  1 where a point line of good form was read, else 0
+ *   4  1 after the finish, else 0   5  profile, 2009 or 2021   6  steps, 0 to 8   7..110  the steps, 13 numbers each
+ * A fresh state is all zeros but its profile, 2021, and so are its 200 bytes of line all zeros. A step that a line brings in stands as
+ * swivelcrane_forward takes it, with 0 where its kind has no number; steps past their count are neither read nor written. */
 #define SWIVELCRANE_STREAM_NUMBERS 111
-#define SWIVELCRANE_STREAM_BYTES 200
+#define SWIVELCRANE_STREAM_LINE 200
 
-/* Room for any answer: answer has at least so many elements. */
-#define SWIVELCRANE_ANSWER_ROOM 100
-
-/* Takes the bytes of a fragment up to and with its first line feed, or all of them, and answers the line that they end as a whole
- * sheet would. told has 2 elements: the bytes taken, and the length of the answer, whose bytes stand at the start of answer (0
- * for a line that prints nothing), or -1 where no line ended. Call again with what was not taken. A sheet may have any
- * length; a line past the 1,000,000th is answered with refusal 28, numbered 1,000,001.
- * Refusal: 29, where the sheet is finished, a number is not what is allowed, or the chain is bad; nothing is written. */
-int64_t swivelcrane_feed(int64_t *numbers, size_t numbers_length, uint8_t *bytes, size_t bytes_length, const uint8_t *fragment,
-                         size_t fragment_length, uint8_t *answer, size_t answer_length, int64_t *told, size_t told_length);
-/* Ends the sheet: a line that is left open is answered, in the same way. Afterwards every call with this state answers 29. */
-int64_t swivelcrane_finish(int64_t *numbers, size_t numbers_length, uint8_t *bytes, size_t bytes_length, uint8_t *answer,
-                           size_t answer_length, int64_t *told, size_t told_length);
+/* Takes a fragment of any length: up to and with its first line feed, or all of it where it has none. told has 2 elements and becomes the
+ * number of bytes taken, and 1 where a line was answered, 0 where none was completed; call again with what was not taken. The answer is
+ * the length of what the line prints, 0 for a line that prints nothing; it stands at the start of out, which has 200 bytes or more, and the
+ * bytes past it are as they were. Each line is answered as swivelcrane_sheet answers it, without a limit in bytes; a line past the first
+ * million prints R, 1000001, 28, 0, is not read and moves nothing. With a line answered all bytes of line become 0; without one the
+ * fragment's bytes stand behind those kept, as far as there is room.
+ * Refusals, as minus the number, with nothing written and the state as it was: 29 (finished, a count or a flag out of its range, or a bad
+ * chain), for an empty fragment too; minus SWIVELCRANE_WRONG_LENGTH comes before it. */
+int64_t swivelcrane_feed(int64_t *state, size_t state_length, uint8_t *line, size_t line_length, const uint8_t *fragment,
+                         size_t fragment_length, uint8_t *out, size_t out_length, int64_t *told, size_t told_length);
+/* Ends the sheet: a line left open is refused with 18 (28 past the limit), and the answer is the length of its R line; with none open it is
+ * 0. All bytes of line become 0, and every later call on this state is 29. Refusals as of swivelcrane_feed. */
+int64_t swivelcrane_finish(int64_t *state, size_t state_length, uint8_t *line, size_t line_length, uint8_t *out, size_t out_length);
 
 #ifdef __cplusplus
 }

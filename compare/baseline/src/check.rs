@@ -21,6 +21,8 @@ pub const ID: u8 = 21;
 pub const PLAIN: u8 = 22;
 pub const PROJECTED: u8 = 23;
 pub const PROFILE: u8 = 25;
+pub const LIMIT: u8 = 28;
+pub const ENDED: u8 = 29;
 
 /// A refused line: the number and, for its form, the byte where the offending field begins.
 #[derive(Clone, Copy, PartialEq, Eq, Debug)]
@@ -81,6 +83,14 @@ impl Profile {
             2009 => Ok(Profile::Y2009),
             2021 => Ok(Profile::Y2021),
             _ => Err(RANGE),
+        }
+    }
+
+    pub fn year(self) -> i64 {
+        if self == Profile::Y2009 {
+            2009
+        } else {
+            2021
         }
     }
 

@@ -49,13 +49,20 @@ impl<'a> Fields<'a> {
     }
 }
 
-/// For a line that is of none of the forms which these letters begin.
-pub fn fault(line: &[u8], letters: &[u8]) -> Fault {
+/// 18 at the length without a line feed, for a line that is too long or has none.
+pub fn length(line: &[u8]) -> Option<Fault> {
     let ended = line.last() == Some(&b'\n');
     let length = line.len() - usize::from(ended);
-    if !ended || line.len() > 200 {
-        return Fault { number: LENGTH, place: length.min(200) as u8 };
+    let place = length.min(200) as u8;
+    (!ended || line.len() > 200).then_some(Fault { number: LENGTH, place })
+}
+
+/// For a line that is of none of the forms which these letters begin.
+pub fn fault(line: &[u8], letters: &[u8]) -> Fault {
+    if let Some(fault) = length(line) {
+        return fault;
     }
+    let length = line.len() - 1;
     let fields = Fields::new(&line[..length]);
     let Some(letter) = fields.letter(0, letters) else { return fields.fault(LETTER, 0) };
     let (count, id, convention) = match letter {

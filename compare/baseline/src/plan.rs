@@ -35,6 +35,6 @@ fn line(
             write::line(out, b'C', id, &grid);
             Ok(())
         }
-        _ => Err(reader.unknown(LETTERS)),
+        _ => Err(reader.unknown()),
     }
 }

@@ -1,6 +1,6 @@
 //! A reader that goes once over each line, field by field.
 
-use crate::check::{Fault, Kind, Place, Point, Step};
+use crate::check::{Fault, Kind, Place, Point, Step, LETTER};
 use crate::malformed;
 
 const TAB: u8 = b'\t';
@@ -57,11 +57,11 @@ impl<'a> Reader<'a> {
         }
     }
 
-    /// A line that begins with none of the letters.
-    pub fn unknown(&mut self, letters: &[u8]) -> Fault {
+    /// A line that begins with none of the letters: too long, or 19 at its first byte.
+    pub fn unknown(&mut self) -> Fault {
         let start = self.at;
         self.skip();
-        malformed::fault(&self.bytes[start..self.at], letters)
+        malformed::length(&self.bytes[start..self.at]).unwrap_or(Fault { number: LETTER, place: 0 })
     }
 
     /// Behind the next line feed, or to the end.

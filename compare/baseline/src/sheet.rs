@@ -6,7 +6,7 @@ use crate::read::Reader;
 use crate::steps::Chain;
 use crate::write;
 
-const LETTERS: &[u8] = b"SPE";
+pub(crate) const LETTERS: &[u8] = b"SPE";
 
 pub fn sheet(input: &[u8], out: &mut Vec<u8>) {
     let mut sheet = Sheet::default();
@@ -14,15 +14,15 @@ pub fn sheet(input: &[u8], out: &mut Vec<u8>) {
 }
 
 #[derive(Default)]
-struct Sheet {
-    profile: Profile,
-    chain: Chain,
-    refused: bool,
-    points: bool,
+pub(crate) struct Sheet {
+    pub profile: Profile,
+    pub chain: Chain,
+    pub refused: bool,
+    pub points: bool,
 }
 
 impl Sheet {
-    fn line(&mut self, reader: &mut Reader, place: i64, out: &mut Vec<u8>) -> Result<(), Fault> {
+    pub fn line(&mut self, reader: &mut Reader, place: i64, out: &mut Vec<u8>) -> Result<(), Fault> {
         match reader.first() {
             Some(b'S') => {
                 let read = reader.line(LETTERS, Reader::step);
@@ -37,7 +37,7 @@ impl Sheet {
                 answer
             }
             Some(b'P') => self.point(reader, out),
-            _ => Err(reader.unknown(LETTERS)),
+            _ => Err(reader.unknown()),
         }
     }
 
@@ -49,7 +49,7 @@ impl Sheet {
         Ok(())
     }
 
-    fn step(&mut self, step: &Step) -> Result<(), u8> {
+    pub fn step(&mut self, step: &Step) -> Result<(), u8> {
         let fault = check::step(self.profile, step);
         if fault != 0 {
             Err(fault)

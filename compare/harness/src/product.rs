@@ -1,7 +1,7 @@
 //! The product through its C interface. Each call watches the bytes around and in what it lends: on a
 //! refusal nothing may be written, and never anything past the lent slice.
 
-use crate::subject::{Answer, Subject, STRANGE, WROTE};
+use crate::subject::{Answer, Fed, State, Subject, STRANGE, WROTE};
 use paper::numbers::PointRow;
 #[cfg(feature = "standin")]
 use standin as _;
@@ -115,6 +115,26 @@ mod c {
             out: *mut i64,
             out_len: usize,
         ) -> i64;
+        pub fn swivelcrane_feed(
+            numbers: *mut i64,
+            numbers_len: usize,
+            line: *mut u8,
+            line_len: usize,
+            fragment: *const u8,
+            fragment_len: usize,
+            out: *mut u8,
+            out_len: usize,
+            told: *mut i64,
+            told_len: usize,
+        ) -> i64;
+        pub fn swivelcrane_finish(
+            numbers: *mut i64,
+            numbers_len: usize,
+            line: *mut u8,
+            line_len: usize,
+            out: *mut u8,
+            out_len: usize,
+        ) -> i64;
         pub fn swivelcrane_sheet(input: *const u8, input_len: usize, out: *mut u8, out_len: usize) -> i64;
         pub fn swivelcrane_plan(input: *const u8, input_len: usize, out: *mut u8, out_len: usize) -> i64;
     }
@@ -226,6 +246,36 @@ pub fn later_fault(first: &[u8], second: &[u8], out: &mut [i64]) -> i64 {
     }
 }
 
+pub fn feed(numbers: &mut [i64], line: &mut [u8], fragment: &[u8], out: &mut [u8], told: &mut [i64]) -> i64 {
+    unsafe {
+        c::swivelcrane_feed(
+            numbers.as_mut_ptr(),
+            numbers.len(),
+            line.as_mut_ptr(),
+            line.len(),
+            fragment.as_ptr(),
+            fragment.len(),
+            out.as_mut_ptr(),
+            out.len(),
+            told.as_mut_ptr(),
+            told.len(),
+        )
+    }
+}
+
+pub fn finish(numbers: &mut [i64], line: &mut [u8], out: &mut [u8]) -> i64 {
+    unsafe {
+        c::swivelcrane_finish(
+            numbers.as_mut_ptr(),
+            numbers.len(),
+            line.as_mut_ptr(),
+            line.len(),
+            out.as_mut_ptr(),
+            out.len(),
+        )
+    }
+}
+
 pub fn sheet(input: &[u8], out: &mut [u8]) -> i64 {
     unsafe { c::swivelcrane_sheet(input.as_ptr(), input.len(), out.as_mut_ptr(), out.len()) }
 }
@@ -241,6 +291,9 @@ pub fn room(input: &[u8]) -> usize {
 
 /// The numbers of eight steps: the room for a joined chain.
 pub const JOINED: usize = 104;
+
+/// Room for the answer of one line.
+pub const ANSWER: usize = 200;
 
 pub const MARK: i64 = 0x5a5a_a5a5_1234_4321;
 pub const FLOAT_MARK: f64 = -1.25e300;
@@ -332,6 +385,26 @@ impl Subject for Product {
     }
     fn later_fault(&self, first: &[u8], second: &[u8]) -> Answer<[i64; 3]> {
         lend(MARK, |out| later_fault(first, second, out))
+    }
+    fn fed(&self, state: &mut State, fragment: Option<&[u8]>) -> Fed {
+        let (mut out, mut told) = ([0xa5; ANSWER + 1], [MARK; 2]);
+        let lent = &mut out[..ANSWER];
+        let answer = match fragment {
+            Some(fragment) => feed(&mut state.numbers, &mut state.line, fragment, lent, &mut told),
+            None => finish(&mut state.numbers, &mut state.line, lent),
+        };
+        let length = usize::try_from(answer).unwrap_or(0);
+        if length > ANSWER || out[length..].iter().any(|byte| *byte != 0xa5) {
+            return Err(WROTE);
+        }
+        match (answer, fragment, told) {
+            (0.., None, [MARK, MARK]) => Ok((0, Some(out[..length].to_vec()))),
+            (0.., Some(_), [taken, 1]) => Ok((taken as usize, Some(out[..length].to_vec()))),
+            (0, Some(_), [taken, 0]) => Ok((taken as usize, None)),
+            (-255 | -30..=-2, _, [MARK, MARK]) => Err(-answer as u8),
+            (..=-1, _, _) => Err(WROTE),
+            _ => Err(STRANGE),
+        }
     }
     fn sheet(&self, input: &[u8]) -> Vec<u8> {
         print(input, sheet)

@@ -16,6 +16,8 @@ pub enum Function {
     RsoReverse,
     Round,
     Later,
+    Fed,
+    Stream,
     Sheet,
     Plan,
 }
@@ -39,6 +41,8 @@ const REACHABLE: [(Function, &str, &[u8]); FUNCTIONS] = [
     (RsoReverse, "RSO reverse", &[0, 2, 12, 23]),
     (Round, "round", &[0, 2, 14]),
     (Later, "later of two", &[0, 2, 3, 16, 17, 18, 19, 20, 21, 22]),
+    (Fed, "fragments, calls", &[0, 29]),
+    (Stream, "fragments, lines", &[0, 2, 3, 4, 5, 6, 7, 8, 9, 10, 11, 18, 19, 20, 21, 22, 25, 28]),
     (Sheet, "sheet, lines", &[0, 2, 3, 4, 5, 6, 7, 8, 9, 10, 11, 15, 18, 19, 20, 21, 22, 25]),
     (Plan, "plan, lines", &[0, 2, 7, 8, 12, 13, 15, 18, 19, 20, 21, 22]),
 ];

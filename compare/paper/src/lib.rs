@@ -26,3 +26,4 @@ pub mod rso;
 pub mod series;
 pub mod sheet;
 pub mod step;
+pub mod stream;

@@ -31,6 +31,10 @@ pub const PLAIN: Refusal = 22;
 pub const PROJECTED: Refusal = 23;
 /// A step or a point that the chain's edition of the circular doesn't have.
 pub const PROFILE: Refusal = 25;
+/// A line past the first million.
+pub const LIMIT: Refusal = 28;
+/// A call after the finish, or with a state that is none.
+pub const ENDED: Refusal = 29;
 
 /// A refusal of a line, and the byte where the first offending field begins: 0 for all but 18 to 22.
 #[derive(Clone, Copy, Debug, PartialEq, Eq)]

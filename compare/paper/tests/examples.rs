@@ -69,3 +69,10 @@ fn onto_rso_and_back() {
     ];
     stored(&text.concat());
 }
+
+#[test]
+fn over_the_radio() {
+    let sheet = include_bytes!("../../../examples/radio.sheet");
+    let answers = paper::sheet::sheet(sheet);
+    stored(&String::from_utf8(answers).expect("ASCII"));
+}

@@ -9,9 +9,11 @@ use harness::programs::Programs;
 use harness::rng::Rng;
 use harness::{arguments, product};
 use paper::library::radians;
+use paper::lines::LONGEST;
 use paper::numbers::PointRow;
 use paper::oblique::Oblique;
 use paper::rso::Parameters;
+use paper::stream::fresh;
 use std::hint::black_box;
 use std::process::ExitCode;
 
@@ -51,6 +53,7 @@ fn main() -> ExitCode {
     let mut report = Report::default();
     sheets(&mut report, &mut rng, &chains);
     linear(&mut rng, &chains);
+    fragments(&mut report, &mut rng, &chains);
     plans(&mut report, &mut rng);
     conversions(&mut report, &mut rng, &chains);
     joins(&mut report, &mut rng, &chains);
@@ -110,6 +113,40 @@ fn plans(report: &mut Report, rng: &mut Rng) {
     };
     plan("full", full::plan(rng, FULL));
     plan("bare line feeds", vec![b'\n'; FULL]);
+}
+
+/// A full sheet in fragments, over a state of numbers: each call tests the state.
+fn fragments(report: &mut Report, rng: &mut Rng, chains: &Chains) {
+    let input = full::sheet(rng, chains, "BBBBBBBB", FULL);
+    let lines = input.iter().filter(|b| **b == b'\n').count();
+    let mut text = Vec::with_capacity(product::ANSWER);
+    for (size, name) in [(FULL, "whole"), (256, "256 bytes"), (20, "20 bytes")] {
+        let ours = || {
+            let (mut numbers, mut line) = (fresh(), [0; LONGEST]);
+            let (mut out, mut told) = ([0; product::ANSWER], [0; 2]);
+            for mut piece in input.chunks(size) {
+                while !piece.is_empty() {
+                    black_box(product::feed(&mut numbers, &mut line, piece, &mut out, &mut told));
+                    piece = &piece[told[0] as usize..];
+                }
+            }
+            black_box(product::finish(&mut numbers, &mut line, &mut out));
+        };
+        let theirs = || {
+            let (mut numbers, mut line) = (fresh(), [0; LONGEST]);
+            let mut state = baseline::stream::State { numbers: &mut numbers, line: &mut line };
+            for mut piece in input.chunks(size) {
+                while !piece.is_empty() {
+                    text.clear();
+                    let (taken, _) = state.feed(piece, &mut text).expect("a good state");
+                    piece = &piece[taken..];
+                }
+            }
+            black_box(state.finish(&mut text).expect("a good state"));
+        };
+        let pair = both(ours, theirs, lines, 101);
+        report.line(&format!("sheet in fragments, {name}"), "a line", &pair);
+    }
 }
 
 /// One full sheet beside four of a quarter, so that both come to as many lines: the ratio is 1 where time

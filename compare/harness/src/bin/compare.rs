@@ -5,7 +5,7 @@
 
 use harness::arguments;
 use harness::checks::{
-    angles, conversions, geodetic, joins, later, roundings, rso, rso_causes, texts, trips,
+    angles, conversions, geodetic, joins, later, roundings, rso, rso_causes, streams, texts, trips,
 };
 use harness::compare::{Comparison, Outcome};
 use harness::programs::Programs;
@@ -17,6 +17,7 @@ struct Sizes {
     conversions: u64,
     trips: u64,
     joins: u64,
+    streams: u64,
     roundings: u64,
     angles: u64,
     geodetic: u64,
@@ -30,6 +31,7 @@ const SHORT: Sizes = Sizes {
     conversions: 300_000,
     trips: 200_000,
     joins: 40_000,
+    streams: 2_500,
     roundings: 1_000_000,
     angles: 200_000,
     geodetic: 200_000,
@@ -43,6 +45,7 @@ const LONG: Sizes = Sizes {
     conversions: 10_000_000,
     trips: 10_000_000,
     joins: 3_000_000,
+    streams: 100_000,
     roundings: 20_000_000,
     angles: 2_000_000,
     geodetic: 5_000_000,
@@ -94,6 +97,7 @@ fn run(c: &mut Comparison, sizes: &Sizes) -> Outcome {
     timed(&format!("{} sheets and as many plans", sizes.texts), || {
         texts::run(c, sizes.texts, sizes.processes)
     })?;
+    timed(&format!("{} sheets in fragments", sizes.streams), || streams::run(c, sizes.streams))?;
     timed(&format!("{} conversions each way", sizes.conversions), || conversions::run(c, sizes.conversions))?;
     timed(&format!("{} round trips that came home", sizes.trips), || round_trips(c, sizes.trips))?;
     timed(&format!("{} pairs and triples of chains", sizes.joins), || joined(c, sizes.joins))?;

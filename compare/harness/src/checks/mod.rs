@@ -10,5 +10,6 @@ pub mod lengths;
 pub mod roundings;
 pub mod rso;
 pub mod rso_causes;
+pub mod streams;
 pub mod texts;
 pub mod trips;

@@ -2,10 +2,9 @@
 
 use paper::angle::Origin;
 use paper::later::Which;
-use paper::lines::LONGEST;
 use paper::numbers::PointRow;
 use paper::rso::Parameters;
-use paper::stream::STATE;
+use paper::stream::{ROOM, STATE};
 
 /// The value or the refusal number; 255 is the wrong length. Floats are compared by their bits.
 pub type Answer<T> = Result<T, u8>;
@@ -18,7 +17,7 @@ pub const STRANGE: u8 = 253;
 #[derive(Clone, Debug, PartialEq, Eq)]
 pub struct State {
     pub numbers: [i64; STATE],
-    pub line: [u8; LONGEST],
+    pub line: [u8; ROOM],
 }
 
 /// The bytes taken and the text of a line answered; or the number.

@@ -1,7 +1,6 @@
 //! Request A8: a sheet that arrives in fragments of any length.
 
 use crate::chain;
-use crate::lines::LONGEST;
 use crate::numbers::{self, STEP};
 use crate::profile::Profile;
 use crate::program::{refused, Reader};
@@ -10,6 +9,8 @@ use crate::refusal::{unless, Refusal, ENDED, LIMIT};
 use crate::sheet::Sheet;
 
 pub const MOST_LINES: u64 = 1_000_000;
+/// Room for one line.
+pub const ROOM: usize = 200;
 
 /// What a call took of its fragment, and the answer of the line that it completed: an empty one where the line prints
 /// nothing, none where no line was completed.
@@ -48,7 +49,7 @@ impl Stream {
 
     /// Bytes past the room for one line are skipped.
     fn keep(&mut self, bytes: &[u8]) {
-        let room = LONGEST - self.open.len();
+        let room = ROOM - self.open.len();
         self.open.extend(bytes.iter().take(room));
     }
 
@@ -58,7 +59,7 @@ impl Stream {
         if self.sheet.lines_read == MOST_LINES {
             return refused(MOST_LINES as usize + 1, LIMIT.into());
         }
-        let answer = if ended && line.len() < LONGEST {
+        let answer = if ended && line.len() < ROOM {
             line.push(b'\n');
             self.sheet.line(&line)
         } else {
@@ -73,10 +74,10 @@ impl Stream {
 pub const STATE: usize = 7 + 8 * STEP;
 
 /// A state of numbers, with the room for one line. 29 where it is finished, a count is out of range or the chain bad.
-fn load(state: &[i64; STATE], room: &[u8; LONGEST]) -> Result<Stream, Refusal> {
+fn load(state: &[i64; STATE], room: &[u8; ROOM]) -> Result<Stream, Refusal> {
     let [lines, kept, refused, closed, finished, year, steps] = *state.first_chunk().expect("long enough");
     let counts = between(lines, 0, MOST_LINES as i64)
-        && between(kept, 0, LONGEST as i64)
+        && between(kept, 0, ROOM as i64)
         && between(steps, 0, chain::MOST_STEPS as i64);
     let flags = [refused, closed, finished].iter().all(|&flag| between(flag, 0, 1));
     unless(counts && flags && finished == 0, ENDED)?;
@@ -111,7 +112,7 @@ fn store(stream: &Stream, state: &mut [i64; STATE]) {
 }
 
 /// One call on a state of numbers. The room is cleared with each line that is answered.
-pub fn feed(state: &mut [i64; STATE], room: &mut [u8; LONGEST], fragment: &[u8]) -> Result<Fed, Refusal> {
+pub fn feed(state: &mut [i64; STATE], room: &mut [u8; ROOM], fragment: &[u8]) -> Result<Fed, Refusal> {
     let mut stream = load(state, room)?;
     let fed = stream.feed(fragment)?;
     if fed.answer.is_some() {
@@ -123,7 +124,7 @@ pub fn feed(state: &mut [i64; STATE], room: &mut [u8; LONGEST], fragment: &[u8])
     Ok(fed)
 }
 
-pub fn finish(state: &mut [i64; STATE], room: &mut [u8; LONGEST]) -> Result<String, Refusal> {
+pub fn finish(state: &mut [i64; STATE], room: &mut [u8; ROOM]) -> Result<String, Refusal> {
     let mut stream = load(state, room)?;
     let text = stream.finish()?;
     room.fill(0);

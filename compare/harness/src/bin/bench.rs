@@ -9,11 +9,10 @@ use harness::programs::Programs;
 use harness::rng::Rng;
 use harness::{arguments, product};
 use paper::library::radians;
-use paper::lines::LONGEST;
 use paper::numbers::PointRow;
 use paper::oblique::Oblique;
 use paper::rso::Parameters;
-use paper::stream::fresh;
+use paper::stream::{fresh, ROOM};
 use std::hint::black_box;
 use std::process::ExitCode;
 
@@ -122,7 +121,7 @@ fn fragments(report: &mut Report, rng: &mut Rng, chains: &Chains) {
     let mut text = Vec::with_capacity(product::ANSWER);
     for (size, name) in [(FULL, "whole"), (256, "256 bytes"), (20, "20 bytes")] {
         let ours = || {
-            let (mut numbers, mut line) = (fresh(), [0; LONGEST]);
+            let (mut numbers, mut line) = (fresh(), [0; ROOM]);
             let (mut out, mut told) = ([0; product::ANSWER], [0; 2]);
             for mut piece in input.chunks(size) {
                 while !piece.is_empty() {
@@ -133,7 +132,7 @@ fn fragments(report: &mut Report, rng: &mut Rng, chains: &Chains) {
             black_box(product::finish(&mut numbers, &mut line, &mut out));
         };
         let theirs = || {
-            let (mut numbers, mut line) = (fresh(), [0; LONGEST]);
+            let (mut numbers, mut line) = (fresh(), [0; ROOM]);
             let mut state = baseline::stream::State { numbers: &mut numbers, line: &mut line };
             for mut piece in input.chunks(size) {
                 while !piece.is_empty() {

@@ -5,8 +5,7 @@ use crate::gen::{sheets, texts};
 use crate::rng::Rng;
 use crate::subject::{Fed, State, Subject};
 use crate::tally::Function;
-use paper::lines::LONGEST;
-use paper::stream::fresh;
+use paper::stream::{fresh, ROOM};
 
 pub fn run(c: &mut Comparison, count: u64) -> Outcome {
     for _ in 0..count {
@@ -19,7 +18,7 @@ pub fn run(c: &mut Comparison, count: u64) -> Outcome {
 }
 
 fn begun() -> State {
-    State { numbers: fresh(), line: [0; LONGEST] }
+    State { numbers: fresh(), line: [0; ROOM] }
 }
 
 /// Lengths of the fragments: all at once, bytes, the modem's own, now and then an empty one.
@@ -155,7 +154,7 @@ fn state(c: &mut Comparison) -> State {
         match rng.below(3) {
             0 => state.numbers[rng.index(7)] = number,
             1 => state.numbers[7 + rng.index(104)] = number,
-            _ => state.line[rng.index(LONGEST)] = rng.word() as u8,
+            _ => state.line[rng.index(ROOM)] = rng.word() as u8,
         }
     }
     state

@@ -30,7 +30,7 @@ impl State<'_> {
             && (0..=1).contains(&refused)
             && (0..=1).contains(&closed)
             && finished == 0
-            && (0..=8).contains(&steps);
+            && (0..=lines.min(8)).contains(&steps);
         if !counts || sound(year, self.rows()).is_err() {
             return Err(ENDED);
         }

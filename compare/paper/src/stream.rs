@@ -74,11 +74,12 @@ impl Stream {
 pub const STATE: usize = 7 + 8 * STEP;
 
 /// A state of numbers, with the room for one line. 29 where it is finished, a count is out of range or the chain bad.
+/// No line gives more than one step, so there are no more steps than lines answered.
 fn load(state: &[i64; STATE], room: &[u8; ROOM]) -> Result<Stream, Refusal> {
     let [lines, kept, refused, closed, finished, year, steps] = *state.first_chunk().expect("long enough");
     let counts = between(lines, 0, MOST_LINES as i64)
         && between(kept, 0, ROOM as i64)
-        && between(steps, 0, chain::MOST_STEPS as i64);
+        && between(steps, 0, lines.min(chain::MOST_STEPS as i64));
     let flags = [refused, closed, finished].iter().all(|&flag| between(flag, 0, 1));
     unless(counts && flags && finished == 0, ENDED)?;
     let chain = numbers::steps(&state[7..7 + steps as usize * STEP]).expect("whole rows");

@@ -135,6 +135,10 @@ fn state(c: &mut Comparison) -> State {
     };
     state.numbers[5] = chain.profile;
     state.numbers[6] = chain.rows.len() as i64;
+    // There are no more steps than lines answered.
+    if !rng.once_in(8) {
+        state.numbers[0] = state.numbers[0].max(state.numbers[6]);
+    }
     for (place, number) in chain.numbers().into_iter().enumerate() {
         state.numbers[7 + place] = number;
     }

@@ -154,7 +154,7 @@ int64_t swivelcrane_plan(const uint8_t *input, size_t input_length, uint8_t *out
  * line that is open. Numbers to a state, in this order:
  *   0  lines answered, 0 to 1,000,000   1  bytes kept of the open line, 0 to 200 (200: it is too long, the rest is skipped)
  *   2  1 where a line beginning with S or E was refused, else 0   3  1 where a point line of good form was read, else 0
- *   4  1 after the finish, else 0   5  profile, 2009 or 2021   6  steps, 0 to 8   7..110  the steps, 13 numbers each
+ *   4  1 after the finish, else 0   5  profile, 2009 or 2021   6  steps, 0 to 8 and no more than lines   7..110  the steps, 13 numbers each
  * A fresh state is all zeros but its profile, 2021, and so are its 200 bytes of line all zeros. A step that a line brings in stands as
  * swivelcrane_forward takes it, with 0 where its kind has no number; steps past their count are neither read nor written. */
 #define SWIVELCRANE_STREAM_NUMBERS 111

@@ -144,11 +144,12 @@ outAfter wrongLength before = before
 outAfter (refused n) before = before
 outAfter (answers s text) before = text ++ drop (length text) before
 
+-- the three arrays, which held `numbers`, `bytes` and `out`, after the call, and what it returns
 pub record Stated (c : Called) (numbers numbers' : List ℤ) (bytes bytes' out out' : List ℕ) (r : ℤ) : Type 0 where
   pub status : r ≡ lengthOf c
-  pub numbers : numbers' ≡ numbersAfter c numbers
-  pub bytes : bytes' ≡ bytesAfter c bytes
-  pub out : out' ≡ outAfter c out
+  pub state : numbers' ≡ numbersAfter c numbers
+  pub line : bytes' ≡ bytesAfter c bytes
+  pub written : out' ≡ outAfter c out
 
 -- ---- what is told of a call with a fragment: the bytes taken, and 1 where a line was answered, 0 where none ended
 abbrev pub toldOf : ℕ → Outcome → List ℤ → List ℤ
@@ -166,7 +167,7 @@ sizedFeed numbers bytes out told = sizedState (length numbers) (length bytes) (l
 
 pub record Streamed (fragment : List ℕ) (numbers numbers' : List ℤ) (bytes bytes' out out' : List ℕ) (told told' : List ℤ) (r : ℤ) : Type 0 where
   pub state : Stated (stateCall (λ s. feedOf s fragment) numbers bytes (sizedFeed numbers bytes out told)) numbers numbers' bytes bytes' out out' r
-  pub told : told' ≡ toldAfter (λ s. feedOf s fragment) numbers bytes (sizedFeed numbers bytes out told) told
+  pub tells : told' ≡ toldAfter (λ s. feedOf s fragment) numbers bytes (sizedFeed numbers bytes out told) told
 
 abbrev pub Ended : List ℤ → List ℤ → List ℕ → List ℕ → List ℕ → List ℕ → ℤ → Type 0
 Ended numbers numbers' bytes bytes' out out' r =

@@ -149,7 +149,8 @@ fn row_of(step: Step) -> [i64; 13]
         Kind::Shift(t) => [b'T' as i64, 0, p, q, r, s, t.dx, t.dy, t.dz, 0, 0, 0, 0],
         Kind::Velocity(t) => [b'V' as i64, 0, p, q, r, s, t.vx, t.vy, t.vz, 0, 0, 0, 0],
         Kind::BursaWolf(t) => {
-            let convention = convention_number(t.convention);
+            let turned = t.convention;
+            let convention = convention_number(turned);
             [b'B' as i64, convention, p, q, r, s, t.dx, t.dy, t.dz, t.rx, t.ry, t.rz, t.s]
         }
         Kind::Frame => [b'F' as i64, 0, p, q, r, s, 0, 0, 0, 0, 0, 0, 0],
@@ -181,8 +182,8 @@ pub(crate) fn put_numbers(n: &mut [i64], stream: Stream)
 }
 
 // The open line's bytes after a call.
-pub(crate) fn put_bytes(kept: &[u8; 200], bytes: &mut [u8])
-    requires { ⌜ length (now bytes) ≡ 200 ⌝ }
+pub(crate) fn put_bytes(kept: &[u8], bytes: &mut [u8])
+    requires { ⌜ (length (now kept) ≡ 200) × (length (now bytes) ≡ 200) ⌝ }
     ensures { λ _. ⌜ now (bytes .exit) ≡ now (kept .entry) ⌝ }
 {
     let mut i: usize = 0;

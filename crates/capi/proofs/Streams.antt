@@ -1,26 +1,30 @@
 -- A state of numbers and bytes, and the three ways in which a call over it ends. Assumes nothing.
-use Prim.Native.Nat.{ℕ, suc, _+_, _-_, _*_, _/_, _<_, _≤_}
+use Prim.Native.Nat.{ℕ, zero, suc, _+_, _-_, _*_, _/_, _<_, _≤_}
 use mathlib.Core.Path.{_≡_, refl, sym, _∙_, ap}
 use mathlib.Core.Bool.{Bool, true, false, _&&_}
 use mathlib.Core.List.{List, [], _∷_, _++_}
 use native.Mathlib.Numerals.{add-one}
 use native.Mathlib.Omega.{arith}
-use borrow.Author.Tests.{eqb-true, leb-true}
-use lib.Dec.{eqb, leb}
+use borrow.Author.Tests.{eqb-true, leb-true, lt-ltb, le-ltb}
+use lib.Dec.{eqb, leb, ltb}
 use lib.IntN.{ℤ, pos, negℤ, natAbs}
 use lib.ListN.{length, getD, take, drop, set, length-drop, length-take}
-use lib.Seq.{take-all, take-suc, take-suc-set, sets-eq}
+use lib.Seq.{take-all, take-suc, take-suc-set, sets, sets-eq, length-sets}
 use mir.Syntax.{w64}
 use mir.Val.{toZ}
 use mir.ValLaws.{toZ-pos}
+use Rattle.refusal.specs.Numbers as refusal
+use Rattle.refusal.specs.Order.{pick}
 use Rattle.ranges.specs.Ranges.{within}
 use Rattle.ranges.proofs.Ranges.{both, all, Natural, natural, natural-holds}
 use Rattle.chain.specs.declared.Step.{Step}
+use Rattle.chain.specs.declared.Chain.{Chain}
 use Rattle.chain.specs.declared.Shift.{Shift}
 use Rattle.chain.specs.declared.Velocity.{Velocity}
 use Rattle.chain.specs.declared.BursaWolf.{BursaWolf}
 use Rattle.chain.specs.declared.Kind.{Kind}
 use Rattle.chain.specs.declared.Kind.the-variants as kind
+use Rattle.chain.specs.Join.{noStep}
 use Rattle.line.specs.Bytes.{letterB, letterF, letterT, letterV}
 use Rattle.line.specs.Text.{Wrote}
 use Rattle.sheet_rules.specs.declared.Reply.{Reply}
@@ -31,7 +35,7 @@ use Rattle.sheet_stream.specs.declared.Outcome.{Outcome}
 use Rattle.sheet_stream.specs.declared.Outcome.the-variants.{Open, Line, Refused}
 use Rattle.sheet_stream.specs.Fragments.{Countable, Short}
 use Rattle.capi.specs.Chains.{number, chainFrom}
-use Rattle.capi.specs.Fragments.{sizedState, stateRange, isFlag, chainIn, streamFrom, bit, headOf, conventionNumber, kindRow, rowOf, numbersWith, Called, ofOutcome, Stated}
+use Rattle.capi.specs.Fragments.{sizedState, stateRange, isFlag, chainIn, streamFrom, flag, bit, headOf, conventionNumber, kindRow, rowOf, withNewStep, numbersWith, Called, ofOutcome, called, stateCall, toldOf, toldAfter, Stated}
 
 -- ---- the lengths
 pub record Sized (numbers bytes out : ℕ) : Type 0 where
@@ -148,3 +152,52 @@ module _ (s : Stream) (o : Outcome) (ns : List ℤ) (bytes out : List ℕ) where
           line = g;
           written = w .list ∙ sets-eq (replyText r) out 0 (omega arith) ∙ ap (λ (j : ℕ). replyText r ++ drop j out) z;
         })
+
+-- ---- the state out of its parts
+pub from-parts : (ns : List ℤ) (bytes : List ℕ) {l k : ℕ} {c : Chain} {a b f : Bool} {kept : List ℕ} → l ≡ natAbs (number ns 0) → k ≡ natAbs (number ns 1) → c ≡ chainIn ns → a ≡ flag (number ns 2) → b ≡ flag (number ns 3) → f ≡ flag (number ns 4) → kept ≡ bytes → record { standing = record { line = l + 1; chain = c; refused = a; closed = b }; count = k; kept = kept; finished = f } ≡ streamFrom ns bytes
+unfolding streamFrom
+from-parts ns bytes hl hk hc ha hb hf hs = rw (hl, hk, hc, ha, hb, hf, hs)
+
+-- ---- a step taken in
+pub new-step : (ns : List ℤ) (c : Chain) {k : ℕ} → k ≡ natAbs (number ns 6) → k < c .length → sets ns (7 + 13 * k) (rowOf (getD (c .steps) k noStep)) ≡ withNewStep ns c
+unfolding withNewStep
+new-step ns c {k} e h = rw (← e, lt-ltb k (c .length) h)
+
+pub no-new-step : (ns : List ℤ) (c : Chain) {k : ℕ} → k ≡ natAbs (number ns 6) → c .length ≤ k → ns ≡ withNewStep ns c
+unfolding withNewStep
+no-new-step ns c {k} e h = rw (← e, le-ltb k (c .length) h)
+
+pub new-length : (ns : List ℤ) (c : Chain) → length (withNewStep ns c) ≡ length ns
+unfolding withNewStep
+new-length ns c = go (ltb (natAbs (number ns 6)) (c .length))
+  where
+    go : (b : Bool) → length (pick b (sets ns (7 + 13 * natAbs (number ns 6)) (rowOf (getD (c .steps) (natAbs (number ns 6)) noStep))) ns) ≡ length ns
+    go true = length-sets ns (7 + 13 * natAbs (number ns 6)) (rowOf (getD (c .steps) (natAbs (number ns 6)) noStep))
+    go false = refl
+
+-- ---- a whole call
+module _ (f : Stream → Fed) (ns : List ℤ) (bytes : List ℕ) {sized : Bool} where
+  pub unsized : sized ≡ false → {out : List ℕ} → Stated (stateCall f ns bytes sized) ns ns bytes bytes out out (negℤ (pos 255))
+  unfolding stateCall
+  unsized e = rw e (record { status = refl; state = refl; line = refl; written = refl })
+
+  pub unranged : sized ≡ true → stateRange ns ≡ false → {out : List ℕ} {r : ℤ} → r ≡ negℤ (pos refusal.state) → Stated (stateCall f ns bytes sized) ns ns bytes bytes out out r
+  unfolding stateCall
+  unranged e g h = rw (e, g) (record { status = h; state = refl; line = refl; written = refl })
+
+  pub ranged : sized ≡ true → stateRange ns ≡ true → {x : Fed} → x ≡ f (streamFrom ns bytes) → {ns' : List ℤ} {bytes' out out' : List ℕ} {r : ℤ} → Stated (called x) ns ns' bytes bytes' out out' r → Stated (stateCall f ns bytes sized) ns ns' bytes bytes' out out' r
+  unfolding stateCall
+  ranged e g h s = rw (e, g, ← h) s
+
+  module _ (told : List ℤ) where
+    pub told-unsized : sized ≡ false → told ≡ toldAfter f ns bytes sized told
+    unfolding toldAfter
+    told-unsized e = rw e
+
+    pub told-unranged : sized ≡ true → stateRange ns ≡ false → told ≡ toldAfter f ns bytes sized told
+    unfolding toldAfter
+    told-unranged e g = rw (e, g)
+
+    pub told-ranged : sized ≡ true → stateRange ns ≡ true → {x : Fed} → x ≡ f (streamFrom ns bytes) → {told' : List ℤ} → told' ≡ toldOf (x .taken) (x .outcome) told → told' ≡ toldAfter f ns bytes sized told
+    unfolding toldAfter
+    told-ranged e g h t = rw (e, g, ← h) t

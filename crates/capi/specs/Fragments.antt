@@ -16,6 +16,7 @@ use Rattle.chain.specs.declared.Kind.{Kind}
 use Rattle.chain.specs.declared.Kind.the-variants.{Shift, Velocity, BursaWolf, Frame}
 use Rattle.chain.specs.declared.Step.{Step}
 use Rattle.chain.specs.declared.Chain.{Chain}
+use Rattle.chain.specs.Join.{noStep}
 use Rattle.line.specs.Bytes.{letterB, letterC, letterF, letterP, letterT, letterV}
 use Rattle.sheet_rules.specs.Sheet.{replyText}
 use Rattle.sheet_stream.specs.declared.Stream.{Stream}
@@ -23,7 +24,7 @@ use Rattle.sheet_stream.specs.declared.Outcome.{Outcome}
 use Rattle.sheet_stream.specs.declared.Outcome.the-variants.{Open, Line, Refused}
 use Rattle.sheet_stream.specs.declared.Fed.{Fed}
 use Rattle.sheet_stream.specs.Fragments.{feedOf, finishOf}
-use Rattle.capi.specs.Chains.{number, noStep, chainFrom}
+use Rattle.capi.specs.Chains.{number, chainFrom}
 
 -- ---- the lengths: seven numbers and 13 to each of eight steps; the open line's bytes; room for an answer
 unfoldable pub sizedState : ℕ → ℕ → ℕ → Bool

@@ -1,6 +1,6 @@
 -- `capi::state::chain_in` meets its contract: the steps within the count. Assumes nothing.
 use mathlib.Core.Path.{_≡_, _∙_, ap, ap₂}
-use Prim.Native.Nat.{ℕ, _≤_}
+use Prim.Native.Nat.{ℕ, _+_, _-_, _*_, _≤_}
 use native.Mathlib.Omega.{arith}
 use lib.IntN.{ℤ, natAbs}
 use lib.ListN.{take, drop}
@@ -23,7 +23,7 @@ count-requires c κs = rw (told (c .count-arg .given)) (a-count (number (c .befo
 
 -- how many steps there are
 is : (c : tie.After-count) → c .count .result ≡ natAbs (number (c .before .before .before .args .n .now) 6)
-is c = c .count .ensures ∙ ap natAbs (told (c .before .count-arg .given))
+is c = c .count .ensures ∙ ap natAbs (told {z = number (c .before .before .before .args .n .now) 6} (c .before .count-arg .given))
 
 few : (c : tie.After-count) → c .count .result ≤ 8
 few c = omega (arith, is c, size-of (number (c .before .before .before .args .n .now) 6) 8 (counts (c .before .before .before .args .n .now) (c .before .before .before .pre .1) .steps))
@@ -49,8 +49,9 @@ chain-from-requires c κs = search needs
 returns : tie.Need-returns
 unfolding chainIn
 returns c =
-    c .chain-from .ensures
-    ∙ ap₂ chainFrom (told (c .before .before .before .before .profile .given)) (ap (λ (k : ℕ). take k (drop 7 (c .before .before .before .before .before .args .n .now))) (omega (arith, is (c .before .before))))
+    let n = c .before .before .before .before .before .args .n .now in
+    let e : 7 + 13 * (c .before .before .count .result) - 7 ≡ 13 * natAbs (number n 6) = omega (arith, is (c .before .before)) in
+    c .chain-from .ensures ∙ ap₂ chainFrom (told {z = number n 5} (c .before .before .before .before .profile .given)) (ap (λ (k : ℕ). take k (drop 7 n)) e)
 
 pub chain-in-spec : {M : Type 1} → statement M
 chain-in-spec =

@@ -9,7 +9,7 @@ use borrow.Author.Tests.{eqb-true, leb-true, lt-ltb, le-ltb}
 use lib.Dec.{eqb, leb, ltb}
 use lib.IntN.{ℤ, pos, negℤ, natAbs}
 use lib.ListN.{length, getD, take, drop, set, length-drop, length-take}
-use lib.Seq.{take-all, take-suc, take-suc-set, sets, sets-eq, length-sets}
+use lib.Seq.{take-all, take-suc, take-suc-set, sets, sets-eq}
 use mir.Syntax.{w64}
 use mir.Val.{toZ}
 use mir.ValLaws.{toZ-pos}
@@ -22,7 +22,6 @@ use Rattle.chain.specs.declared.Chain.{Chain}
 use Rattle.chain.specs.declared.Shift.{Shift}
 use Rattle.chain.specs.declared.Velocity.{Velocity}
 use Rattle.chain.specs.declared.BursaWolf.{BursaWolf}
-use Rattle.chain.specs.declared.Kind.{Kind}
 use Rattle.chain.specs.declared.Kind.the-variants as kind
 use Rattle.chain.specs.Join.{noStep}
 use Rattle.line.specs.Bytes.{letterB, letterF, letterT, letterV}
@@ -34,8 +33,8 @@ use Rattle.sheet_stream.specs.declared.Stream.{Stream}
 use Rattle.sheet_stream.specs.declared.Outcome.{Outcome}
 use Rattle.sheet_stream.specs.declared.Outcome.the-variants.{Open, Line, Refused}
 use Rattle.sheet_stream.specs.Fragments.{Countable, Short}
-use Rattle.capi.specs.Chains.{number, chainFrom}
-use Rattle.capi.specs.Fragments.{sizedState, stateRange, isFlag, chainIn, streamFrom, flag, bit, headOf, conventionNumber, kindRow, rowOf, withNewStep, numbersWith, Called, ofOutcome, called, stateCall, toldOf, toldAfter, Stated}
+use Rattle.capi.specs.Chains.{number, placeFrom, chainFrom}
+use Rattle.capi.specs.Fragments.{FreshFromC, sizedState, stateRange, isFlag, chainIn, streamFrom, flag, bit, headOf, conventionNumber, rowOf, withNewStep, numbersWith, Called, ofOutcome, called, stateCall, toldOf, toldAfter, Stated}
 
 -- ---- the lengths
 pub record Sized (numbers bytes out : ℕ) : Type 0 where
@@ -80,6 +79,11 @@ countable ns bytes l e =
     let t = length-take (13 * natAbs (number ns 6)) (drop 7 ns) in
     record { from = omega arith; to = omega arith; count = size-of (number ns 1) 200 (c .kept); steps = omega arith }
 
+-- the state that C begins with
+pub fresh-from-c : FreshFromC
+unfolding streamFrom chainIn chainFrom placeFrom within
+fresh-from-c = refl
+
 -- ---- bytes copied one after the other
 pub one-more : (to from : List ℕ) (i : ℕ) → i < length to → i < length from → take i to ≡ take i from → take (i + 1) (set to i (getD from i 0)) ≡ take (i + 1) from
 one-more to from i h k e = rw (add-one, take-suc-set to i (getD from i 0) h, take-suc from i 0 k, e)
@@ -116,21 +120,6 @@ pub head : (s : Stream) {l k a b f y n : ℤ} → l ≡ pos (s .standing .line -
 unfolding headOf
 head s hl hk ha hb hf hy hn = rw (hl, hk, ha, hb, hf, hy, hn)
 
--- every row has 13 numbers, and the head seven
-pub row-length : (s : Step) → length (rowOf s) ≡ 13
-unfolding rowOf
-row-length s = go (s .kind)
-  where
-    go : (k : Kind) → length (kindRow k s) ≡ 13
-    go (kind.Shift t) = refl
-    go (kind.Velocity t) = refl
-    go (kind.BursaWolf t) = refl
-    go kind.Frame = refl
-
-pub head-length : (s : Stream) → length (headOf s) ≡ 7
-unfolding headOf
-head-length s = refl
-
 -- ---- how a call ends
 module _ (s : Stream) (o : Outcome) (ns : List ℤ) (bytes out : List ℕ) where
   pub declined : (n : ℕ) → o ≡ Refused n → {r : ℤ} → r ≡ negℤ (pos n) → Stated (ofOutcome s o) ns ns bytes bytes out out r
@@ -166,14 +155,6 @@ new-step ns c {k} e h = rw (← e, lt-ltb k (c .length) h)
 pub no-new-step : (ns : List ℤ) (c : Chain) {k : ℕ} → k ≡ natAbs (number ns 6) → c .length ≤ k → ns ≡ withNewStep ns c
 unfolding withNewStep
 no-new-step ns c {k} e h = rw (← e, le-ltb k (c .length) h)
-
-pub new-length : (ns : List ℤ) (c : Chain) → length (withNewStep ns c) ≡ length ns
-unfolding withNewStep
-new-length ns c = go (ltb (natAbs (number ns 6)) (c .length))
-  where
-    go : (b : Bool) → length (pick b (sets ns (7 + 13 * natAbs (number ns 6)) (rowOf (getD (c .steps) (natAbs (number ns 6)) noStep))) ns) ≡ length ns
-    go true = length-sets ns (7 + 13 * natAbs (number ns 6)) (rowOf (getD (c .steps) (natAbs (number ns 6)) noStep))
-    go false = refl
 
 -- ---- a whole call
 module _ (f : Stream → Fed) (ns : List ℤ) (bytes : List ℕ) {sized : Bool} where

@@ -5,7 +5,7 @@ use mathlib.Core.Bool.{Bool, true, false, not, _&&_}
 use mathlib.Core.List.{List, [], _∷_, _++_}
 use lib.Dec.{eqb, leb, ltb}
 use lib.IntN.{ℤ, pos, negℤ, natAbs}
-use lib.ListN.{length, getD, take, drop}
+use lib.ListN.{length, getD, take, drop, replicate}
 use lib.Seq.{sets}
 use Rattle.refusal.specs.Numbers as refusal
 use Rattle.refusal.specs.Order.{pick}
@@ -16,6 +16,7 @@ use Rattle.chain.specs.declared.Kind.{Kind}
 use Rattle.chain.specs.declared.Kind.the-variants.{Shift, Velocity, BursaWolf, Frame}
 use Rattle.chain.specs.declared.Step.{Step}
 use Rattle.chain.specs.declared.Chain.{Chain}
+use Rattle.chain.specs.Faults.{latest}
 use Rattle.chain.specs.Join.{noStep}
 use Rattle.line.specs.Bytes.{letterB, letterC, letterF, letterP, letterT, letterV}
 use Rattle.sheet_rules.specs.Sheet.{replyText}
@@ -23,8 +24,9 @@ use Rattle.sheet_stream.specs.declared.Stream.{Stream}
 use Rattle.sheet_stream.specs.declared.Outcome.{Outcome}
 use Rattle.sheet_stream.specs.declared.Outcome.the-variants.{Open, Line, Refused}
 use Rattle.sheet_stream.specs.declared.Fed.{Fed}
-use Rattle.sheet_stream.specs.Fragments.{feedOf, finishOf}
+use Rattle.sheet_stream.specs.Fragments.{empty, fresh, feedOf, finishOf}
 use Rattle.capi.specs.Chains.{number, chainFrom}
+use Rattle.capi.specs.Chains.{noStep as emptyPlace}
 
 -- ---- the lengths: seven numbers and 13 to each of eight steps; the open line's bytes; room for an answer
 unfoldable pub sizedState : ℕ → ℕ → ℕ → Bool
@@ -54,6 +56,13 @@ streamFrom ns bytes = record {
   kept = bytes;
   finished = flag (number ns 4);
 }
+
+-- a fresh state: all 0 but the profile. It is one that the library's theorem is about
+abbrev pub freshNumbers : List ℤ
+freshNumbers = replicate 5 (pos 0) ++ (latest ∷ replicate 105 (pos 0))
+
+abbrev pub FreshFromC : Type 0
+FreshFromC = streamFrom freshNumbers empty ≡ fresh (replicate 8 emptyPlace)
 
 -- ---- and back
 abbrev pub bit : Bool → ℤ

@@ -151,7 +151,21 @@ fn row_of(step: Step) -> [i64; 13]
         Kind::BursaWolf(t) => {
             let turned = t.convention;
             let convention = convention_number(turned);
-            [b'B' as i64, convention, p, q, r, s, t.dx, t.dy, t.dz, t.rx, t.ry, t.rz, t.s]
+            [
+                b'B' as i64,
+                convention,
+                p,
+                q,
+                r,
+                s,
+                t.dx,
+                t.dy,
+                t.dz,
+                t.rx,
+                t.ry,
+                t.rz,
+                t.s,
+            ]
         }
         Kind::Frame => [b'F' as i64, 0, p, q, r, s, 0, 0, 0, 0, 0, 0, 0],
     }

@@ -53,10 +53,10 @@ returns c =
     let s = c .before .before .before .before .before .before .before .before .before .args in
     c .before .copy .ensures
     ∙ ap (λ (l : List ℤ). sets (s .n .now) (7 + 13 * (c .before .before .before .before .before .before .before .count .result)) l) (c .before .before .before .before .row-of .ensures)
-    ∙ new-step (s .n .now) (s .chain) (steps (c .before .before .before .before .before .before .before)) (c .before .before .before .before .before .before .if1 .taken)
+    ∙ new-step (s .n .now) (s .t2) (steps (c .before .before .before .before .before .before .before)) (c .before .before .before .before .before .before .if1 .taken)
 
 returns-2 : tie.Need-returns-2
-returns-2 c = no-new-step (c .before .before .before .args .n .now) (c .before .before .before .args .chain) (steps (c .before)) (c .if1 .left)
+returns-2 c = no-new-step (c .before .before .before .args .n .now) (c .before .before .before .args .t2) (steps (c .before)) (c .if1 .left)
 
 pub put-new-step-spec : {M : Type 1} → statement M
 put-new-step-spec =

@@ -6,8 +6,9 @@
  *
  * Answers. A call answers 0 and writes its results, or answers a refusal number (enum swivelcrane_refusal) or
  * SWIVELCRANE_WRONG_LENGTH, and then writes nothing. swivelcrane_sheet and swivelcrane_plan answer the length of what
- * they wrote, or minus SWIVELCRANE_WRONG_LENGTH; swivelcrane_join the count of numbers, or minus the number. Every input has
- * its answer: nothing has to be checked beforehand.
+ * they wrote, or minus SWIVELCRANE_WRONG_LENGTH; swivelcrane_join the count of numbers, swivelcrane_feed and
+ * swivelcrane_finish the length of what a line prints, or minus the number. Every input has its answer: nothing has to be
+ * checked beforehand.
  *
  * Every array is handed over as a pointer and the number of its elements. A pointer must be valid for that many elements,
  * also where there are none; arrays that are written must not overlap others of the same call. There is no state but what

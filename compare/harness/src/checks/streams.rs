@@ -8,6 +8,7 @@ use crate::tally::Function;
 use paper::stream::{fresh, ROOM};
 
 pub fn run(c: &mut Comparison, count: u64) -> Outcome {
+    to_the_limit(c)?;
     for _ in 0..count {
         whole_sheet(c)?;
         for _ in 0..8 {
@@ -21,17 +22,46 @@ fn begun() -> State {
     State { numbers: fresh(), line: [0; ROOM] }
 }
 
-/// Lengths of the fragments: all at once, bytes, the modem's own, now and then an empty one.
-fn cuts(rng: &mut Rng, length: usize) -> Vec<usize> {
+/// Lengths of the fragments: all at once, line by line, up to just before each line feed, bytes, the modem's own, now and
+/// then an empty one.
+fn cuts(rng: &mut Rng, text: &[u8]) -> Vec<usize> {
+    let lines = || text.split_inclusive(|&b| b == b'\n').map(<[u8]>::len);
+    match rng.below(8) {
+        0 => return lines().collect(),
+        1 => return lines().flat_map(|length| [length - 1, 1]).collect(),
+        _ => {}
+    }
     let most = rng.pick(&[1, 3, 20, 70, 300, usize::MAX]);
     let mut cuts = Vec::new();
-    let mut left = length;
+    let mut left = text.len();
     while left > 0 {
         let cut = if most == usize::MAX { left } else { rng.index(most + 1).min(left) };
         left -= cut;
         cuts.push(cut);
     }
     cuts
+}
+
+/// A sheet of bare line feeds past the millionth, and an open line at its end, by every program from a fresh state.
+fn to_the_limit(c: &mut Comparison) -> Outcome {
+    for s in c.all() {
+        let mut state = begun();
+        for line in 1..=1_000_003 {
+            let text = if line > 1_000_000 { "R\t1000001\t28\t0\n".to_string() } else { format!("R\t{line}\t19\t0\n") };
+            let call = s.fed(&mut state, Some(b"\n"));
+            if call != Ok((1, Some(text.into_bytes()))) {
+                return Err(Mismatch(format!("line {line} of bare line feeds: {} answers {call:?}", s.name())));
+            }
+        }
+        let open = s.fed(&mut state, Some(b"X"));
+        let last = s.fed(&mut state, None);
+        let after = s.fed(&mut state, Some(b""));
+        let wanted = (Ok((1, None)), Ok((0, Some(b"R\t1000001\t28\t0\n".to_vec()))), Err(29));
+        if (&open, &last, &after) != (&wanted.0, &wanted.1, &wanted.2) || state.numbers[0] != 1_000_000 {
+            return Err(Mismatch(format!("past the limit: {} answers {open:?}, {last:?}, {after:?}", s.name())));
+        }
+    }
+    Ok(())
 }
 
 /// What every call answered, and the states after them; the last is the finish.
@@ -68,7 +98,7 @@ fn whole_sheet(c: &mut Comparison) -> Outcome {
     if text.len() > 20_000 {
         text.truncate(20_000);
     }
-    let (one, other) = (cuts(&mut c.rng, text.len()), cuts(&mut c.rng, text.len()));
+    let (one, other) = (cuts(&mut c.rng, &text), cuts(&mut c.rng, &text));
     let expected = fed(&c.reference, &text, &one);
     c.tally.count_lines(Function::Stream, &printed(&expected.0));
     let input = || format!("sheet {} in {one:?}", shown(&text));

@@ -6,12 +6,13 @@
  *
  * Answers. A call answers 0 and writes its results, or answers a refusal number (enum swivelcrane_refusal) or
  * SWIVELCRANE_WRONG_LENGTH, and then writes nothing. swivelcrane_sheet and swivelcrane_plan answer the length of what
- * they wrote, or minus SWIVELCRANE_WRONG_LENGTH; swivelcrane_join the count of numbers, or minus the number. Every input has
- * its answer: nothing has to be checked beforehand.
+ * they wrote, or minus SWIVELCRANE_WRONG_LENGTH; swivelcrane_join the count of numbers, swivelcrane_feed and
+ * swivelcrane_finish the length of what a line prints, or minus the number. Every input has its answer: nothing has to be
+ * checked beforehand.
  *
  * Every array is handed over as a pointer and the number of its elements. A pointer must be valid for that many elements,
- * also where there are none; arrays that are written must not overlap others of the same call. There is no state: calls
- * may run side by side. */
+ * also where there are none; arrays that are written must not overlap others of the same call. There is no state but what
+ * the caller keeps: calls may run side by side. */
 #ifndef SWIVELCRANE_H
 #define SWIVELCRANE_H
 
@@ -24,7 +25,7 @@ extern "C" {
 
 /* The version of this interface: a function or a number that is added raises the minor, any other change the major. */
 #define SWIVELCRANE_VERSION_MAJOR 4
-#define SWIVELCRANE_VERSION_MINOR 3
+#define SWIVELCRANE_VERSION_MINOR 4
 
 /* The refusal numbers by name; README.md says of each what to do. 1 is not given. */
 enum swivelcrane_refusal {
@@ -52,7 +53,9 @@ enum swivelcrane_refusal {
     SWIVELCRANE_REFUSAL_PLANE = 23,    /* an easting or northing not finite, or 10,000,000 m or more in size */
     SWIVELCRANE_REFUSAL_PROFILE = 25,  /* a step or a point that the chain's profile doesn't have */
     SWIVELCRANE_REFUSAL_ROW = 26,      /* a row of answers that is shorter than the row of points */
-    SWIVELCRANE_REFUSAL_BUFFER = 27    /* a buffer of fewer than 200 bytes: only of the lot plan (swivelcrane_lot_plan.h) */
+    SWIVELCRANE_REFUSAL_BUFFER = 27,   /* a buffer of fewer than 200 bytes: only of the lot plan (swivelcrane_lot_plan.h) */
+    SWIVELCRANE_REFUSAL_LIMIT = 28,    /* a line past the first million: only in the text of a sheet in fragments */
+    SWIVELCRANE_REFUSAL_STATE = 29     /* a call after the finish, or with a state that is none */
 };
 
 /* An array has not the number of elements that its call asks for. It comes before every refusal. */
@@ -159,6 +162,30 @@ int64_t swivelcrane_later_fault(const uint8_t *first, size_t first_length, const
  * names, `E`, tab, 2009 or 2021, and under 2021 where there is no such line. */
 int64_t swivelcrane_sheet(const uint8_t *input, size_t input_length, uint8_t *out, size_t out_length);
 int64_t swivelcrane_plan(const uint8_t *input, size_t input_length, uint8_t *out, size_t out_length);
+
+/* A sheet in fragments, as they come over a radio link. The caller keeps its state between the calls: numbers, and the bytes of the
+ * line that is open. Numbers to a state, in this order:
+ *   0  lines answered, 0 to 1,000,000   1  bytes kept of the open line, 0 to 200 (200: it is too long, the rest is skipped)
+ *   2  1 where a line beginning with S or E was refused, else 0   3  1 where a point line of good form was read, else 0
+ *   4  1 after the finish, else 0   5  profile, 2009 or 2021   6  steps, 0 to 8 and no more than lines   7..110  the steps, 13 numbers each
+ * A fresh state is all zeros but its profile, 2021, and so are its 200 bytes of line all zeros. A step that a line brings in stands as
+ * swivelcrane_forward takes it, with 0 where its kind has no number; steps past their count are neither read nor written. */
+#define SWIVELCRANE_STREAM_NUMBERS 111
+#define SWIVELCRANE_STREAM_LINE 200
+
+/* Takes a fragment of any length: up to and with its first line feed, or all of it where it has none. told has 2 elements and becomes the
+ * number of bytes taken, and 1 where a line was answered, 0 where none was completed; call again with what was not taken. The answer is
+ * the length of what the line prints, 0 for a line that prints nothing; it stands at the start of out, which has 200 bytes or more, and the
+ * bytes past it are as they were. Each line is answered as swivelcrane_sheet answers it, without a limit in bytes; a line past the first
+ * million prints R, 1000001, 28, 0, is not read and moves nothing. With a line answered all bytes of line become 0; without one the
+ * fragment's bytes stand behind those kept, as far as there is room.
+ * Refusals, as minus the number, with nothing written and the state as it was: 29 (finished, a count or a flag out of its range, or a bad
+ * chain), for an empty fragment too; minus SWIVELCRANE_WRONG_LENGTH comes before it. */
+int64_t swivelcrane_feed(int64_t *state, size_t state_length, uint8_t *line, size_t line_length, const uint8_t *fragment,
+                         size_t fragment_length, uint8_t *out, size_t out_length, int64_t *told, size_t told_length);
+/* Ends the sheet: a line left open is refused with 18 (28 past the limit), and the answer is the length of its R line; with none open it is
+ * 0. All bytes of line become 0, and every later call on this state is 29. Refusals as of swivelcrane_feed. */
+int64_t swivelcrane_finish(int64_t *state, size_t state_length, uint8_t *line, size_t line_length, uint8_t *out, size_t out_length);
 
 #ifdef __cplusplus
 }

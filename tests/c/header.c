@@ -358,11 +358,66 @@ static void programs(void) {
     prints(swivelcrane_plan, TEXT("O\t1\t1440000000\t036720000000\t50000\t-25000\nG\tb1\t1\t2\n"), "R\t1\t22\t15\nR\t2\t21\t2\n", "places in a plan");
 }
 
+/* A sheet in pieces of one length, whose answers together are those of one run; then the state is finished. */
+static void in_pieces(const uint8_t *sheet, size_t length, size_t piece) {
+    enum { NUMBERS = SWIVELCRANE_STREAM_NUMBERS, LINE = SWIVELCRANE_STREAM_LINE };
+    static uint8_t whole[SWIVELCRANE_ROOM(65536)];
+    int64_t state[NUMBERS] = {0, 0, 0, 0, 0, 2021}, told[2] = {0, 0};
+    uint8_t line[LINE] = {0}, answer[LINE];
+    size_t printed = 0, lines = 0;
+    const int64_t size = swivelcrane_sheet(sheet, length, whole, SWIVELCRANE_ROOM(length));
+    for (size_t at = 0; at < length; at += (size_t)told[0]) {
+        const size_t left = length - at < piece ? length - at : piece;
+        memset(answer, 0xA5, LINE);
+        const int64_t count = swivelcrane_feed(state, NUMBERS, line, LINE, sheet + at, left, answer, LINE, told, 2);
+        if (count < 0 || told[0] <= 0) {
+            hold(0, "feed");
+            return;
+        }
+        hold(memcmp(whole + printed, answer, (size_t)count) == 0 && answer[count] == 0xA5, "feed, as in one run");
+        hold(told[1] == (sheet[at + (size_t)told[0] - 1] == '\n') && (told[1] == 1 || count == 0), "feed, a line answered");
+        printed += (size_t)count;
+        lines += (size_t)told[1];
+    }
+    const int open = length > 0 && sheet[length - 1] != '\n';
+    const int64_t count = swivelcrane_finish(state, NUMBERS, line, LINE, answer, LINE);
+    hold(count >= 0 && memcmp(whole + printed, answer, (size_t)count) == 0 && (int64_t)printed + count == size, "finish, as in one run");
+    hold(state[0] == (int64_t)lines + open && state[1] == 0 && state[4] == 1 && line[0] == 0, "finish, the state");
+    hold(swivelcrane_finish(state, NUMBERS, line, LINE, answer, LINE) == -SWIVELCRANE_REFUSAL_STATE, "finish: 29");
+    hold(swivelcrane_feed(state, NUMBERS, line, LINE, sheet, 0, answer, LINE, told, 2) == -SWIVELCRANE_REFUSAL_STATE, "feed, after the finish: 29");
+}
+
+static void streams(void) {
+    enum { NUMBERS = SWIVELCRANE_STREAM_NUMBERS, LINE = SWIVELCRANE_STREAM_LINE };
+    static const char sheet[] = "E\t2021\n" SHIFT A1 "\nP\t" SHIFT A1 "P\tA1";
+    int64_t state[NUMBERS] = {0}, told[2] = {CANARY, CANARY};
+    uint8_t line[LINE] = {'S'}, answer[LINE + 1] = {0xA5};
+    for (size_t piece = 1; piece < sizeof sheet; piece++)
+        in_pieces(TEXT(sheet), piece);
+    in_pieces(TEXT(SHIFT), 5);
+    in_pieces(TEXT(""), 5);
+    refused(swivelcrane_feed(state, NUMBERS, line, LINE, TEXT("\n"), answer, LINE, told, 2), -SWIVELCRANE_REFUSAL_STATE, "feed, no profile: 29");
+    state[5] = 2021;
+    state[0] = 1000001;
+    refused(swivelcrane_feed(state, NUMBERS, line, LINE, TEXT(""), answer, LINE, told, 2), -SWIVELCRANE_REFUSAL_STATE, "feed, too many lines: 29");
+    refused(swivelcrane_finish(state, NUMBERS, line, LINE, answer, LINE), -SWIVELCRANE_REFUSAL_STATE, "finish, too many lines: 29");
+    refused(swivelcrane_feed(state, NUMBERS - 1, line, LINE, TEXT("\n"), answer, LINE, told, 2), -SWIVELCRANE_WRONG_LENGTH, "feed, a number short");
+    refused(swivelcrane_feed(state, NUMBERS, line, LINE - 1, TEXT("\n"), answer, LINE, told, 2), -SWIVELCRANE_WRONG_LENGTH, "feed, a byte short");
+    refused(swivelcrane_feed(state, NUMBERS, line, LINE, TEXT("\n"), answer, LINE - 1, told, 2), -SWIVELCRANE_WRONG_LENGTH, "feed, room for 199");
+    refused(swivelcrane_feed(state, NUMBERS, line, LINE, TEXT("\n"), answer, LINE, told, 1), -SWIVELCRANE_WRONG_LENGTH, "feed, one told");
+    refused(swivelcrane_finish(state, NUMBERS, line, LINE, answer, LINE - 1), -SWIVELCRANE_WRONG_LENGTH, "finish, room for 199");
+    hold(line[0] == 'S' && answer[0] == 0xA5 && told[0] == CANARY && told[1] == CANARY && state[0] == 1000001, "a refused call writes nothing");
+    state[0] = 1000000;
+    state[1] = 1;
+    hold(swivelcrane_feed(state, NUMBERS, line, LINE, TEXT("\n\n"), answer, LINE + 1, told, 2) == 15 && memcmp(answer, "R\t1000001\t28\t0\n", 15) == 0, "feed, past the limit: 28");
+    hold(told[0] == 1 && told[1] == 1 && line[0] == 0 && state[0] == 1000000 && state[1] == 0 && state[2] == 0, "feed, past the limit: nothing moves");
+}
+
 static void numbers(void) {
     hold(SWIVELCRANE_ROOM(0) == 9 && SWIVELCRANE_ROOM(1 + 1) == 35 && SWIVELCRANE_ROOM(65535) == 851964, "the room");
     hold(SWIVELCRANE_ROOM(65536) == 851977 && SWIVELCRANE_ROOM(65537) == 851977, "the most room");
     hold(STEP == 13 && POINT == 7 && SWIVELCRANE_WRONG_LENGTH == 255, "numbers to a step, to a point, a wrong length");
-    hold(SWIVELCRANE_VERSION_MAJOR == 4 && SWIVELCRANE_VERSION_MINOR == 3, "the version");
+    hold(SWIVELCRANE_VERSION_MAJOR == 4 && SWIVELCRANE_VERSION_MINOR == 4, "the version");
     hold(SWIVELCRANE_REFUSAL_PLACE == 7 && SWIVELCRANE_REFUSAL_EARLIER == 8 && SWIVELCRANE_REFUSAL_LONG == 15, "the numbers that only a text has");
 }
 
@@ -383,6 +438,7 @@ int main(void) {
     later();
     faults_of_the_later();
     programs();
+    streams();
     if (faults == 0)
         printf("tests/c: every function of the header answers as stored\n");
     return faults != 0;

@@ -23,6 +23,8 @@ pub const PROJECTED: u8 = 23;
 pub const PROFILE: u8 = 25;
 pub const ROW: u8 = 26;
 pub const BUFFER: u8 = 27;
+pub const LIMIT: u8 = 28;
+pub const ENDED: u8 = 29;
 
 /// A refused line: the number and, for its form, the byte where the offending field begins.
 #[derive(Clone, Copy, PartialEq, Eq, Debug)]
@@ -83,6 +85,14 @@ impl Profile {
             2009 => Ok(Profile::Y2009),
             2021 => Ok(Profile::Y2021),
             _ => Err(RANGE),
+        }
+    }
+
+    pub fn year(self) -> i64 {
+        if self == Profile::Y2009 {
+            2009
+        } else {
+            2021
         }
     }
 

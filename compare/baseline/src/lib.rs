@@ -16,4 +16,5 @@ pub mod round;
 pub mod rso;
 pub mod sheet;
 pub mod steps;
+pub mod stream;
 pub mod write;

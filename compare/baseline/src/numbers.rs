@@ -118,7 +118,7 @@ pub fn join(first_profile: i64, first: &[i64], second_profile: i64, second: &[i6
 }
 
 /// The chain's own faults, without making it ready.
-fn sound(profile: i64, rows: &[i64]) -> Result<Profile, u8> {
+pub(crate) fn sound(profile: i64, rows: &[i64]) -> Result<Profile, u8> {
     let profile = Profile::of(profile)?;
     if rows.len() > 8 * 13 {
         return Err(NINTH);
@@ -138,7 +138,7 @@ fn sound(profile: i64, rows: &[i64]) -> Result<Profile, u8> {
     Ok(profile)
 }
 
-fn chain(profile: Profile, rows: &[i64]) -> Result<Chain, u8> {
+pub(crate) fn chain(profile: Profile, rows: &[i64]) -> Result<Chain, u8> {
     if rows.len() > 8 * 13 {
         return Err(NINTH);
     }

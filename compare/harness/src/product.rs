@@ -1,7 +1,7 @@
 //! The product through its C interface. Each call watches the bytes around and in what it lends: on a
 //! refusal nothing may be written, and never anything past the lent slice.
 
-use crate::subject::{Answer, Day, Lot, Subject, STRANGE, UNWRITTEN, WROTE};
+use crate::subject::{Answer, Day, Fed, Lot, State, Subject, STRANGE, UNWRITTEN, WROTE};
 use paper::numbers::PointRow;
 #[cfg(feature = "standin")]
 use standin as _;
@@ -123,6 +123,26 @@ mod c {
             second: *const u8,
             second_len: usize,
             out: *mut i64,
+            out_len: usize,
+        ) -> i64;
+        pub fn swivelcrane_feed(
+            numbers: *mut i64,
+            numbers_len: usize,
+            line: *mut u8,
+            line_len: usize,
+            fragment: *const u8,
+            fragment_len: usize,
+            out: *mut u8,
+            out_len: usize,
+            told: *mut i64,
+            told_len: usize,
+        ) -> i64;
+        pub fn swivelcrane_finish(
+            numbers: *mut i64,
+            numbers_len: usize,
+            line: *mut u8,
+            line_len: usize,
+            out: *mut u8,
             out_len: usize,
         ) -> i64;
         pub fn swivelcrane_lot_plan(
@@ -264,6 +284,36 @@ pub fn later_fault(first: &[u8], second: &[u8], out: &mut [i64]) -> i64 {
     }
 }
 
+pub fn feed(numbers: &mut [i64], line: &mut [u8], fragment: &[u8], out: &mut [u8], told: &mut [i64]) -> i64 {
+    unsafe {
+        c::swivelcrane_feed(
+            numbers.as_mut_ptr(),
+            numbers.len(),
+            line.as_mut_ptr(),
+            line.len(),
+            fragment.as_ptr(),
+            fragment.len(),
+            out.as_mut_ptr(),
+            out.len(),
+            told.as_mut_ptr(),
+            told.len(),
+        )
+    }
+}
+
+pub fn finish(numbers: &mut [i64], line: &mut [u8], out: &mut [u8]) -> i64 {
+    unsafe {
+        c::swivelcrane_finish(
+            numbers.as_mut_ptr(),
+            numbers.len(),
+            line.as_mut_ptr(),
+            line.len(),
+            out.as_mut_ptr(),
+            out.len(),
+        )
+    }
+}
+
 pub fn lot_plan(lot: &Lot, out: &mut [u8]) -> i64 {
     let [ellipsoid, latitude, longitude, easting, northing] = lot.origin;
     unsafe {
@@ -298,6 +348,9 @@ pub fn room(input: &[u8]) -> usize {
 
 /// The numbers of eight steps: the room for a joined chain.
 pub const JOINED: usize = 104;
+
+/// Room for the answer of one line.
+pub const ANSWER: usize = 200;
 
 pub const MARK: i64 = 0x5a5a_a5a5_1234_4321;
 pub const FLOAT_MARK: f64 = -1.25e300;
@@ -399,6 +452,26 @@ impl Subject for Product {
     }
     fn later_fault(&self, first: &[u8], second: &[u8]) -> Answer<[i64; 3]> {
         lend(MARK, |out| later_fault(first, second, out))
+    }
+    fn fed(&self, state: &mut State, fragment: Option<&[u8]>) -> Fed {
+        let (mut out, mut told) = ([0xa5; ANSWER + 1], [MARK; 2]);
+        let lent = &mut out[..ANSWER];
+        let answer = match fragment {
+            Some(fragment) => feed(&mut state.numbers, &mut state.line, fragment, lent, &mut told),
+            None => finish(&mut state.numbers, &mut state.line, lent),
+        };
+        let length = usize::try_from(answer).unwrap_or(0);
+        if length > ANSWER || out[length..].iter().any(|byte| *byte != 0xa5) {
+            return Err(WROTE);
+        }
+        match (answer, fragment, told) {
+            (0.., None, [MARK, MARK]) => Ok((0, Some(out[..length].to_vec()))),
+            (0.., Some(_), [taken, 1]) => Ok((taken as usize, Some(out[..length].to_vec()))),
+            (0, Some(_), [taken, 0]) => Ok((taken as usize, None)),
+            (-255 | -30..=-2, _, [MARK, MARK]) => Err(-answer as u8),
+            (..=-1, _, _) => Err(WROTE),
+            _ => Err(STRANGE),
+        }
     }
     fn lot_plan(&self, lot: &Lot) -> Answer<Vec<u8>> {
         let mut out = vec![0xa5; lot.room + 1];

@@ -4,6 +4,7 @@ use paper::angle::Origin;
 use paper::later::Which;
 use paper::numbers::PointRow;
 use paper::rso::Parameters;
+use paper::stream::{ROOM, STATE};
 
 /// The value or the refusal number; 255 is the wrong length. Floats are compared by their bits.
 pub type Answer<T> = Result<T, u8>;
@@ -35,6 +36,16 @@ pub struct Lot {
     pub room: usize,
 }
 
+/// The state of a sheet in fragments, as the caller keeps it.
+#[derive(Clone, Debug, PartialEq, Eq)]
+pub struct State {
+    pub numbers: [i64; STATE],
+    pub line: [u8; ROOM],
+}
+
+/// The bytes taken and the text of a line answered; or the number.
+pub type Fed = Answer<(usize, Option<Vec<u8>>)>;
+
 pub trait Subject {
     fn name(&self) -> &'static str;
     fn forward(&self, profile: i64, chain: &[i64], point: &PointRow) -> Answer<PointRow>;
@@ -58,6 +69,8 @@ pub trait Subject {
     fn later_fault(&self, first: &[u8], second: &[u8]) -> Answer<[i64; 3]>;
     /// A line of the lot plan.
     fn lot_plan(&self, lot: &Lot) -> Answer<Vec<u8>>;
+    /// One call with a fragment, or the finish where there is none, on a state that the caller keeps.
+    fn fed(&self, state: &mut State, fragment: Option<&[u8]>) -> Fed;
     fn sheet(&self, input: &[u8]) -> Vec<u8>;
     fn plan(&self, input: &[u8]) -> Vec<u8>;
 }
@@ -118,6 +131,16 @@ impl Subject for Paper {
     fn later_fault(&self, first: &[u8], second: &[u8]) -> Answer<[i64; 3]> {
         let refused = paper::later::later(first, second).err();
         Ok(refused.map_or([0; 3], |r| [i64::from(r.number), r.line, r.place as i64]))
+    }
+    fn fed(&self, state: &mut State, fragment: Option<&[u8]>) -> Fed {
+        let State { numbers, line } = state;
+        match fragment {
+            Some(fragment) => {
+                let fed = paper::stream::feed(numbers, line, fragment)?;
+                Ok((fed.taken, fed.answer.map(String::into_bytes)))
+            }
+            None => Ok((0, Some(paper::stream::finish(numbers, line)?.into_bytes()))),
+        }
     }
     fn lot_plan(&self, lot: &Lot) -> Answer<Vec<u8>> {
         let [e, a, b, fe, fn_] = lot.origin;
@@ -187,6 +210,20 @@ impl Subject for Baseline {
     }
     fn later_fault(&self, first: &[u8], second: &[u8]) -> Answer<[i64; 3]> {
         Ok(baseline::later::later(first, second).err().unwrap_or_default())
+    }
+    fn fed(&self, state: &mut State, fragment: Option<&[u8]>) -> Fed {
+        let mut state = baseline::stream::State { numbers: &mut state.numbers, line: &mut state.line };
+        let mut out = Vec::new();
+        match fragment {
+            Some(fragment) => {
+                let (taken, answered) = state.feed(fragment, &mut out)?;
+                Ok((taken, answered.then_some(out)))
+            }
+            None => {
+                state.finish(&mut out)?;
+                Ok((0, Some(out)))
+            }
+        }
     }
     fn lot_plan(&self, lot: &Lot) -> Answer<Vec<u8>> {
         let mut out = Vec::new();

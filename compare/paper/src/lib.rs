@@ -28,3 +28,4 @@ pub mod rso;
 pub mod series;
 pub mod sheet;
 pub mod step;
+pub mod stream;

@@ -23,7 +23,7 @@ pub fn run(input: &[u8], mut reader: impl Reader) -> Vec<u8> {
     out
 }
 
-fn refused(line: usize, Fault { number, place }: Fault) -> String {
+pub fn refused(line: usize, Fault { number, place }: Fault) -> String {
     format!("R\t{line}\t{number}\t{place}\n")
 }
 

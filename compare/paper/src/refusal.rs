@@ -35,6 +35,10 @@ pub const PROFILE: Refusal = 25;
 pub const ROW: Refusal = 26;
 /// A buffer of fewer than 200 bytes.
 pub const BUFFER: Refusal = 27;
+/// A line past the first million.
+pub const LIMIT: Refusal = 28;
+/// A call after the finish, or with a state that is none.
+pub const ENDED: Refusal = 29;
 
 /// A refusal of a line, and the byte where the first offending field begins: 0 for all but 18 to 22.
 #[derive(Clone, Copy, Debug, PartialEq, Eq)]

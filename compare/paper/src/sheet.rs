@@ -4,7 +4,7 @@ use crate::chain::{self, MOST_STEPS};
 use crate::lines;
 use crate::profile::Profile;
 use crate::program::{self, Reader};
-use crate::refusal::{unless, Fault, EARLIER, JOIN, NINTH, ORDER, PROFILE, RANGE};
+use crate::refusal::{unless, Fault, EARLIER, JOIN, LENGTH, NINTH, ORDER, PROFILE, RANGE};
 use crate::step::{self, Step};
 
 pub fn sheet(input: &[u8]) -> Vec<u8> {
@@ -37,6 +37,13 @@ impl Reader for Sheet {
 }
 
 impl Sheet {
+    /// Request A8: bytes that are no line, too many or with no line feed to come. Their first one still counts for 8.
+    pub fn no_line(&mut self, bytes: &[u8]) -> Fault {
+        self.lines_read += 1;
+        self.step_refused |= matches!(bytes.first(), Some(b'S' | b'E'));
+        Fault { number: LENGTH, place: bytes.len() }
+    }
+
     /// Order: 18 to 22, 7, 2. An accepted edition prints nothing; a refused one leaves that of 2021.
     fn edition(&mut self, line: &[u8]) -> Result<String, Fault> {
         let year = lines::edition(line)?;

@@ -73,6 +73,13 @@ fn onto_rso_and_back() {
     stored(&text.concat());
 }
 
+#[test]
+fn over_the_radio() {
+    let sheet = include_bytes!("../../../examples/radio.sheet");
+    let answers = paper::sheet::sheet(sheet);
+    stored(&String::from_utf8(answers).expect("ASCII"));
+}
+
 const ARAU_CHAIN: [i64; 52] = [
     84, 0, 6, 2000000, 6, 2006586, -15832, -4363, -9706, 0, 0, 0, 0, //
     86, 0, 6, 2006586, 6, 2010000, -1876, -90, -684, 0, 0, 0, 0, //

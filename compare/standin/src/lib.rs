@@ -3,6 +3,7 @@
 
 use baseline::angle::{self, Origin};
 use baseline::rso;
+use baseline::stream::State;
 use std::slice;
 
 const WRONG_LENGTH: i64 = 255;
@@ -231,6 +232,72 @@ pub unsafe extern "C" fn swivelcrane_later_fault(
     let first = slice::from_raw_parts(first, first_len);
     let second = slice::from_raw_parts(second, second_len);
     give(Ok(baseline::later::later(first, second).err().unwrap_or_default()), out, out_len)
+}
+
+/// The caller's state, where it has its lengths.
+///
+/// # Safety
+/// Each pointer and length are a live slice.
+unsafe fn state<'a>(
+    numbers: *mut i64,
+    numbers_len: usize,
+    line: *mut u8,
+    line_len: usize,
+) -> Option<State<'a>> {
+    let numbers = slice::from_raw_parts_mut(numbers, numbers_len).try_into().ok()?;
+    let line = slice::from_raw_parts_mut(line, line_len).try_into().ok()?;
+    Some(State { numbers, line })
+}
+
+/// # Safety
+/// Each pointer and length are a live slice.
+#[no_mangle]
+pub unsafe extern "C" fn swivelcrane_feed(
+    numbers: *mut i64,
+    numbers_len: usize,
+    line: *mut u8,
+    line_len: usize,
+    fragment: *const u8,
+    fragment_len: usize,
+    out: *mut u8,
+    out_len: usize,
+    told: *mut i64,
+    told_len: usize,
+) -> i64 {
+    let state = state(numbers, numbers_len, line, line_len).filter(|_| out_len >= 200 && told_len == 2);
+    let Some(mut state) = state else { return -WRONG_LENGTH };
+    let mut text = Vec::new();
+    match state.feed(slice::from_raw_parts(fragment, fragment_len), &mut text) {
+        Ok((taken, answered)) => {
+            slice::from_raw_parts_mut(out, text.len()).copy_from_slice(&text);
+            slice::from_raw_parts_mut(told, 2).copy_from_slice(&[taken as i64, i64::from(answered)]);
+            text.len() as i64
+        }
+        Err(number) => -i64::from(number),
+    }
+}
+
+/// # Safety
+/// Each pointer and length are a live slice.
+#[no_mangle]
+pub unsafe extern "C" fn swivelcrane_finish(
+    numbers: *mut i64,
+    numbers_len: usize,
+    line: *mut u8,
+    line_len: usize,
+    out: *mut u8,
+    out_len: usize,
+) -> i64 {
+    let state = state(numbers, numbers_len, line, line_len).filter(|_| out_len >= 200);
+    let Some(mut state) = state else { return -WRONG_LENGTH };
+    let mut text = Vec::new();
+    match state.finish(&mut text) {
+        Ok(()) => {
+            slice::from_raw_parts_mut(out, text.len()).copy_from_slice(&text);
+            text.len() as i64
+        }
+        Err(number) => -i64::from(number),
+    }
 }
 
 /// The lot plan's own library has this one function.

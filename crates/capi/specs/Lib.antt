@@ -5,3 +5,4 @@ pub mod Printing
 pub mod Rso
 pub mod Joining
 pub mod PointRow
+pub mod Fragments

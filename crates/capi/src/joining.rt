@@ -18,14 +18,14 @@ fn are_sized(first: usize, second: usize, out: usize) -> bool
 }
 
 // A refusal number as this call returns it.
-fn minus(number: u8) -> i64
+pub(crate) fn minus(number: u8) -> i64
     ensures { λ r. ⌜ r ≡ negℤ (pos number) ⌝ }
 {
     0 - (number as i64)
 }
 
 // All of a row into another, from a place on.
-fn copy(from: &[i64], out: &mut [i64], at: usize)
+pub(crate) fn copy(from: &[i64], out: &mut [i64], at: usize)
     requires { ⌜ at + length (now from) ≤ length (now out) ⌝ }
     ensures { λ _. ⌜ now (out .exit) ≡ sets (now (out .entry)) at (now (from .entry)) ⌝ }
 {

@@ -2,6 +2,7 @@
 // Every call answers every input: 0 with its results written, or a refusal number, or WRONG_LENGTH, with nothing written.
 pub mod conversion;
 mod decode;
+pub mod fragments;
 pub mod from_xyz;
 pub mod geodetic;
 pub mod joining;
@@ -11,6 +12,7 @@ pub mod projected;
 pub mod rounded;
 pub mod row;
 pub mod rso;
+mod state;
 mod status;
 
 // An array that has not the number of elements that its call asks for. It comes before every refusal.

@@ -102,7 +102,7 @@ module _ {st : State} {l : List ℤ} {s : Sheet} (h : Holds st l s) (t : Step) w
           }
 
 -- no step was read before the first line
-no-steps : (ss : List Step) → length ss < 1 → ss ≡ []
+pub no-steps : (ss : List Step) → length ss < 1 → ss ≡ []
 no-steps [] h = refl
 no-steps (t ∷ ss) h = absurd (omega arith)
 

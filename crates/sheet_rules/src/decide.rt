@@ -1,6 +1,6 @@
 // One line decided by value, with nothing printed. The whole input is a module below this one, so that what these functions ask of their caller stays theirs.
 ghost use mathlib.Core.Path.{_≡_};
-ghost use Prim.Native.Nat.{_<_};
+ghost use Prim.Native.Nat.{_<_, _≤_};
 ghost use lib.IntN.{ℤ};
 ghost use lib.ListN.{length};
 ghost use mathlib.Core.List.{List};
@@ -23,11 +23,12 @@ use line::Fault;
 use line::PointLine;
 use line::StepLine;
 
+pub mod standing;
 pub mod whole;
 
 // The state after a line.
 fn after(state: State, refused: bool, closed: bool) -> State
-    requires { ⌜ state .line < 1000000 ⌝ }
+    requires { ⌜ state .line ≤ 1000000 ⌝ }
     ensures { λ r. ⌜ r ≡ afterIn state refused closed ⌝ }
 {
     State {
@@ -40,7 +41,7 @@ fn after(state: State, refused: bool, closed: bool) -> State
 
 // A line refused for what it says or where it stands, and whether it counts as a refused step, and as closing the chain.
 fn refuse(state: State, number: u8, refused: bool, closed: bool) -> Decided
-    requires { ⌜ state .line < 1000000 ⌝ }
+    requires { ⌜ state .line ≤ 1000000 ⌝ }
     ensures { λ r. ⌜ r ≡ refusedIn state number 0 refused closed ⌝ }
 {
     let next = after(state, refused, closed);
@@ -52,7 +53,7 @@ fn refuse(state: State, number: u8, refused: bool, closed: bool) -> Decided
 
 // A line refused for its form, likewise.
 fn malformed(state: State, fault: Fault, refused: bool, closed: bool) -> Decided
-    requires { ⌜ state .line < 1000000 ⌝ }
+    requires { ⌜ state .line ≤ 1000000 ⌝ }
     ensures { λ r. ⌜ r ≡ refusedIn state (fault .number) (fault .place) refused closed ⌝ }
 {
     let next = after(state, refused, closed);
@@ -64,7 +65,7 @@ fn malformed(state: State, fault: Fault, refused: bool, closed: bool) -> Decided
 
 // A step whose line is good by itself.
 fn take_step(state: State, step: Step, numbers: &mut Prepared) -> Decided
-    requires { ⌜ (state .line < 1000000) × (stepFault (state .profile) step ≡ 0) ⌝ }
+    requires { ⌜ (state .line ≤ 1000000) × (stepFault (state .profile) step ≡ 0) ⌝ }
     ensures { λ r. ⌜ ((s : Sheet) → Holds state (now (numbers .entry)) s → Gave (stepReply s (step-line.Step step)) (afterStep s (step-line.Step step)) (now (numbers .exit)) r) ⌝ }
 {
     if state.refused {
@@ -86,7 +87,7 @@ fn take_step(state: State, step: Step, numbers: &mut Prepared) -> Decided
 
 // A line that begins with S.
 fn decide_step(state: State, numbers: &mut Prepared, text: &[u8]) -> Decided
-    requires { ⌜ state .line < 1000000 ⌝ }
+    requires { ⌜ state .line ≤ 1000000 ⌝ }
     ensures { λ r. ⌜ ((s : Sheet) → Holds state (now (numbers .entry)) s → Gave (stepReply s (readStep (s .profile) (now (text .entry)))) (afterStep s (readStep (s .profile) (now (text .entry)))) (now (numbers .exit)) r) ⌝ }
 {
     match line::read_step(state.profile, text) {
@@ -98,7 +99,7 @@ fn decide_step(state: State, numbers: &mut Prepared, text: &[u8]) -> Decided
 
 // A point whose line is good by itself.
 fn convert_point(state: State, numbers: &Prepared, point: Point) -> Decided
-    requires { ⌜ (state .line < 1000000) × (pointFault (state .profile) point ≡ 0) ⌝ }
+    requires { ⌜ (state .line ≤ 1000000) × (pointFault (state .profile) point ≡ 0) ⌝ }
     ensures { λ r. ⌜ ((s : Sheet) → Holds state (now (numbers .entry)) s → Gave (pointReply s (point-line.Point point)) (afterPoint s (point-line.Point point)) (now (numbers .entry)) r) ⌝ }
 {
     if state.refused {
@@ -118,7 +119,7 @@ fn convert_point(state: State, numbers: &Prepared, point: Point) -> Decided
 
 // A line that begins with P. A malformed one leaves the chain open; refused for what it says, it closes it.
 fn decide_point(state: State, numbers: &Prepared, text: &[u8]) -> Decided
-    requires { ⌜ state .line < 1000000 ⌝ }
+    requires { ⌜ state .line ≤ 1000000 ⌝ }
     ensures { λ r. ⌜ ((s : Sheet) → Holds state (now (numbers .entry)) s → Gave (pointReply s (readPoint (s .profile) (now (text .entry)))) (afterPoint s (readPoint (s .profile) (now (text .entry)))) (now (numbers .entry)) r) ⌝ }
 {
     match line::read_point(state.profile, text) {
@@ -130,7 +131,7 @@ fn decide_point(state: State, numbers: &Prepared, text: &[u8]) -> Decided
 
 // An edition line of good form: accepted on the first line, where its year is a profile.
 fn take_edition(state: State, year: i64) -> Decided
-    requires { ⌜ state .line < 1000000 ⌝ }
+    requires { ⌜ state .line ≤ 1000000 ⌝ }
     ensures { λ r. ⌜ ((s : Sheet) (numbers : List ℤ) → Holds state numbers s → Gave (editionReply s (edition-line.Edition year)) (afterEdition s (edition-line.Edition year)) numbers r) ⌝ }
 {
     if state.line != 1 {
@@ -152,7 +153,7 @@ fn take_edition(state: State, year: i64) -> Decided
 
 // A line that begins with E. Refused, it counts as a refused step.
 fn decide_edition(state: State, text: &[u8]) -> Decided
-    requires { ⌜ state .line < 1000000 ⌝ }
+    requires { ⌜ state .line ≤ 1000000 ⌝ }
     ensures { λ r. ⌜ ((s : Sheet) (numbers : List ℤ) → Holds state numbers s → Gave (editionReply s (readEdition (now (text .entry)))) (afterEdition s (readEdition (now (text .entry)))) numbers r) ⌝ }
 {
     match line::read_edition(text) {
@@ -163,7 +164,7 @@ fn decide_edition(state: State, text: &[u8]) -> Decided
 
 // Any line but the empty piece, by its first byte.
 fn decide(state: State, numbers: &mut Prepared, text: &[u8]) -> Decided
-    requires { ⌜ (state .line < 1000000) × (0 < length (now text)) ⌝ }
+    requires { ⌜ (state .line ≤ 1000000) × (0 < length (now text)) ⌝ }
     ensures { λ r. ⌜ ((s : Sheet) → Holds state (now (numbers .entry)) s → Gave (replyOf s (now (text .entry))) (nextOf s (now (text .entry))) (now (numbers .exit)) r) ⌝ }
 {
     let letter = text[0];

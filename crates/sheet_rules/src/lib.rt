@@ -1,10 +1,13 @@
 // A sheet's rules: one line decided by value over a state, and a whole sheet from bytes to bytes.
 mod decide;
 
+pub use decide::standing::answer_line;
+pub use decide::standing::is_sound;
 pub use decide::whole::sheet;
+pub use decide::whole::write_reply;
 
 // The reply to a line.
-enum Reply {
+pub enum Reply {
     // An accepted step or edition prints nothing.
     Nothing,
     // A point's new line.
@@ -29,4 +32,29 @@ struct State {
 struct Decided {
     reply: Reply,
     state: State,
+}
+
+// Where a sheet stands between two lines, by value. Its chain is steps, as a caller can keep them and hand them back.
+pub struct Standing {
+    // The number of the line to come, from 1; 1,000,001 where no more lines are read.
+    pub line: u64,
+    // The steps accepted, under the edition of the circular that the sheet names.
+    pub chain: chain::Chain,
+    // A line beginning with S or E was refused.
+    pub refused: bool,
+    // A point line of good form was read.
+    pub closed: bool,
+}
+
+// What a line is answered, where a sheet stands somewhere.
+pub enum Response {
+    Replied(Reply),
+    // No sheet can stand there: a count is out of range, or the chain is bad.
+    Unsound,
+}
+
+// What a line is answered, and where the sheet stands after it.
+pub struct Answered {
+    pub standing: Standing,
+    pub response: Response,
 }

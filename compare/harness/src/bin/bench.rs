@@ -12,10 +12,13 @@ use paper::library::radians;
 use paper::numbers::PointRow;
 use paper::oblique::Oblique;
 use paper::rso::Parameters;
+use paper::stream::{fresh, ROOM};
 use std::hint::black_box;
 use std::process::ExitCode;
 
 const BAR: f64 = 1.5;
+/// Of a sheet in pieces of 64 bytes beside the product's own sheet call.
+const PIECES_BAR: f64 = 3.0;
 const FULL: usize = 65_536;
 const CALLS: usize = 1000;
 const DAY: usize = 2000;
@@ -24,6 +27,7 @@ const DAY: usize = 2000;
 struct Report {
     worst: f64,
     at: String,
+    pieces: f64,
 }
 
 impl Report {
@@ -52,6 +56,7 @@ fn main() -> ExitCode {
     let mut report = Report::default();
     sheets(&mut report, &mut rng, &chains);
     linear(&mut rng, &chains);
+    fragments(&mut report, &mut rng, &chains);
     plans(&mut report, &mut rng);
     conversions(&mut report, &mut rng, &chains);
     rows(&mut report, &mut rng, &chains);
@@ -64,7 +69,8 @@ fn main() -> ExitCode {
         processes(&mut report, &mut rng, &chains, std::path::Path::new(&folder));
     }
     println!("bench: worst ratio {:.2} ({}), bar {BAR}", report.worst, report.at);
-    if report.worst > BAR {
+    println!("bench: pieces of 64 bytes {:.2} times the sheet call, bar {PIECES_BAR}", report.pieces);
+    if report.worst > BAR || report.pieces > PIECES_BAR {
         ExitCode::FAILURE
     } else {
         ExitCode::SUCCESS
@@ -113,6 +119,58 @@ fn plans(report: &mut Report, rng: &mut Rng) {
     };
     plan("full", full::plan(rng, FULL));
     plan("bare line feeds", vec![b'\n'; FULL]);
+}
+
+/// A sheet in fragments, over a state of numbers: each call tests the state. Short, so that few runs are interrupted.
+fn fragments(report: &mut Report, rng: &mut Rng, chains: &Chains) {
+    let input = full::sheet(rng, chains, "BBBBBBBB", FULL / 16);
+    let lines = input.iter().filter(|b| **b == b'\n').count();
+    let mut text = Vec::with_capacity(product::ANSWER);
+    for (size, name) in [(FULL, "whole"), (256, "256 bytes"), (64, "64 bytes"), (20, "20 bytes")] {
+        let theirs = || {
+            let (mut numbers, mut line) = (fresh(), [0; ROOM]);
+            let mut state = baseline::stream::State { numbers: &mut numbers, line: &mut line };
+            for mut piece in input.chunks(size) {
+                while !piece.is_empty() {
+                    text.clear();
+                    let (taken, _) = state.feed(piece, &mut text).expect("a good state");
+                    piece = &piece[taken..];
+                }
+            }
+            black_box(state.finish(&mut text).expect("a good state"));
+        };
+        let pair = both(|| fed(&input, size), theirs, lines, 401);
+        report.line(&format!("sheet in fragments, {name}"), "a line", &pair);
+    }
+    for steps in ["T", "B", "BBBBBBBB"] {
+        beside_the_sheet(report, &full::sheet(rng, chains, steps, FULL / 16), steps.len());
+    }
+}
+
+/// The product's calls on a sheet in pieces of that many bytes.
+fn fed(input: &[u8], size: usize) {
+    let (mut numbers, mut line) = (fresh(), [0; ROOM]);
+    let (mut out, mut told) = ([0; product::ANSWER], [0; 2]);
+    for mut piece in input.chunks(size) {
+        while !piece.is_empty() {
+            black_box(product::feed(&mut numbers, &mut line, piece, &mut out, &mut told));
+            piece = &piece[told[0] as usize..];
+        }
+    }
+    black_box(product::finish(&mut numbers, &mut line, &mut out));
+}
+
+/// In pieces of 64 bytes a sheet costs at most three times the product's own sheet call.
+fn beside_the_sheet(report: &mut Report, input: &[u8], steps: usize) {
+    let lines = input.iter().filter(|b| **b == b'\n').count();
+    let mut out = vec![0; product::room(input)];
+    let whole = || {
+        black_box(product::sheet(black_box(input), &mut out));
+    };
+    let pair = both(|| fed(input, 64), whole, lines, 401);
+    let ratio = pair.ratio();
+    println!("  {steps} steps in pieces of 64 bytes: {ratio:.2} times the sheet call (bar {PIECES_BAR})");
+    report.pieces = report.pieces.max(ratio);
 }
 
 /// One full sheet beside four of a quarter, so that both come to as many lines: the ratio is 1 where time

@@ -5,7 +5,7 @@
 
 use harness::arguments;
 use harness::checks::{
-    angles, conversions, geodetic, joins, later, lots, roundings, rows, rso, rso_causes, texts, trips,
+    angles, conversions, geodetic, joins, later, lots, roundings, rows, rso, rso_causes, streams, texts, trips,
 };
 use harness::compare::{Comparison, Outcome};
 use harness::programs::Programs;
@@ -19,6 +19,7 @@ struct Sizes {
     joins: u64,
     rows: u64,
     lots: u64,
+    streams: u64,
     roundings: u64,
     angles: u64,
     geodetic: u64,
@@ -34,6 +35,7 @@ const SHORT: Sizes = Sizes {
     joins: 40_000,
     rows: 20_000,
     lots: 30_000,
+    streams: 2_500,
     roundings: 1_000_000,
     angles: 200_000,
     geodetic: 200_000,
@@ -49,6 +51,7 @@ const LONG: Sizes = Sizes {
     joins: 3_000_000,
     rows: 1_000_000,
     lots: 2_000_000,
+    streams: 100_000,
     roundings: 20_000_000,
     angles: 2_000_000,
     geodetic: 5_000_000,
@@ -100,6 +103,7 @@ fn run(c: &mut Comparison, sizes: &Sizes) -> Outcome {
     timed(&format!("{} sheets and as many plans", sizes.texts), || {
         texts::run(c, sizes.texts, sizes.processes)
     })?;
+    timed(&format!("{} sheets in fragments", sizes.streams), || streams::run(c, sizes.streams))?;
     timed(&format!("{} conversions each way", sizes.conversions), || conversions::run(c, sizes.conversions))?;
     timed(&format!("{} round trips that came home", sizes.trips), || round_trips(c, sizes.trips))?;
     timed(&format!("{} pairs and triples of chains", sizes.joins), || joined(c, sizes.joins))?;

@@ -10,6 +10,7 @@ pub fn run(c: &mut Comparison, count: u64) -> Outcome {
         joins(c)?;
         others(c)?;
         projections(c)?;
+        streams(c)?;
         texts(c)?;
     }
     Ok(())
@@ -114,6 +115,34 @@ fn projections(c: &mut Comparison) -> Outcome {
     let metres = [c.rng.pick(&[500_000.0, f64::NAN]), 500_000.0];
     let number = product::rso_reverse(&parameters, metres, &mut whole);
     decide(&what("RSO reverse"), number, wrong, &whole, MARK)
+}
+
+/// States, lines and rooms of any length; 255 comes before 29.
+fn streams(c: &mut Comparison) -> Outcome {
+    let mut length = |right: usize| if c.rng.once_in(3) { c.rng.index(right + 9) } else { right };
+    let (numbers, line, room, told) = (length(111), length(200), length(200), length(2));
+    let mut state = vec![0; numbers];
+    if let (Some(year), true) = (state.get_mut(5), c.rng.once_in(2)) {
+        *year = 2021;
+    }
+    let before = state.clone();
+    let what = |name: &str| format!("{name} with {numbers} numbers, {line} and {room} bytes, {told} told");
+    let (mut kept, mut out, mut told) = (vec![0; line], vec![0xa5; room], vec![MARK; told]);
+    let wrong = numbers != 111 || line != 200 || room < 200;
+    let number = product::feed(&mut state, &mut kept, b"P\tA", &mut out, &mut told);
+    let number = if number == -255 { 255 } else { number.min(254) };
+    decide(&what("feed"), number, wrong || told.len() != 2, &out, 0xa5)?;
+    if number == 255 && (state != before || kept.iter().any(|b| *b != 0) || told.iter().any(|n| *n != MARK)) {
+        return Err(Mismatch(what("wrote all the same: feed")));
+    }
+    let (mut state, mut kept) = (before.clone(), vec![0; line]);
+    let number = product::finish(&mut state, &mut kept, &mut out);
+    let number = if number == -255 { 255 } else { number.min(254) };
+    decide(&what("finish"), number, wrong, &out, 0xa5)?;
+    if number == 255 && state != before {
+        return Err(Mismatch(what("wrote all the same: finish")));
+    }
+    Ok(())
 }
 
 /// One byte too few is -255; just enough, or more, is not.

@@ -12,5 +12,6 @@ pub mod roundings;
 pub mod rows;
 pub mod rso;
 pub mod rso_causes;
+pub mod streams;
 pub mod texts;
 pub mod trips;

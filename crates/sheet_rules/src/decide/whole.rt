@@ -22,7 +22,7 @@ fn fresh() -> State
 }
 
 // Writes a reply from `at` on, as far as there is room, and answers the place past it.
-fn write_reply(out: &mut [u8], at: usize, reply: Reply) -> usize
+pub fn write_reply(out: &mut [u8], at: usize, reply: Reply) -> usize
     ensures { λ r. ⌜ Wrote (now (out .entry)) at (replyText reply) (now (out .exit)) r ⌝ }
 {
     match reply {

@@ -1,0 +1,133 @@
+-- `capi::fragments::swivelcrane_feed` meets its contract: the lengths, the counts and flags, and then what the library answers. Assumes nothing.
+use mathlib.Core.Path.{_≡_, sym, _∙_, ap}
+use mathlib.Core.Bool.{Bool, true, false, _&&_}
+use Prim.Native.Nat.{_<_}
+use native.Mathlib.Omega.{arith}
+use borrow.Author.Tests.{eqb-true, not-true, not-false}
+use lib.Dec.{eqb}
+use lib.ListN.{length}
+use Rattle.rounding.proofs.Machine.{told}
+use Rattle.ranges.proofs.Ranges.{both}
+use Rattle.sheet_stream.specs.declared.Fed.{Fed}
+use Rattle.sheet_stream.specs.declared.Stream.{Stream}
+use Rattle.sheet_stream.specs.Fragments.{feedOf}
+use Rattle.sheet_stream.proofs.Laws.{within, fed-countable, fed-short}
+use Rattle.capi.specs.Fragments.{sizedState, sizedFeed, stateRange, streamFrom}
+use Rattle.capi.proofs.Streams.{Sized, sized-parts, countable, unsized, unranged, ranged, told-unsized, told-unranged, told-ranged}
+use borrow.Author.Needs.{needs}
+use Rattle.capi.proofs.fragments.swivelcrane_feed.Statement.{statement}
+use Rattle.capi.proofs.fragments.swivelcrane_feed.Tie as tie
+
+are-sized-requires : tie.Need-are-sized-requires
+are-sized-requires c κs = search needs
+
+returns : tie.Need-returns
+returns c =
+    let s = c .before .before .before .before .before .args in
+    let f : Stream → Fed = λ x. feedOf x (s .fragment .now) in
+    let e = sym (ap (λ (b : Bool). b && eqb (length (s .told .now)) 2) (c .before .are-sized .ensures)) ∙ not-true _ (c .if1 .taken) in
+    record { state = unsized f (s .numbers .now) (s .bytes .now) e; tells = told-unsized f (s .numbers .now) (s .bytes .now) (s .told .now) e }
+
+-- past the first test: the lengths
+sized : (c : tie.Else1) → sizedFeed (c .before .before .before .before .before .args .numbers .now) (c .before .before .before .before .before .args .bytes .now) (c .before .before .before .before .before .args .out .now) (c .before .before .before .before .before .args .told .now) ≡ true
+sized c = sym (ap (λ (b : Bool). b && eqb (length (c .before .before .before .before .before .args .told .now)) 2) (c .before .are-sized .ensures)) ∙ not-false _ (c .if1 .left)
+
+parts : (c : tie.Else1) → Sized (length (c .before .before .before .before .before .args .numbers .now)) (length (c .before .before .before .before .before .args .bytes .now)) (length (c .before .before .before .before .before .args .out .now))
+parts c = sized-parts _ _ _ (both _ _ (sized c) .0)
+
+two-told : (c : tie.Else1) → length (c .before .before .before .before .before .args .told .now) ≡ 2
+two-told c =
+    let s = c .before .before .before .before .before .args in
+    eqb-true (length (s .told .now)) 2 (both (sizedState (length (s .numbers .now)) (length (s .bytes .now)) (length (s .out .now))) (eqb (length (s .told .now)) 2) (sized c) .1)
+
+in-range-requires : tie.Need-in-range-requires
+in-range-requires c κs = parts (c .before) .state
+
+minus-requires : tie.Need-minus-requires
+minus-requires c κs = search needs
+
+same-length : tie.Need-same-length
+same-length c = search needs
+
+returns-2 : tie.Need-returns-2
+returns-2 c =
+    let s = c .before .before .before .before .before .before .before .before .before .args in
+    let f : Stream → Fed = λ x. feedOf x (s .fragment .now) in
+    let e = sym (c .before .before .in-range .ensures) ∙ not-true _ (c .before .if2 .taken) in
+    record {
+      state = unranged f (s .numbers .now) (s .bytes .now) (sized (c .before .before .before .before)) e (told (c .minus .ok) ∙ c .minus .ensures);
+      tells = told-unranged f (s .numbers .now) (s .bytes .now) (s .told .now) (sized (c .before .before .before .before)) e;
+    }
+
+-- past the second: the counts and the flags
+good : (c : tie.Else2) → stateRange (c .before .before .before .before .before .before .before .before .args .numbers .now) ≡ true
+good c = sym (c .before .in-range .ensures) ∙ not-false _ (c .if2 .left)
+
+stream-from-requires : tie.Need-stream-from-requires
+stream-from-requires c κs = (parts (c .before .before .before .before .before) .state, parts (c .before .before .before .before .before) .line, good (c .before .before))
+
+feed-requires : tie.Need-feed-requires
+feed-requires c κs = search needs
+
+-- what the library answers
+answer : (c : tie.After-feed) → c .feed .result ≡ feedOf (streamFrom (c .before .before .before .before .before .before .before .before .before .before .before .before .args .numbers .now) (c .before .before .before .before .before .before .before .before .before .before .before .before .args .bytes .now)) (c .before .before .before .before .before .before .before .before .before .before .before .before .args .fragment .now)
+answer c = c .feed .ensures ∙ ap (λ (x : Stream). feedOf x (c .before .before .before .before .before .before .before .before .before .before .before .before .args .fragment .now)) (c .before .stream-from .ensures)
+
+-- a slice has fewer bytes than an i64 counts
+short : (s : tie.Start) → length (s .args .fragment .now) < 9223372036854775808
+short s = omega (arith, s .good .1 .1 .0 .1)
+
+tell-requires : tie.Need-tell-requires
+tell-requires c κs =
+    let s = c .before .before .before .before .before .before .before .before .before .before .before .before .before .args in
+    (two-told (c .before .before .before .before .before .before .before .before), omega (arith, ap (λ (r : Fed). r .taken) (answer (c .before)), within (streamFrom (s .numbers .now) (s .bytes .now)) (s .fragment .now), short (c .before .before .before .before .before .before .before .before .before .before .before .before .before)))
+
+give-requires : tie.Need-give-requires
+give-requires c κs =
+    let s = c .before .before .before .before .before .before .before .before .before .before .before .before .before .before .before .before .before .before .args in
+    let p = parts (c .before .before .before .before .before .before .before .before .before .before .before .before .before) in
+    let x = streamFrom (s .numbers .now) (s .bytes .now) in
+    let k = countable (s .numbers .now) (s .bytes .now) (p .state) (good (c .before .before .before .before .before .before .before .before .before .before)) in
+    (p .state, good (c .before .before .before .before .before .before .before .before .before .before), p .line, p .room, rw (answer (c .before .before .before .before .before .before)) (fed-countable x (s .fragment .now) k), rw (answer (c .before .before .before .before .before .before)) (fed-short x (s .fragment .now) k))
+
+same-length-2 : tie.Need-same-length-2
+same-length-2 c = search needs
+
+same-length-3 : tie.Need-same-length-3
+same-length-3 c = search needs
+
+same-length-4 : tie.Need-same-length-4
+same-length-4 c = search needs
+
+same-length-5 : tie.Need-same-length-5
+same-length-5 c = search needs
+
+returns-3 : tie.Need-returns-3
+returns-3 c =
+    let s = c .before .before .before .before .before .before .before .before .before .before .before .before .before .before .before .before .before .before .before .before .before .before .before .before .args in
+    let f : Stream → Fed = λ x. feedOf x (s .fragment .now) in
+    rw (told (c .before .before .before .before .before .give .ok))
+    (record {
+      state = ranged f (s .numbers .now) (s .bytes .now) (sized (c .before .before .before .before .before .before .before .before .before .before .before .before .before .before .before .before .before .before .before)) (good (c .before .before .before .before .before .before .before .before .before .before .before .before .before .before .before .before)) (answer (c .before .before .before .before .before .before .before .before .before .before .before .before)) (c .before .before .before .before .before .give .ensures);
+      tells = told-ranged f (s .numbers .now) (s .bytes .now) (s .told .now) (sized (c .before .before .before .before .before .before .before .before .before .before .before .before .before .before .before .before .before .before .before)) (good (c .before .before .before .before .before .before .before .before .before .before .before .before .before .before .before .before)) (answer (c .before .before .before .before .before .before .before .before .before .before .before .before)) (c .before .before .before .before .before .before .before .before .before .before .tell .ensures);
+    })
+
+pub swivelcrane-feed-spec : {M : Type 1} → statement M
+swivelcrane-feed-spec =
+    tie.close
+    (tie.spec
+    are-sized-requires
+    returns
+    in-range-requires
+    minus-requires
+    same-length
+    returns-2
+    stream-from-requires
+    feed-requires
+    tell-requires
+    give-requires
+    same-length-2
+    same-length-3
+    same-length-4
+    same-length-5
+    returns-3)

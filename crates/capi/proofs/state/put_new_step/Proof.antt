@@ -1,0 +1,76 @@
+-- `capi::state::put_new_step` meets its contract. Assumes nothing.
+use mathlib.Core.Path.{_≡_, _∙_, ap}
+use mathlib.Core.List.{List}
+use Prim.Native.Nat.{_+_, _*_}
+use native.Mathlib.Omega.{arith}
+use lib.IntN.{ℤ, natAbs}
+use lib.Seq.{sets}
+use Rattle.rounding.proofs.Machine.{told}
+use Rattle.capi.specs.Chains.{number}
+use Rattle.capi.proofs.Streams.{counts, a-count, new-step, no-new-step}
+use borrow.Author.Needs.{needs}
+use Rattle.capi.proofs.state.put_new_step.Statement.{statement}
+use Rattle.capi.proofs.state.put_new_step.Tie as tie
+
+slice-copy-out-count : tie.Need-slice-copy-out-count
+slice-copy-out-count c = search needs
+
+count-requires : tie.Need-count-requires
+count-requires c κs =
+    let n = c .before .args .n .now in
+    rw (told {z = number n 6} (c .count-arg .given)) (a-count (number n 6) 8 (omega arith) (counts n (c .before .pre .1) .steps))
+
+-- how many steps there were
+steps : (c : tie.After-count) → c .count .result ≡ natAbs (number (c .before .before .args .n .now) 6)
+steps c = c .count .ensures ∙ ap natAbs (told {z = number (c .before .before .args .n .now) 6} (c .before .count-arg .given))
+
+mul-step : tie.Need-mul-step
+mul-step c = search needs
+
+element-copy-out-step : tie.Need-element-copy-out-step
+element-copy-out-step c = search needs
+
+row-of-requires : tie.Need-row-of-requires
+row-of-requires c κs = search needs
+
+slice-aggregate-copy : tie.Need-slice-aggregate-copy
+slice-aggregate-copy c = search needs
+
+mul-copy : tie.Need-mul-copy
+mul-copy c = search needs
+
+add-copy : tie.Need-add-copy
+add-copy c = search needs
+
+copy-requires : tie.Need-copy-requires
+copy-requires c κs = search needs
+
+same-length : tie.Need-same-length
+same-length c = search needs
+
+returns : tie.Need-returns
+returns c =
+    let s = c .before .before .before .before .before .before .before .before .before .args in
+    c .before .copy .ensures
+    ∙ ap (λ (l : List ℤ). sets (s .n .now) (7 + 13 * (c .before .before .before .before .before .before .before .count .result)) l) (c .before .before .before .before .row-of .ensures)
+    ∙ new-step (s .n .now) (s .t2) (steps (c .before .before .before .before .before .before .before)) (c .before .before .before .before .before .before .if1 .taken)
+
+returns-2 : tie.Need-returns-2
+returns-2 c = no-new-step (c .before .before .before .args .n .now) (c .before .before .before .args .t2) (steps (c .before)) (c .if1 .left)
+
+pub put-new-step-spec : {M : Type 1} → statement M
+put-new-step-spec =
+    tie.close
+    (tie.spec
+    slice-copy-out-count
+    count-requires
+    mul-step
+    element-copy-out-step
+    row-of-requires
+    slice-aggregate-copy
+    mul-copy
+    add-copy
+    copy-requires
+    same-length
+    returns
+    returns-2)

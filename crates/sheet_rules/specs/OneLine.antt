@@ -1,0 +1,85 @@
+-- Where a sheet stands between two lines, by value, for a sheet that arrives in fragments: its chain is steps, as a caller keeps them and hands them back.
+use mathlib.Core.Path.{_≡_}
+use mathlib.Core.Bool.{Bool, true, false, _&&_}
+use mathlib.Core.List.{List, [], _∷_, _++_}
+use Prim.Native.Nat.{ℕ, suc}
+use lib.Dec.{eqb, leb, ltb}
+use lib.IntN.{ℤ}
+use lib.ListN.{length, drop}
+use Rattle.refusal.specs.Numbers as refusal
+use Rattle.refusal.specs.Order.{pick, first}
+use Rattle.chain.specs.declared.Step.{Step}
+use Rattle.chain.specs.declared.Chain.{Chain}
+use Rattle.chain.specs.Faults.{latest, chainTests, stepsOf}
+use Rattle.chain.specs.Prepared as prepared
+use Rattle.line.specs.declared.StepLine.{StepLine}
+use Rattle.line.specs.declared.StepLine.the-variants as step-line
+use Rattle.sheet_rules.specs.declared.Standing.{Standing}
+use Rattle.sheet_rules.specs.declared.Answered.{Answered}
+use Rattle.sheet_rules.specs.declared.Response.{Response}
+use Rattle.sheet_rules.specs.declared.Response.the-variants as response
+use Rattle.sheet_rules.specs.declared.Reply.{Reply}
+use Rattle.sheet_rules.specs.declared.Reply.the-variants as reply
+use Rattle.sheet_rules.specs.Sheet.{Sheet, replyOf, nextOf}
+
+-- at most so many lines of a sheet are answered by its rules
+abbrev pub mostLines : ℕ
+mostLines = 1000000
+
+-- ---- the sheet that stands here
+abbrev pub said : Standing → Sheet
+said s = record { line = s .line; profile = s .chain .profile; steps = stepsOf (s .chain); refused = s .refused; closed = s .closed }
+
+-- these steps in a chain's places, under a profile; the places past them stay as they were
+abbrev pub chainWith : Chain → ℤ → List Step → Chain
+chainWith c y ss = record { steps = ss ++ drop (length ss) (c .steps); length = length ss; profile = y }
+
+-- where a sheet stands, in the places of a chain
+abbrev pub standingAt : Chain → Sheet → Standing
+standingAt c s = record { line = s .line; chain = chainWith c (s .profile) (s .steps); refused = s .refused; closed = s .closed }
+
+-- nothing read yet, in whatever places
+abbrev pub freshAt : List Step → Standing
+freshAt places = record { line = 1; chain = record { steps = places; length = 0; profile = latest }; refused = false; closed = false }
+
+-- ---- a sheet can stand here: its counts are in range, and its chain is good by value
+-- the line to come has at most one line past the limit as its number, and no line before it gave more than one step
+unfoldable pub counted : ℕ → ℕ → Bool
+counted line steps = ltb steps line && leb line (suc mostLines)
+
+unfoldable pub soundStanding : Standing → Bool
+soundStanding s = counted (s .line) (s .chain .length) && eqb (first (chainTests (s .chain))) 0
+
+-- ---- one line: 28 past the limit, before all others, which is not read and moves nothing; else as the sheet's rules say
+unfoldable pub past : Standing → Bool
+past s = ltb mostLines (s .line)
+
+unfoldable pub replyTo : Standing → List ℕ → Reply
+replyTo s l = pick (past s) (reply.Refused (suc mostLines) refusal.limit 0) (replyOf (said s) l)
+
+unfoldable pub afterLine : Standing → List ℕ → Standing
+afterLine s l = pick (past s) s (standingAt (s .chain) (nextOf (said s) l))
+
+abbrev pub answered : Standing → Response → Answered
+answered s r = record { standing = s; response = r }
+
+unfoldable pub lineAnswered : Standing → List ℕ → Answered
+lineAnswered s l = answered (afterLine s l) (response.Replied (replyTo s l))
+
+unfoldable pub answeredTo : Standing → List ℕ → Answered
+answeredTo s l = pick (soundStanding s) (lineAnswered s l) (answered s response.Unsound)
+
+-- ---- how the code gets there
+-- a chain prepared step by step: whether it is good, and the numbers that hold it
+pub record Prepares (c : Chain) (numbers : List ℤ) (good : Bool) : Type 0 where
+  pub told : good ≡ eqb (first (chainTests c)) 0
+  pub holds : good ≡ true → prepared.Holds (c .profile) numbers (stepsOf c)
+
+-- the steps after a line: one that begins with S and prints nothing is an accepted step
+abbrev pub stepsAfter : List Step → Bool → Reply → StepLine → List Step
+stepsAfter ss false r l = ss
+stepsAfter ss true reply.Nothing (step-line.Step t) = ss ++ (t ∷ [])
+stepsAfter ss true reply.Nothing (step-line.Malformed f) = ss
+stepsAfter ss true reply.Nothing (step-line.Refused n) = ss
+stepsAfter ss true (reply.Point p) l = ss
+stepsAfter ss true (reply.Refused line number place) l = ss

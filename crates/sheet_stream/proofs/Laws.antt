@@ -1,0 +1,326 @@
+-- The laws of a call. Assumes nothing.
+use Prim.Native.Nat.{ℕ, zero, suc, _+_, _-_, _≤_, _<_, min}
+use mathlib.Core.Path.{_≡_, refl, sym, ap, _∙_}
+use mathlib.Core.Bool.{Bool, true, false, not, _&&_, _||_}
+use mathlib.Core.List.{List, [], _∷_, _++_}
+use lib.Dec.{eqb, leb, ltb}
+use lib.ListN.{length, getD, take, drop, set, drop-of-length-le}
+use lib.Seq.{take-suc-set, take-all, drop-cons, length-take-le}
+use native.Mathlib.Numerals.{add-one}
+use native.Mathlib.Omega.{arith}
+use borrow.Author.Tests.{le-leb, lt-leb, leb-true, ltb-true, ltb-false, not-true, lt-ltb, le-ltb, eq-eqb, ne-eqb}
+use Rattle.refusal.specs.Numbers as refusal
+use Rattle.refusal.specs.Order.{pick}
+use Rattle.line.specs.Bytes.{lineFeed}
+use Rattle.line.specs.Fields.{longestLine}
+use Rattle.sheet_rules.specs.declared.Standing.{Standing}
+use Rattle.sheet_rules.specs.declared.Answered.{Answered}
+use Rattle.sheet_rules.specs.declared.Reply.{Reply}
+use Rattle.sheet_rules.specs.declared.Reply.the-variants as reply
+use Rattle.sheet_rules.specs.declared.Response.{Response}
+use Rattle.sheet_rules.specs.declared.Response.the-variants as response
+use Rattle.sheet_rules.specs.OneLine.{mostLines, said, soundStanding, replyTo, afterLine, answered, answeredTo, lineAnswered}
+use Rattle.sheet_rules.proofs.OneLine.{both, sound-after, reply-rules, reply-past}
+use Rattle.sheet_rules.proofs.OneLine as line
+use Rattle.sheet_rules.proofs.Room.{answer-short}
+use Rattle.sheet_rules.proofs.Unread.{NoFeed, open-18}
+use Rattle.sheet_stream.specs.declared.Stream.{Stream}
+use Rattle.sheet_stream.specs.declared.Fed.{Fed}
+use Rattle.sheet_stream.specs.declared.Outcome.the-variants.{Open, Line, Refused}
+use Rattle.sheet_stream.specs.Fragments.{between, empty, keep, held, closing, ended, endReply, fed, later, scan, sound, unsound, feedOf, finishOf, Countable, Short}
+
+-- ---- a sound state
+pub record Sound (s : Stream) : Type 0 where
+  pub going : s .finished ≡ false
+  pub count : s .count ≤ 200
+  pub standing : line.Sound (s .standing)
+
+pub sound-parts : (s : Stream) → sound s ≡ true → Sound s
+unfolding sound
+sound-parts s e =
+    let a = both _ _ e in
+    let b = both _ _ (a .1) in
+    record { going = not-true _ (a .0); count = leb-true _ _ (b .0); standing = line.sound-parts (s .standing) (b .1) }
+
+pub sound-made : (s : Stream) → Sound s → sound s ≡ true
+unfolding sound
+sound-made s p = rw (p .going, le-leb _ _ (p .count), line.sound-made (s .standing) (p .standing))
+
+pub sound-ended : (s : Stream) → Sound s → Sound (ended s)
+unfolding ended
+sound-ended s p = record { going = p .going; count = omega arith; standing = sound-after (s .standing) (closing s) (p .standing) }
+
+pub sound-keep : (s : Stream) (b : ℕ) → Sound s → Sound (keep s b)
+unfolding keep
+sound-keep s b p = go (ltb (s .count) longestLine) refl
+  where
+    go : (t : Bool) → ltb (s .count) longestLine ≡ t → Sound (pick t (record { standing = s .standing; count = s .count + 1; kept = set (s .kept) (s .count) b; finished = s .finished }) s)
+    go true q = record { going = p .going; count = omega (arith, ltb-true (s .count) longestLine q); standing = p .standing }
+    go false q = p
+
+pub sound-scan : (s : Stream) (f : List ℕ) → Sound s → Sound (scan s f .stream)
+unfolding scan
+sound-scan s [] p = p
+sound-scan s (b ∷ f) p = go (eqb b lineFeed) (sound-scan (keep s b) f (sound-keep s b p))
+  where
+    go : (t : Bool) → Sound (scan (keep s b) f .stream) → Sound (pick {A = Fed} t (fed (ended s) 1 (Line (endReply s))) (later (scan (keep s b) f)) .stream)
+    go true ih = sound-ended s p
+    go false ih = ih
+
+-- ---- a call, sound or not
+pub feed-sound : (s : Stream) (f : List ℕ) → sound s ≡ true → feedOf s f ≡ scan s f
+unfolding feedOf
+feed-sound s f e = rw e
+
+pub feed-29 : (s : Stream) (f : List ℕ) → sound s ≡ false → feedOf s f ≡ unsound s
+unfolding feedOf
+feed-29 s f e = rw e
+
+-- some byte is taken, where there is one
+pub takes : (s : Stream) (b : ℕ) (f : List ℕ) → 1 ≤ scan s (b ∷ f) .taken
+unfolding scan
+takes s b f = go (eqb b lineFeed)
+  where
+    go : (t : Bool) → 1 ≤ pick {A = Fed} t (fed (ended s) 1 (Line (endReply s))) (later (scan (keep s b) f)) .taken
+    go true = omega arith
+    go false = omega arith
+
+-- ---- for the code: the state from its parts
+abbrev pub stateOf : Standing → ℕ → List ℕ → Bool → Stream
+stateOf standing count kept finished = record { standing = standing; count = count; kept = kept; finished = finished }
+
+module _ (st : Standing) (n : ℕ) (kept : List ℕ) (fin : Bool) where
+  pub keep-room : (b : ℕ) → n < 200 → keep (stateOf st n kept fin) b ≡ stateOf st (n + 1) (set kept n b) fin
+  unfolding keep
+  keep-room b h = rw (lt-ltb n 200 h)
+
+  pub keep-full : (b : ℕ) → 200 ≤ n → keep (stateOf st n kept fin) b ≡ stateOf st n kept fin
+  unfolding keep
+  keep-full b h = rw (le-ltb n 200 h)
+
+  pub closing-room : n < 200 → length kept ≡ 200 → closing (stateOf st n kept fin) ≡ take (n + 1) (set kept n lineFeed)
+  unfolding closing
+  closing-room h l = rw (lt-ltb n 200 h, add-one) (sym (take-suc-set kept n lineFeed (omega arith)))
+
+  pub closing-full : 200 ≤ n → length kept ≡ 200 → closing (stateOf st n kept fin) ≡ kept
+  unfolding closing
+  closing-full h l = rw (le-ltb n 200 h) (take-all n kept (omega arith))
+
+-- the line that ends: the call's answer, from the line handed to the rules
+pub ends : (s : Stream) (l : List ℕ) (k : ℕ) → closing s ≡ l → fed (between (afterLine (s .standing) l) (s .finished)) k (Line (replyTo (s .standing) l)) ≡ fed (ended s) k (Line (endReply s))
+unfolding ended endReply
+ends s l k e = rw e
+
+-- with so many bytes taken before
+abbrev pub more : ℕ → Fed → Fed
+more n r = fed (r .stream) (n + r .taken) (r .outcome)
+
+pub more-none : (r : Fed) → more 0 r ≡ r
+more-none r = ap (λ (k : ℕ). fed (r .stream) k (r .outcome)) (omega arith)
+
+-- what is left to do, from the place `at`, is the whole
+module _ (s : Stream) (f : List ℕ) (at : ℕ) where
+  pub left-end : length f ≤ at → more at (scan s (drop at f)) ≡ fed s at Open
+  unfolding scan
+  left-end h = rw (drop-of-length-le f h) (ap (λ (k : ℕ). fed s k Open) (omega arith))
+
+  pub left-feed : at < length f → getD f at 0 ≡ lineFeed → more at (scan s (drop at f)) ≡ fed (ended s) (at + 1) (Line (endReply s))
+  unfolding scan
+  left-feed h e = rw (drop-cons f at 0 h, eq-eqb (getD f at 0) lineFeed e)
+
+  pub left-more : at < length f → (getD f at 0 ≡ lineFeed → ⊥) → more at (scan s (drop at f)) ≡ more (at + 1) (scan (keep s (getD f at 0)) (drop (at + 1) f))
+  unfolding scan
+  left-more h e =
+      rw (drop-cons f at 0 h, ne-eqb (getD f at 0) lineFeed e, add-one)
+      (ap (λ (k : ℕ). fed (scan (keep s (getD f at 0)) (drop (suc at) f) .stream) k (scan (keep s (getD f at 0)) (drop (suc at) f) .outcome)) (omega arith))
+
+-- ---- the finish
+pub finish-29 : (s : Stream) → sound s ≡ false → finishOf s ≡ unsound s
+unfolding finishOf
+finish-29 s e = rw e
+
+pub finish-none : (s : Stream) → sound s ≡ true → s .count ≡ 0 → finishOf s ≡ fed (between (s .standing) true) 0 Open
+unfolding finishOf
+finish-none s e z = rw (e, eq-eqb (s .count) 0 z)
+
+pub finish-open : (s : Stream) → sound s ≡ true → (s .count ≡ 0 → ⊥) → finishOf s ≡ fed (between (afterLine (s .standing) (held s)) true) 0 (Line (replyTo (s .standing) (held s)))
+unfolding finishOf
+finish-open s e z = rw (e, ne-eqb (s .count) 0 z)
+
+-- ---- after the finish every call is 29, which takes and changes nothing
+pub finish-finishes : (s : Stream) → sound s ≡ true → finishOf s .stream .finished ≡ true
+unfolding finishOf
+finish-finishes s e = rw e (go (eqb (s .count) 0))
+  where
+    go : (t : Bool) → pick {A = Fed} t (fed (between (s .standing) true) 0 Open) (fed (between (afterLine (s .standing) (held s)) true) 0 (Line (replyTo (s .standing) (held s)))) .stream .finished ≡ true
+    go true = refl
+    go false = refl
+
+not-going : (s : Stream) → s .finished ≡ true → sound s ≡ false
+unfolding sound
+not-going s e = rw e
+
+pub fed-after-finish : (s : Stream) (f : List ℕ) → s .finished ≡ true → feedOf s f ≡ unsound s
+fed-after-finish s f e = feed-29 s f (not-going s e)
+
+pub finished-after-finish : (s : Stream) → s .finished ≡ true → finishOf s ≡ unsound s
+finished-after-finish s e = finish-29 s (not-going s e)
+
+-- ---- what the finish answers to a line left open: 18 at its length within the limit; past the limit 28
+pub finish-18 : (s : Stream) → sound s ≡ true → length (s .kept) ≡ longestLine → NoFeed (held s) → 0 < s .count → s .standing .line ≤ mostLines → finishOf s .outcome ≡ Line (reply.Refused (s .standing .line) refusal.length (s .count))
+finish-18 s e k n h l =
+    let p = sound-parts s e in
+    let z : length (held s) ≡ s .count = length-take-le (s .count) (s .kept) (omega (arith, p .count)) in
+    let m : min (length (held s)) longestLine ≡ s .count = omega (arith, p .count) in
+    ap (λ (r : Fed). r .outcome) (finish-open s e (λ q. omega arith))
+    ∙ ap Line (reply-rules (s .standing) (held s) l ∙ open-18 (said (s .standing)) (held s) n (omega arith) ∙ ap (reply.Refused (s .standing .line) refusal.length) m)
+
+pub finish-28 : (s : Stream) → sound s ≡ true → 0 < s .count → mostLines < s .standing .line → finishOf s .outcome ≡ Line (reply.Refused (suc mostLines) refusal.limit 0)
+finish-28 s e h l = ap (λ (r : Fed). r .outcome) (finish-open s e (λ q. omega arith)) ∙ ap Line (reply-past (s .standing) (held s) l)
+
+-- ---- for callers: no more is taken than there is
+scan-within : (s : Stream) (f : List ℕ) → scan s f .taken ≤ length f
+unfolding scan
+scan-within s [] = omega arith
+scan-within s (b ∷ f) = go (eqb b lineFeed) (scan-within (keep s b) f)
+  where
+    go : (t : Bool) → scan (keep s b) f .taken ≤ length f → pick {A = Fed} t (fed (ended s) 1 (Line (endReply s))) (later (scan (keep s b) f)) .taken ≤ suc (length f)
+    go true h = omega arith
+    go false h = omega arith
+
+pub within : (s : Stream) (f : List ℕ) → feedOf s f .taken ≤ length f
+unfolding feedOf
+within s f = go (sound s) (scan-within s f)
+  where
+    go : (t : Bool) → scan s f .taken ≤ length f → pick {A = Fed} t (scan s f) (unsound s) .taken ≤ length f
+    go true h = h
+    go false h = omega arith
+
+-- ---- for the code: what is decided first is the part of the state that costs nothing to look at
+over-full : (s : Stream) → s .finished ≡ false → longestLine < s .count → sound s ≡ false
+unfolding sound
+over-full s e h = rw (e, lt-leb (s .count) longestLine h)
+
+pub stopped : (s : Stream) (f : List ℕ) → (s .finished || ltb longestLine (s .count)) ≡ true → (unsound s ≡ feedOf s f) × (unsound s ≡ finishOf s)
+stopped s f e = let z = go (s .finished) (ltb longestLine (s .count)) refl refl e in (sym (feed-29 s f z), sym (finish-29 s z))
+  where
+    go : (a b : Bool) → s .finished ≡ a → ltb longestLine (s .count) ≡ b → (a || b) ≡ true → sound s ≡ false
+    go true b p q e = not-going s p
+    go false true p q e = over-full s p (ltb-true longestLine (s .count) q)
+    go false false p q e = absurd (let z : _≡_ {A = ℕ} 0 1 = cc in omega arith)
+
+pub record Going (s : Stream) : Type 0 where
+  pub going : s .finished ≡ false
+  pub count : s .count ≤ longestLine
+
+pub goes-on : (s : Stream) → (s .finished || ltb longestLine (s .count)) ≡ false → Going s
+goes-on s e = go (s .finished) (ltb longestLine (s .count)) refl refl e
+  where
+    go : (a b : Bool) → s .finished ≡ a → ltb longestLine (s .count) ≡ b → (a || b) ≡ false → Going s
+    go true b p q e = absurd (let z : _≡_ {A = ℕ} 0 1 = cc in omega arith)
+    go false true p q e = absurd (let z : _≡_ {A = ℕ} 0 1 = cc in omega arith)
+    go false false p q e = record { going = p; count = ltb-false longestLine (s .count) q }
+
+module _ (s : Stream) (g : Going s) where
+  pub sound-as : (b : Bool) → b ≡ soundStanding (s .standing) → sound s ≡ b
+  unfolding sound
+  sound-as b e = rw (g .going, le-leb (s .count) longestLine (g .count)) (sym e)
+
+  -- a line that ended
+  pub fed-by : (f : List ℕ) (r x : Fed) → r ≡ pick (soundStanding (s .standing)) x (unsound s) → x ≡ scan s f → r ≡ feedOf s f
+  unfolding feedOf
+  fed-by f r x e q = rw (sound-as (soundStanding (s .standing)) refl, sym q) e
+
+  pub finished-by : (r : Fed) → (s .count ≡ 0 → ⊥) → r ≡ pick (soundStanding (s .standing)) (fed (between (afterLine (s .standing) (held s)) true) 0 (Line (replyTo (s .standing) (held s)))) (unsound s) → r ≡ finishOf s
+  unfolding finishOf
+  finished-by r z e = rw (sound-as (soundStanding (s .standing)) refl, ne-eqb (s .count) 0 z) e
+
+-- the answer to a line, as the rules gave it
+module _ (s : Stream) (l : List ℕ) (n : ℕ) (fin : Bool) (a : Answered) (e : a ≡ answeredTo (s .standing) l) where
+  abbrev Ended : Fed → Type 0
+  Ended r = r ≡ pick (soundStanding (s .standing)) (fed (between (afterLine (s .standing) l) fin) n (Line (replyTo (s .standing) l))) (unsound s)
+
+  pub ended-unsound : a .response ≡ response.Unsound → Ended (unsound s)
+  unfolding answeredTo lineAnswered
+  ended-unsound q = go (soundStanding (s .standing)) (sym (ap (λ (x : Answered). x .response) e) ∙ q)
+    where
+      go : (b : Bool) → pick {A = Answered} b (answered (afterLine (s .standing) l) (response.Replied (replyTo (s .standing) l))) (answered (s .standing) response.Unsound) .response ≡ response.Unsound → unsound s ≡ pick b (fed (between (afterLine (s .standing) l) fin) n (Line (replyTo (s .standing) l))) (unsound s)
+      go true z = absurd (let y : _≡_ {A = ℕ} 0 1 = cc in omega arith)
+      go false z = refl
+
+  pub ended-replied : (r : Reply) → a .response ≡ response.Replied r → Ended (fed (between (a .standing) fin) n (Line r))
+  unfolding answeredTo lineAnswered
+  ended-replied r q = go (soundStanding (s .standing)) (sym (ap (λ (x : Answered). x .response) e) ∙ q) (ap (λ (x : Answered). x .standing) e)
+    where
+      go : (b : Bool) → pick {A = Answered} b (answered (afterLine (s .standing) l) (response.Replied (replyTo (s .standing) l))) (answered (s .standing) response.Unsound) .response ≡ response.Replied r → a .standing ≡ pick {A = Answered} b (answered (afterLine (s .standing) l) (response.Replied (replyTo (s .standing) l))) (answered (s .standing) response.Unsound) .standing → fed (between (a .standing) fin) n (Line r) ≡ pick b (fed (between (afterLine (s .standing) l) fin) n (Line (replyTo (s .standing) l))) (unsound s)
+      go true z y = let x : replyTo (s .standing) l ≡ r = cc in rw (y, x)
+      go false z y = absurd (let x : _≡_ {A = ℕ} 0 1 = cc in omega arith)
+
+-- ---- for a caller that keeps the state as numbers
+countable : (s : Stream) → Sound s → Countable s
+countable s p = record {
+  from = omega (arith, p .standing .from);
+  to = p .standing .to;
+  count = p .count;
+  steps = line.sound-short (s .standing) (line.sound-made (s .standing) (p .standing));
+}
+
+pub fed-countable : (s : Stream) (f : List ℕ) → Countable s → Countable (feedOf s f .stream)
+unfolding feedOf
+fed-countable s f c = go (sound s) refl
+  where
+    go : (t : Bool) → sound s ≡ t → Countable (pick {A = Fed} t (scan s f) (unsound s) .stream)
+    go true e = countable (scan s f .stream) (sound-scan s f (sound-parts s e))
+    go false e = c
+
+pub finished-countable : (s : Stream) → Countable s → Countable (finishOf s .stream)
+unfolding finishOf
+finished-countable s c = go (sound s) (eqb (s .count) 0) refl
+  where
+    ended-so : (st : Standing) → line.Sound st → Countable (between st true)
+    ended-so st p = record {
+      from = omega (arith, p .from);
+      to = p .to;
+      count = omega arith;
+      steps = line.sound-short st (line.sound-made st p);
+    }
+
+    go : (t u : Bool) → sound s ≡ t → Countable (pick {A = Fed} t (pick {A = Fed} u (fed (between (s .standing) true) 0 Open) (fed (between (afterLine (s .standing) (held s)) true) 0 (Line (replyTo (s .standing) (held s))))) (unsound s) .stream)
+    go true true e = ended-so (s .standing) (sound-parts s e .standing)
+    go true false e = ended-so (afterLine (s .standing) (held s)) (sound-after (s .standing) (held s) (sound-parts s e .standing))
+    go false u e = c
+
+-- an answer has at most 100 bytes
+keep-standing : (s : Stream) (b : ℕ) → keep s b .standing ≡ s .standing
+unfolding keep
+keep-standing s b = go (ltb (s .count) longestLine)
+  where
+    go : (t : Bool) → pick {A = Stream} t (record { standing = s .standing; count = s .count + 1; kept = set (s .kept) (s .count) b; finished = s .finished }) s .standing ≡ s .standing
+    go true = refl
+    go false = refl
+
+scan-short : (s : Stream) (f : List ℕ) → s .standing .line ≤ suc mostLines → Short (scan s f .outcome)
+unfolding scan endReply
+scan-short s [] h = tt
+scan-short s (b ∷ f) h = go (eqb b lineFeed) (scan-short (keep s b) f (rw (keep-standing s b) h))
+  where
+    go : (t : Bool) → Short (scan (keep s b) f .outcome) → Short (pick {A = Fed} t (fed (ended s) 1 (Line (endReply s))) (later (scan (keep s b) f)) .outcome)
+    go true i = answer-short (s .standing) (closing s) h
+    go false i = i
+
+pub fed-short : (s : Stream) (f : List ℕ) → Countable s → Short (feedOf s f .outcome)
+unfolding feedOf
+fed-short s f c = go (sound s)
+  where
+    go : (t : Bool) → Short (pick {A = Fed} t (scan s f) (unsound s) .outcome)
+    go true = scan-short s f (c .to)
+    go false = tt
+
+pub finished-short : (s : Stream) → Countable s → Short (finishOf s .outcome)
+unfolding finishOf
+finished-short s c = go (sound s) (eqb (s .count) 0)
+  where
+    go : (t u : Bool) → Short (pick {A = Fed} t (pick {A = Fed} u (fed (between (s .standing) true) 0 Open) (fed (between (afterLine (s .standing) (held s)) true) 0 (Line (replyTo (s .standing) (held s))))) (unsound s) .outcome)
+    go true true = tt
+    go true false = answer-short (s .standing) (held s) (c .to)
+    go false u = tt

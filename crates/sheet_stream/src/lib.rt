@@ -1,0 +1,195 @@
+// A sheet that arrives in fragments of whatever length. The caller keeps the state; each call takes bytes up to and with the first line feed and answers the line
+// that it ends, so that there is never more than one answer to a call, and room is asked for one line.
+ghost use mathlib.Core.Path.{_≡_};
+ghost use mathlib.Core.Bool.{true};
+ghost use lib.ListN.{replicate};
+ghost use Rattle.refusal.specs.Order.{pick};
+ghost use Rattle.sheet_rules.specs.OneLine.{soundStanding, replyTo, afterLine};
+ghost use Rattle.sheet_stream.specs.Fragments.{empty, between, noStep, fresh as Fragments·fresh, fed, unsound, feedOf, finishOf};
+use chain::Chain;
+use chain::Kind;
+use chain::Realization;
+use chain::Step;
+use sheet_rules::Reply;
+use sheet_rules::Response;
+use sheet_rules::Standing;
+
+const LINE_FEED: u8 = 10;
+
+// The longest line, in bytes, with its line feed.
+const ROOM: usize = 200;
+
+// A sheet part of which has come. `fresh` makes the first; it has no other than what `feed` and `finish` give back.
+pub struct Stream {
+    // Where the sheet stands after the lines that have ended.
+    pub standing: Standing,
+    // How many bytes of the open line are kept, 0 to 200; 200 also where it has more.
+    pub count: usize,
+    // Those bytes; 0 past them.
+    pub kept: [u8; 200],
+    pub finished: bool,
+}
+
+// What a call answers.
+pub enum Outcome {
+    // No line ended.
+    Open,
+    // A line ended: the reply to it, which may print nothing.
+    Line(Reply),
+    // Refusal STATE: the sheet is finished, a count is out of range, or the chain is bad.
+    Refused(u8),
+}
+
+// The state after a call, how many bytes of the fragment it took, and what it answers.
+pub struct Fed {
+    pub stream: Stream,
+    pub taken: usize,
+    pub outcome: Outcome,
+}
+
+fn no_bytes() -> [u8; 200]
+    ensures { λ r. ⌜ r ≡ empty ⌝ }
+{
+    [0; 200]
+}
+
+// What stands in the places past a chain's steps.
+fn no_step() -> Step
+    ensures { λ r. ⌜ r ≡ noStep ⌝ }
+{
+    Step {
+        kind: Kind::Frame,
+        before: Realization { datum: 0, epoch: 0 },
+        after: Realization { datum: 0, epoch: 0 },
+    }
+}
+
+// Nothing has come yet.
+pub fn fresh() -> Stream
+    ensures { λ r. ⌜ r ≡ Fragments·fresh (replicate 8 noStep) ⌝ }
+{
+    let step = no_step();
+    let steps = [step; 8];
+    let kept = no_bytes();
+    Stream {
+        standing: Standing {
+            line: 1,
+            chain: Chain {
+                steps: steps,
+                length: 0,
+                profile: chain::LATEST,
+            },
+            refused: false,
+            closed: false,
+        },
+        count: 0,
+        kept: kept,
+        finished: false,
+    }
+}
+
+// A call that takes and changes nothing.
+fn refused(stream: Stream) -> Fed
+    ensures { λ r. ⌜ r ≡ unsound stream ⌝ }
+{
+    Fed {
+        stream: stream,
+        taken: 0,
+        outcome: Outcome::Refused(refusal::STATE),
+    }
+}
+
+// A line has ended, by its line feed or by the finish: the reply to it, and the state with no line open.
+fn end_line(stream: Stream, line: &[u8], taken: usize, finished: bool) -> Fed
+    ensures { λ r. ⌜ r ≡ pick (soundStanding (stream .standing)) (fed (between (afterLine (stream .standing) (now (line .entry))) finished) taken (Outcome.Line (replyTo (stream .standing) (now (line .entry))))) (unsound stream) ⌝ }
+{
+    let answered = sheet_rules::answer_line(stream.standing, line);
+    let standing = answered.standing;
+    let response = answered.response;
+    match response {
+        Response::Unsound => refused(stream),
+        Response::Replied(reply) => {
+            let kept = no_bytes();
+            Fed {
+                stream: Stream {
+                    standing: standing,
+                    count: 0,
+                    kept: kept,
+                    finished: finished,
+                },
+                taken: taken,
+                outcome: Outcome::Line(reply),
+            }
+        }
+    }
+}
+
+// Takes bytes of a fragment up to and with its first line feed, or all of it, and answers the line that it ends. Refusal: STATE, which takes and changes nothing.
+pub fn feed(stream: Stream, fragment: &[u8]) -> Fed
+    ensures { λ r. ⌜ r ≡ feedOf stream (now (fragment .entry)) ⌝ }
+{
+    let mut count = stream.count;
+    let mut kept = stream.kept;
+    if stream.finished | (ROOM < count) {
+        return refused(stream);
+    }
+    let mut at: usize = 0;
+    while at < fragment.len() {
+        let b = fragment[at];
+        at = at + 1;
+        if b == LINE_FEED {
+            if count < ROOM {
+                kept[count] = LINE_FEED;
+                return end_line(stream, &kept[..count + 1], at, false);
+            }
+            return end_line(stream, &kept, at, false);
+        }
+        if count < ROOM {
+            kept[count] = b;
+            count = count + 1;
+        }
+    }
+    let standing = stream.standing;
+    if !sheet_rules::is_sound(standing) {
+        return refused(stream);
+    }
+    Fed {
+        stream: Stream {
+            standing: standing,
+            count: count,
+            kept: kept,
+            finished: false,
+        },
+        taken: at,
+        outcome: Outcome::Open,
+    }
+}
+
+// Ends the sheet, and answers a line that is left open. Refusal: STATE, which changes nothing. After it every call is refused with STATE.
+pub fn finish(stream: Stream) -> Fed
+    ensures { λ r. ⌜ r ≡ finishOf stream ⌝ }
+{
+    let count = stream.count;
+    let kept = stream.kept;
+    if stream.finished | (ROOM < count) {
+        return refused(stream);
+    }
+    if count != 0 {
+        return end_line(stream, &kept[..count], 0, true);
+    }
+    let standing = stream.standing;
+    if !sheet_rules::is_sound(standing) {
+        return refused(stream);
+    }
+    let cleared = no_bytes();
+    Fed {
+        stream: Stream {
+            standing: standing,
+            count: 0,
+            kept: cleared,
+            finished: true,
+        },
+        taken: 0,
+        outcome: Outcome::Open,
+    }
+}

@@ -26,13 +26,7 @@ fn grid_from(n: &[i64]) -> Grid
 }
 
 // Writes the numbers of a velocity step, or answers the refusal.
-fn give_step(
-    answer: VelocityAnswer,
-    datum: i64,
-    before: i64,
-    after: i64,
-    out: &mut [i64],
-) -> i64
+fn give_step(answer: VelocityAnswer, datum: i64, before: i64, after: i64, out: &mut [i64]) -> i64
     requires { ⌜ length (now out) ≡ 13 ⌝ }
     ensures { λ r. ⌜ Answered (ofVelocity answer datum before after) (now (out .entry)) (now (out .exit)) r ⌝ }
 {

@@ -22,12 +22,11 @@ extern "C" {
 #endif
 
 /* The version of this interface: a function or a number that is added raises the minor, any other change the major. */
-#define SWIVELCRANE_VERSION_MAJOR 1
-#define SWIVELCRANE_VERSION_MINOR 1
+#define SWIVELCRANE_VERSION_MAJOR 2
+#define SWIVELCRANE_VERSION_MINOR 0
 
-/* The refusal numbers by name; README.md says of each what to do. */
+/* The refusal numbers by name; README.md says of each what to do. 1 is not given. */
 enum swivelcrane_refusal {
-    SWIVELCRANE_REFUSAL_FORM = 1,      /* a line that is not of a form which its program or call reads */
     SWIVELCRANE_REFUSAL_RANGE = 2,     /* a number, an ellipsoid code or a count of places out of its range */
     SWIVELCRANE_REFUSAL_EPOCH = 3,     /* a datum and an epoch that don't agree */
     SWIVELCRANE_REFUSAL_KIND = 4,      /* a velocity or a frame step that breaks the rule of its kind */
@@ -44,6 +43,11 @@ enum swivelcrane_refusal {
     SWIVELCRANE_REFUSAL_LONG = 15,     /* input that is too long: only in the text of a sheet or a plan */
     SWIVELCRANE_REFUSAL_IDS = 16,      /* two point lines with different ids */
     SWIVELCRANE_REFUSAL_SAME = 17,     /* two point lines with one issue and different bytes */
+    SWIVELCRANE_REFUSAL_LENGTH = 18,   /* a line over 200 bytes with its line feed, or with no line feed at its end */
+    SWIVELCRANE_REFUSAL_LETTER = 19,   /* a first letter, step kind or convention that is unknown or empty */
+    SWIVELCRANE_REFUSAL_COUNT = 20,    /* a line with the wrong number of fields */
+    SWIVELCRANE_REFUSAL_ID = 21,       /* an id that is not 1 to 16 of A-Z, 0-9 and hyphen */
+    SWIVELCRANE_REFUSAL_PLAIN = 22,    /* a number that is not in plain form */
     SWIVELCRANE_REFUSAL_PLANE = 23,    /* an easting or northing not finite, or 10,000,000 m or more in size */
     SWIVELCRANE_REFUSAL_OFF_GRID = 24, /* a position off the velocity grid, or in a cell of which a node has no value */
     SWIVELCRANE_REFUSAL_LINES = 30     /* numbers of a velocity grid's nodes missing, or left over */
@@ -123,12 +127,19 @@ int64_t swivelcrane_velocity_step(const int64_t *grid, size_t grid_length, const
 int64_t swivelcrane_round(double x, uint32_t places, int64_t *out, size_t out_length);
 
 /* The later of two point lines, each with its line feed: which has 1 element and becomes 1 for the first, 2 for the second.
- * Byte-equal lines give the first. Refusals: first line 1, 2, 3, then the second's, then 16, 17. */
+ * Byte-equal lines give the first. Refusals: first line 18, 19, 20, 21, 22, 2, 3, then the second's, then 16, 17. */
 int64_t swivelcrane_later(const uint8_t *first, size_t first_length, const uint8_t *second, size_t second_length,
                           int64_t *which, size_t which_length);
 
-/* Room that a sheet or a plan of n bytes asks for in out: 11 bytes for each byte of input, up to 65,536 of them, and 7. */
-#define SWIVELCRANE_ROOM(n) (11 * ((n) < 65536 ? (size_t)(n) : (size_t)65536) + 7)
+/* Why neither of two point lines is the later one. out has 3 elements and becomes: the refusal number that swivelcrane_later
+ * answers; the line at fault, 1 or 2, or 0 where neither alone is (16, 17); and the place in that line. The place is the byte, from
+ * 0, where the first offending field begins; for 18 and 20 the line's length without its line feed, at most 200; 0 for every number
+ * but 18 to 22. Three zeros where one line is the later. It answers 0, or SWIVELCRANE_WRONG_LENGTH with nothing written. */
+int64_t swivelcrane_later_fault(const uint8_t *first, size_t first_length, const uint8_t *second, size_t second_length,
+                                int64_t *out, size_t out_length);
+
+/* Room that a sheet or a plan of n bytes asks for in out: 13 bytes for each byte of input, up to 65,536 of them, and 9. */
+#define SWIVELCRANE_ROOM(n) (13 * ((n) < 65536 ? (size_t)(n) : (size_t)65536) + 9)
 
 /* A whole sheet, and a whole plan, from its bytes to what the program prints. The answer is the length of the text, whose
  * bytes stand at the start of out; the bytes past it are as they were. */

@@ -31,13 +31,13 @@ int LLVMFuzzerTestOneInput(const uint8_t *data, size_t size) {
     static uint8_t *input_end, *output_end;
     if (input_end == NULL) {
         input_end = before_a_wall(2 * MOST);
-        output_end = before_a_wall(11 * MOST + 7);
+        output_end = before_a_wall(13 * MOST + 9);
     }
     if (size > 2 * MOST) {
         return 0;
     }
     uint8_t *input = input_end - size;
-    size_t room = 11 * (size < MOST ? size : MOST) + 7;
+    size_t room = 13 * (size < MOST ? size : MOST) + 9;
     uint8_t *output = output_end - room;
     memcpy(input, data, size);
     int64_t length = PLAN ? swivelcrane_plan(input, size, output, room) : swivelcrane_sheet(input, size, output, room);

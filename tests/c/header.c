@@ -204,17 +204,32 @@ static void rounding(void) {
 
 #define TEXT(s) (const uint8_t *)(s), sizeof(s) - 1
 #define FIRST "P\tARAU\t10\t6\t2000000\t-113105165410\t623631179950\t71174811140\n"
+#define BAD "P\tARAU\t9\t6\t2000000\t-113105165411\t+623631179950\t71174811140\n"
+#define OTHER "P\tARAV\t9\t6\t2000000\t-113105165411\t623631179950\t71174811140\n"
 #define SECOND "P\tARAU\t9\t6\t2000000\t-113105165411\t623631179950\t71174811140\n"
 
 static void later(void) {
     wrote(swivelcrane_later(TEXT(FIRST), TEXT(SECOND), out, 1), stored_later, 1, "later, the first");
     wrote(swivelcrane_later(TEXT(SECOND), TEXT(FIRST), out, 1), stored_later + 1, 1, "later, the second");
-    refused(swivelcrane_later(TEXT(FIRST), TEXT("P\tARAU\n"), out, 1), SWIVELCRANE_REFUSAL_FORM, "later: 1");
+    refused(swivelcrane_later(TEXT(FIRST), TEXT("P\tARAU"), out, 1), SWIVELCRANE_REFUSAL_LENGTH, "later: 18");
+    refused(swivelcrane_later(TEXT(FIRST), TEXT("S\tARAU\n"), out, 1), SWIVELCRANE_REFUSAL_LETTER, "later: 19");
+    refused(swivelcrane_later(TEXT(FIRST), TEXT("P\tarau\n"), out, 1), SWIVELCRANE_REFUSAL_COUNT, "later: 20");
+    refused(swivelcrane_later(TEXT("P\tarau\t01\t6\t2000000\t1\t2\t3\n"), TEXT(SECOND), out, 1), SWIVELCRANE_REFUSAL_ID, "later: 21");
+    refused(swivelcrane_later(TEXT(FIRST), TEXT(BAD), out, 1), SWIVELCRANE_REFUSAL_PLAIN, "later: 22");
     refused(swivelcrane_later(TEXT("P\tA\t0\t6\t2000000\t1\t2\t3\n"), TEXT("P\n"), out, 1), SWIVELCRANE_REFUSAL_RANGE, "later: 2, the first before the second");
     refused(swivelcrane_later(TEXT("P\tA\t1\t6\t0\t1\t2\t3\n"), TEXT(SECOND), out, 1), SWIVELCRANE_REFUSAL_EPOCH, "later: 3");
     refused(swivelcrane_later(TEXT(FIRST), TEXT("P\tA\t1\t6\t2000000\t1\t2\t3\n"), out, 1), SWIVELCRANE_REFUSAL_IDS, "later: 16");
     refused(swivelcrane_later(TEXT(FIRST), TEXT("P\tARAU\t10\t6\t2000000\t1\t2\t3\n"), out, 1), SWIVELCRANE_REFUSAL_SAME, "later: 17");
     refused(swivelcrane_later(TEXT(FIRST), TEXT(SECOND), out, 2), SWIVELCRANE_WRONG_LENGTH, "later, room for two");
+}
+
+static void faults_of_the_later(void) {
+    wrote(swivelcrane_later_fault(TEXT(FIRST), TEXT(BAD), out, 3), stored_later_fault, 3, "later_fault, the second line");
+    wrote(swivelcrane_later_fault(TEXT(BAD), TEXT(""), out, 3), stored_later_fault_first, 3, "later_fault, the first line");
+    wrote(swivelcrane_later_fault(TEXT(FIRST), TEXT(OTHER), out, 3), stored_later_fault_ids, 3, "later_fault, neither line");
+    wrote(swivelcrane_later_fault(TEXT(FIRST), TEXT(SECOND), out, 3), stored_later_fault_none, 3, "later_fault, none");
+    refused(swivelcrane_later_fault(TEXT(FIRST), TEXT(SECOND), out, 2), SWIVELCRANE_WRONG_LENGTH, "later_fault, room for two");
+    refused(swivelcrane_later_fault(TEXT(BAD), TEXT(SECOND), out, 4), SWIVELCRANE_WRONG_LENGTH, "later_fault, room for four");
 }
 
 typedef int64_t printer(const uint8_t *, size_t, uint8_t *, size_t);
@@ -236,21 +251,23 @@ static void prints(printer *program, const uint8_t *input, size_t length, const 
 static void programs(void) {
     static uint8_t longest[65537];
     memset(longest, '\n', sizeof longest);
-    prints(swivelcrane_sheet, TEXT(SHIFT A1 SHIFT A1), "P\tA1\t1\t6\t2006586\t-113105181242\t623631175587\t71174801434\nR\t3\t7\nR\t4\t8\n", "sheet");
-    prints(swivelcrane_plan, TEXT(ORIGIN "G\tB1\t1440000000\t36720000000\n" ORIGIN), "C\tB1\t50000\t-25000\nR\t3\t7\n", "plan");
-    prints(swivelcrane_sheet, TEXT("G\tB1\t1440000000\t36720000000\n"), "R\t1\t1\n", "a position in a sheet");
-    prints(swivelcrane_plan, TEXT(A1), "R\t1\t1\n", "a point in a plan");
-    prints(swivelcrane_sheet, longest, sizeof longest, "R\t0\t15\n", "a sheet that is too long");
-    prints(swivelcrane_plan, longest, sizeof longest, "R\t0\t15\n", "a plan that is too long");
+    prints(swivelcrane_sheet, TEXT(SHIFT A1 SHIFT A1), "P\tA1\t1\t6\t2006586\t-113105181242\t623631175587\t71174801434\nR\t3\t7\t0\nR\t4\t8\t0\n", "sheet");
+    prints(swivelcrane_plan, TEXT(ORIGIN "G\tB1\t1440000000\t36720000000\n" ORIGIN), "C\tB1\t50000\t-25000\nR\t3\t7\t0\n", "plan");
+    prints(swivelcrane_sheet, TEXT("G\tB1\t1440000000\t36720000000\n"), "R\t1\t19\t0\n", "a position in a sheet");
+    prints(swivelcrane_plan, TEXT(A1), "R\t1\t19\t0\n", "a point in a plan");
+    prints(swivelcrane_sheet, longest, sizeof longest, "R\t0\t15\t0\n", "a sheet that is too long");
+    prints(swivelcrane_plan, longest, sizeof longest, "R\t0\t15\t0\n", "a plan that is too long");
     prints(swivelcrane_sheet, longest, 0, "", "an empty sheet");
     prints(swivelcrane_plan, longest, 0, "", "an empty plan");
+    prints(swivelcrane_sheet, TEXT("S\n" A1 "P\tA1\t01\t"), "R\t1\t20\t1\nR\t2\t8\t0\nR\t3\t18\t8\n", "places in a sheet");
+    prints(swivelcrane_plan, TEXT("O\t1\t1440000000\t036720000000\t50000\t-25000\nG\tb1\t1\t2\n"), "R\t1\t22\t15\nR\t2\t21\t2\n", "places in a plan");
 }
 
 static void numbers(void) {
-    hold(SWIVELCRANE_ROOM(0) == 7 && SWIVELCRANE_ROOM(1 + 1) == 29 && SWIVELCRANE_ROOM(65535) == 720892, "the room");
-    hold(SWIVELCRANE_ROOM(65536) == 720903 && SWIVELCRANE_ROOM(65537) == 720903, "the most room");
+    hold(SWIVELCRANE_ROOM(0) == 9 && SWIVELCRANE_ROOM(1 + 1) == 35 && SWIVELCRANE_ROOM(65535) == 851964, "the room");
+    hold(SWIVELCRANE_ROOM(65536) == 851977 && SWIVELCRANE_ROOM(65537) == 851977, "the most room");
     hold(STEP == 13 && POINT == 6 && SWIVELCRANE_WRONG_LENGTH == 255, "numbers to a step, to a point, a wrong length");
-    hold(SWIVELCRANE_VERSION_MAJOR == 1 && SWIVELCRANE_VERSION_MINOR == 1, "the version");
+    hold(SWIVELCRANE_VERSION_MAJOR == 2 && SWIVELCRANE_VERSION_MINOR == 0, "the version");
     hold(SWIVELCRANE_REFUSAL_PLACE == 7 && SWIVELCRANE_REFUSAL_EARLIER == 8 && SWIVELCRANE_REFUSAL_LONG == 15, "the numbers that only a text has");
 }
 
@@ -266,6 +283,7 @@ int main(void) {
     oblique_mercator();
     rounding();
     later();
+    faults_of_the_later();
     programs();
     if (faults == 0)
         printf("tests/c: every function of the header answers as stored\n");

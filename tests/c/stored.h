@@ -12,3 +12,7 @@ static const uint64_t stored_rso_forward[2] = {UINT64_C(0xc11eac6007ba0f2c), UIN
 static const int64_t stored_rso_reverse[2] = {2345678901, 38765432109};
 static const int64_t stored_rounded[1] = {-1234568};
 static const int64_t stored_later[2] = {1, 2};
+static const int64_t stored_later_fault[3] = {22, 2, 33};
+static const int64_t stored_later_fault_first[3] = {22, 1, 33};
+static const int64_t stored_later_fault_ids[3] = {16, 0, 0};
+static const int64_t stored_later_fault_none[3] = {0, 0, 0};

@@ -1,6 +1,5 @@
 //! Ranges and faults of steps and points.
 
-pub const FORM: u8 = 1;
 pub const RANGE: u8 = 2;
 pub const DATUM_EPOCH: u8 = 3;
 pub const KIND_RULE: u8 = 4;
@@ -15,7 +14,26 @@ pub const ANGLE: u8 = 12;
 pub const APART: u8 = 13;
 pub const IDS: u8 = 16;
 pub const SAME_ISSUE: u8 = 17;
+pub const LENGTH: u8 = 18;
+pub const LETTER: u8 = 19;
+pub const COUNT: u8 = 20;
+pub const ID: u8 = 21;
+pub const PLAIN: u8 = 22;
 pub const PROJECTED: u8 = 23;
+
+/// A refused line: the number and, for its form, the byte where the offending field begins.
+#[derive(Clone, Copy, PartialEq, Eq, Debug)]
+pub struct Fault {
+    pub number: u8,
+    pub place: u8,
+}
+
+impl From<u8> for Fault {
+    #[inline]
+    fn from(number: u8) -> Fault {
+        Fault { number, place: 0 }
+    }
+}
 
 #[derive(Clone, Copy, PartialEq, Eq, Debug)]
 pub struct Place {

@@ -6,6 +6,7 @@ pub mod check;
 mod elementary;
 pub mod geodetic;
 pub mod later;
+mod malformed;
 pub mod numbers;
 pub mod plan;
 pub mod program;

@@ -1,5 +1,6 @@
 //! The frame of both programs.
 
+use crate::check::Fault;
 use crate::read::Reader;
 use crate::write;
 use std::io::{self, Read, Write};
@@ -12,10 +13,10 @@ pub const MOST_BYTES: usize = 65_536;
 pub fn run(
     input: &[u8],
     out: &mut Vec<u8>,
-    mut line: impl FnMut(&mut Reader, i64, &mut Vec<u8>) -> Result<(), u8>,
+    mut line: impl FnMut(&mut Reader, i64, &mut Vec<u8>) -> Result<(), Fault>,
 ) {
     if input.len() > MOST_BYTES {
-        write::refusal(out, 0, 15);
+        write::refusal(out, 0, 15.into());
         return;
     }
     let mut reader = Reader::new(input);

@@ -1,6 +1,7 @@
 //! A reader that goes once over each line, field by field.
 
-use crate::check::{Kind, Place, Point, Step};
+use crate::check::{Fault, Kind, Place, Point, Step};
+use crate::malformed;
 
 const TAB: u8 = b'\t';
 const FEED: u8 = b'\n';
@@ -24,22 +25,47 @@ impl<'a> Reader<'a> {
         self.at >= self.bytes.len()
     }
 
-    /// Reads a line by its fields and leaves the reader behind it, good form or not.
+    /// Reads a line by its fields and leaves the reader behind it, good form or not; the letters are those that
+    /// begin a line here.
     #[inline]
-    pub fn line<T>(&mut self, fields: impl FnOnce(&mut Self) -> Option<T>) -> Option<T> {
+    pub fn line<T>(
+        &mut self,
+        letters: &[u8],
+        fields: impl FnOnce(&mut Self) -> Option<T>,
+    ) -> Result<T, Fault> {
         let start = self.at;
         match fields(self) {
-            Some(value) if self.at - start <= 200 => Some(value),
-            Some(_) => None,
+            Some(value) if self.at - start <= 200 => Ok(value),
+            Some(_) => Err(malformed::fault(&self.bytes[start..self.at], letters)),
             None => {
                 self.skip();
-                None
+                Err(malformed::fault(&self.bytes[start..self.at], letters))
             }
         }
     }
 
+    /// The whole of the bytes, which are one line: what is behind its first line feed belongs to it too.
+    pub fn only<T>(
+        bytes: &'a [u8],
+        letters: &[u8],
+        fields: impl FnOnce(&mut Self) -> Option<T>,
+    ) -> Result<T, Fault> {
+        let mut reader = Reader::new(bytes);
+        match fields(&mut reader) {
+            Some(value) if reader.done() && bytes.len() <= 200 => Ok(value),
+            _ => Err(malformed::fault(bytes, letters)),
+        }
+    }
+
+    /// A line that begins with none of the letters.
+    pub fn unknown(&mut self, letters: &[u8]) -> Fault {
+        let start = self.at;
+        self.skip();
+        malformed::fault(&self.bytes[start..self.at], letters)
+    }
+
     /// Behind the next line feed, or to the end.
-    pub fn skip(&mut self) {
+    fn skip(&mut self) {
         let rest = &self.bytes[self.at..];
         self.at += rest.iter().position(|&b| b == FEED).map_or(rest.len(), |feed| feed + 1);
     }

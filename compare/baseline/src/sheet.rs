@@ -1,10 +1,12 @@
 //! The sheet: steps, then points.
 
-use crate::check::{self, Step, EARLIER, FORM, JOIN, NINTH, ORDER};
+use crate::check::{self, Fault, Step, EARLIER, JOIN, NINTH, ORDER};
 use crate::program;
 use crate::read::Reader;
 use crate::steps::Chain;
 use crate::write;
+
+const LETTERS: &[u8] = b"SP";
 
 pub fn sheet(input: &[u8], out: &mut Vec<u8>) {
     let mut sheet = Sheet::default();
@@ -19,18 +21,16 @@ struct Sheet {
 }
 
 impl Sheet {
-    fn line(&mut self, reader: &mut Reader, out: &mut Vec<u8>) -> Result<(), u8> {
+    fn line(&mut self, reader: &mut Reader, out: &mut Vec<u8>) -> Result<(), Fault> {
         match reader.first() {
             Some(b'S') => {
-                let answer = reader.line(Reader::step).ok_or(FORM).and_then(|step| self.step(&step));
+                let read = reader.line(LETTERS, Reader::step);
+                let answer = read.and_then(|step| self.step(&step).map_err(Fault::from));
                 self.refused |= answer.is_err();
                 answer
             }
             Some(b'P') => self.point(reader, out),
-            _ => {
-                reader.skip();
-                Err(FORM)
-            }
+            _ => Err(reader.unknown(LETTERS)),
         }
     }
 
@@ -52,15 +52,15 @@ impl Sheet {
         }
     }
 
-    fn point(&mut self, reader: &mut Reader, out: &mut Vec<u8>) -> Result<(), u8> {
-        let (id, point) = reader.line(Reader::point).ok_or(FORM)?;
+    fn point(&mut self, reader: &mut Reader, out: &mut Vec<u8>) -> Result<(), Fault> {
+        let (id, point) = reader.line(LETTERS, Reader::point)?;
         self.points = true;
         let fault = check::point(&point);
         if fault != 0 {
-            return Err(fault);
+            return Err(fault.into());
         }
         if self.refused {
-            return Err(EARLIER);
+            return Err(EARLIER.into());
         }
         let moved = self.chain.forward(point)?;
         let [x, y, z] = moved.xyz;

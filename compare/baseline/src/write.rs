@@ -1,5 +1,7 @@
 //! Output lines.
 
+use crate::check::Fault;
+
 pub fn number(out: &mut Vec<u8>, value: i64) {
     let mut digits = [0; 20];
     let mut at = digits.len();
@@ -30,10 +32,12 @@ pub fn line(out: &mut Vec<u8>, letter: u8, id: &[u8], numbers: &[i64]) {
     out.push(b'\n');
 }
 
-pub fn refusal(out: &mut Vec<u8>, line: i64, refused: u8) {
+pub fn refusal(out: &mut Vec<u8>, line: i64, fault: Fault) {
     out.extend_from_slice(b"R\t");
     number(out, line);
     out.push(b'\t');
-    number(out, i64::from(refused));
+    number(out, i64::from(fault.number));
+    out.push(b'\t');
+    number(out, i64::from(fault.place));
     out.push(b'\n');
 }

@@ -94,6 +94,14 @@ mod c {
             which: *mut i64,
             which_len: usize,
         ) -> i64;
+        pub fn swivelcrane_later_fault(
+            first: *const u8,
+            first_len: usize,
+            second: *const u8,
+            second_len: usize,
+            out: *mut i64,
+            out_len: usize,
+        ) -> i64;
         pub fn swivelcrane_sheet(input: *const u8, input_len: usize, out: *mut u8, out_len: usize) -> i64;
         pub fn swivelcrane_plan(input: *const u8, input_len: usize, out: *mut u8, out_len: usize) -> i64;
     }
@@ -175,6 +183,19 @@ pub fn later(first: &[u8], second: &[u8], which: &mut [i64]) -> i64 {
     }
 }
 
+pub fn later_fault(first: &[u8], second: &[u8], out: &mut [i64]) -> i64 {
+    unsafe {
+        c::swivelcrane_later_fault(
+            first.as_ptr(),
+            first.len(),
+            second.as_ptr(),
+            second.len(),
+            out.as_mut_ptr(),
+            out.len(),
+        )
+    }
+}
+
 pub fn sheet(input: &[u8], out: &mut [u8]) -> i64 {
     unsafe { c::swivelcrane_sheet(input.as_ptr(), input.len(), out.as_mut_ptr(), out.len()) }
 }
@@ -185,7 +206,7 @@ pub fn plan(input: &[u8], out: &mut [u8]) -> i64 {
 
 /// The room that a sheet or plan asks for.
 pub fn room(input: &[u8]) -> usize {
-    11 * input.len().min(65_536) + 7
+    13 * input.len().min(65_536) + 9
 }
 
 pub const MARK: i64 = 0x5a5a_a5a5_1234_4321;
@@ -202,7 +223,7 @@ fn lend<T: Copy + PartialEq, const N: usize>(mark: T, call: impl FnOnce(&mut [T]
     match number {
         0 => Ok(std::array::from_fn(|i| places[1 + i])),
         _ if touched(&places) => Err(WROTE),
-        1..=23 | 255 => Err(number as u8),
+        2..=23 | 255 => Err(number as u8),
         _ => Err(STRANGE),
     }
 }
@@ -262,6 +283,9 @@ impl Subject for Product {
     }
     fn later(&self, first: &[u8], second: &[u8]) -> Answer<i64> {
         lend(MARK, |which| later(first, second, which)).map(|[which]| which)
+    }
+    fn later_fault(&self, first: &[u8], second: &[u8]) -> Answer<[i64; 3]> {
+        lend(MARK, |out| later_fault(first, second, out))
     }
     fn sheet(&self, input: &[u8]) -> Vec<u8> {
         print(input, sheet)

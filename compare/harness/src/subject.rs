@@ -26,6 +26,8 @@ pub trait Subject {
     fn rso_reverse(&self, parameters: &[i64; 8], easting: f64, northing: f64) -> Answer<[i64; 2]>;
     fn round(&self, x: f64, places: u32) -> Answer<i64>;
     fn later(&self, first: &[u8], second: &[u8]) -> Answer<i64>;
+    /// The number, the line (1, 2, or 0 for neither) and the place of its refusal; zeros for none.
+    fn later_fault(&self, first: &[u8], second: &[u8]) -> Answer<[i64; 3]>;
     fn sheet(&self, input: &[u8]) -> Vec<u8>;
     fn plan(&self, input: &[u8]) -> Vec<u8>;
 }
@@ -72,7 +74,12 @@ impl Subject for Paper {
         paper::decimal::round(x, places)
     }
     fn later(&self, first: &[u8], second: &[u8]) -> Answer<i64> {
-        paper::later::later(first, second).map(|which| if which == Which::First { 1 } else { 2 })
+        let answer = paper::later::later(first, second);
+        answer.map(|which| if which == Which::First { 1 } else { 2 }).map_err(|refused| refused.number)
+    }
+    fn later_fault(&self, first: &[u8], second: &[u8]) -> Answer<[i64; 3]> {
+        let refused = paper::later::later(first, second).err();
+        Ok(refused.map_or([0; 3], |r| [i64::from(r.number), r.line, r.place as i64]))
     }
     fn sheet(&self, input: &[u8]) -> Vec<u8> {
         paper::sheet::sheet(input)
@@ -124,7 +131,10 @@ impl Subject for Baseline {
         baseline::round::decimals(x, places)
     }
     fn later(&self, first: &[u8], second: &[u8]) -> Answer<i64> {
-        baseline::later::later(first, second)
+        baseline::later::later(first, second).map_err(|[number, _, _]| number as u8)
+    }
+    fn later_fault(&self, first: &[u8], second: &[u8]) -> Answer<[i64; 3]> {
+        Ok(baseline::later::later(first, second).err().unwrap_or_default())
     }
     fn sheet(&self, input: &[u8]) -> Vec<u8> {
         let mut out = Vec::new();

@@ -36,9 +36,9 @@ const REACHABLE: [(Function, &str, &[u8]); FUNCTIONS] = [
     (RsoForward, "RSO forward", &[0, 2, 12]),
     (RsoReverse, "RSO reverse", &[0, 2, 12, 23]),
     (Round, "round", &[0, 2, 14]),
-    (Later, "later of two", &[0, 1, 2, 3, 16, 17]),
-    (Sheet, "sheet, lines", &[0, 1, 2, 3, 4, 5, 6, 7, 8, 9, 10, 11, 15]),
-    (Plan, "plan, lines", &[0, 1, 2, 7, 8, 12, 13, 15]),
+    (Later, "later of two", &[0, 2, 3, 16, 17, 18, 19, 20, 21, 22]),
+    (Sheet, "sheet, lines", &[0, 2, 3, 4, 5, 6, 7, 8, 9, 10, 11, 15, 18, 19, 20, 21, 22]),
+    (Plan, "plan, lines", &[0, 2, 7, 8, 12, 13, 15, 18, 19, 20, 21, 22]),
 ];
 
 #[derive(Clone, Default)]
@@ -55,7 +55,7 @@ impl Tally {
     /// Counts the R lines of an output by their numbers, and the others as answers.
     pub fn count_lines(&mut self, function: Function, output: &[u8]) {
         for line in output.split(|&b| b == b'\n').filter(|line| !line.is_empty()) {
-            let number = line.rsplit(|&b| b == b'\t').next().unwrap_or_default();
+            let number = line.split(|&b| b == b'\t').nth(2).unwrap_or_default();
             let number = std::str::from_utf8(number).ok().and_then(|text| text.parse().ok());
             let answer = if line[0] == b'R' { Err(number.unwrap_or(0)) } else { Ok(()) };
             self.count(function, &answer);

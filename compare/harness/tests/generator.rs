@@ -35,8 +35,13 @@ fn full_inputs_go_through() {
     let refusals = full::refusals(&mut rng, &chains, 65_536);
     let output = paper::sheet::sheet(&refusals);
     let numbers: BTreeSet<&[u8]> =
-        output.split(|&b| b == b'\n').filter_map(|line| line.rsplit(|&b| b == b'\t').next()).collect();
-    let expected: [&[u8]; 6] = [b"", b"1", b"10", b"2", b"3", b"9"];
+        output.split(|&b| b == b'\n').filter_map(|line| line.split(|&b| b == b'\t').nth(2)).collect();
+    let expected: [&[u8]; 5] = [b"10", b"2", b"21", b"3", b"9"];
+    assert_eq!(numbers, BTreeSet::from(expected));
+    let output = paper::sheet::sheet(&full::malformed(&mut rng, &chains, 65_536));
+    let numbers: BTreeSet<&[u8]> =
+        output.split(|&b| b == b'\n').filter_map(|line| line.split(|&b| b == b'\t').nth(2)).collect();
+    let expected: [&[u8]; 5] = [b"18", b"19", b"20", b"21", b"22"];
     assert_eq!(numbers, BTreeSet::from(expected));
 }
 

@@ -1,19 +1,79 @@
-//! Document 01, "Lines": the forms of the four lines. What is not of its form is refused with 1.
+//! Document 01, "Lines", and request A2: the forms of the four lines. What is not of its form is refused with 18 to
+//! 22, and that order goes over the whole line: a later field's 19 comes before an earlier field's 21.
 
 use crate::angle::Origin;
 use crate::chain::Point;
-use crate::refusal::{Refusal, FORM};
+use crate::refusal::{Fault, Refusal, COUNT, ID, LENGTH, LETTER, PLAIN};
 use crate::step::{Convention, Kind, Realization, Step};
 
 pub const LONGEST: usize = 200;
 
-/// The fields of a line that ends in its line feed and has at most 200 bytes with it.
-fn fields(line: &[u8]) -> Option<Vec<&[u8]>> {
-    let (last, body) = line.split_last()?;
-    if *last != b'\n' || line.len() > LONGEST || body.contains(&b'\n') {
-        return None;
+struct Field<'a> {
+    /// The byte of the line, from 0, where it begins.
+    at: usize,
+    bytes: &'a [u8],
+}
+
+struct Line<'a> {
+    fields: Vec<Field<'a>>,
+    /// Without the line feed.
+    length: usize,
+}
+
+fn offends<T>(number: Refusal, place: usize) -> Result<T, Fault> {
+    Err(Fault { number, place })
+}
+
+impl<'a> Line<'a> {
+    /// 18: the line ends in a line feed and has at most 200 bytes with it. A line feed before the end is a byte of its
+    /// field.
+    fn cut(line: &'a [u8]) -> Result<Line<'a>, Fault> {
+        let body = line.strip_suffix(b"\n");
+        let length = body.unwrap_or(line).len();
+        let Some(body) = body.filter(|_| line.len() <= LONGEST) else {
+            return offends(LENGTH, length.min(LONGEST));
+        };
+        let mut at = 0;
+        let mut fields = Vec::new();
+        for bytes in body.split(|&byte| byte == b'\t') {
+            fields.push(Field { at, bytes });
+            at += bytes.len() + 1;
+        }
+        Ok(Line { fields, length })
     }
-    Some(body.split(|&byte| byte == b'\t').collect())
+
+    /// 19: the field, where the line has it, is one of these letters.
+    fn letter(&self, index: usize, known: &[u8]) -> Result<Option<u8>, Fault> {
+        let Some(field) = self.fields.get(index) else { return Ok(None) };
+        match field.bytes {
+            [letter] if known.contains(letter) => Ok(Some(*letter)),
+            _ => offends(LETTER, field.at),
+        }
+    }
+
+    /// 20.
+    fn count(&self, count: usize) -> Result<(), Fault> {
+        if self.fields.len() == count {
+            Ok(())
+        } else {
+            offends(COUNT, self.length)
+        }
+    }
+
+    /// 21.
+    fn id(&self, index: usize) -> Result<&'a [u8], Fault> {
+        let field = &self.fields[index];
+        id(field.bytes).map_or(offends(ID, field.at), Ok)
+    }
+
+    /// 22: the numbers of so many fields, the leftmost first.
+    fn numbers<const N: usize>(&self, from: usize) -> Result<[i64; N], Fault> {
+        let mut values = [0; N];
+        for (value, field) in values.iter_mut().zip(&self.fields[from..]) {
+            *value = number(field.bytes).map_or(offends(PLAIN, field.at), Ok)?;
+        }
+        Ok(values)
+    }
 }
 
 /// Decimal, no plus, no spare zeros, no -0. A number of more than 18 digits is out of every range, so
@@ -35,11 +95,6 @@ fn number(field: &[u8]) -> Option<i64> {
     Some(if negative { -size } else { size })
 }
 
-fn numbers<const N: usize>(fields: &[&[u8]]) -> Option<[i64; N]> {
-    let values: Option<Vec<i64>> = fields.iter().map(|field| number(field)).collect();
-    values?.try_into().ok()
-}
-
 /// 1 to 16 of A-Z, 0-9, hyphen.
 fn id(field: &[u8]) -> Option<&[u8]> {
     let allowed = |byte: &u8| matches!(byte, b'A'..=b'Z' | b'0'..=b'9' | b'-');
@@ -54,72 +109,69 @@ pub struct Named<'a, T> {
 }
 
 /// P, id, issue, datum, epoch, X, Y, Z.
-pub fn point(line: &[u8]) -> Result<Named<'_, Point>, Refusal> {
-    point_form(line).ok_or(FORM)
+pub fn point(line: &[u8]) -> Result<Named<'_, Point>, Fault> {
+    let line = Line::cut(line)?;
+    line.letter(0, b"P")?;
+    line.count(8)?;
+    let id = line.id(1)?;
+    let [issue, datum, epoch, x, y, z] = line.numbers(2)?;
+    Ok(Named { id, value: Point { issue, at: Realization { datum, epoch }, position: [x, y, z] } })
 }
 
-fn point_form(line: &[u8]) -> Option<Named<'_, Point>> {
-    let fields = fields(line)?;
-    let [b"P", name, rest @ ..] = fields.as_slice() else { return None };
-    let [issue, datum, epoch, x, y, z] = numbers(rest)?;
-    let value = Point { issue, at: Realization { datum, epoch }, position: [x, y, z] };
-    Some(Named { id: id(name)?, value })
-}
-
-/// S, kind, datum, epoch, datum, epoch, then what the kind asks.
-pub fn step(line: &[u8]) -> Result<Step, Refusal> {
-    step_form(line).ok_or(FORM)
-}
-
-fn step_form(line: &[u8]) -> Option<Step> {
-    let fields = fields(line)?;
-    let [b"S", letter, d1, e1, d2, e2, rest @ ..] = fields.as_slice() else { return None };
-    let [datum, epoch] = numbers(&[d1, e1])?;
-    let before = Realization { datum, epoch };
-    let [datum, epoch] = numbers(&[d2, e2])?;
-    let after = Realization { datum, epoch };
-    let kind = match (*letter, rest) {
-        (b"T", _) => Kind::Shift(numbers(rest)?),
-        (b"V", _) => Kind::Velocity(numbers(rest)?),
-        (b"B", [letter, rest @ ..]) => bursa_wolf(letter, rest)?,
-        (b"F", []) => Kind::Frame,
-        _ => return None,
+/// S, kind, datum, epoch, datum, epoch, then what the kind asks: three numbers; or P or C, dx, dy, dz, rx, ry, rz, s; or
+/// nothing. A missing kind or convention is 20.
+pub fn step(line: &[u8]) -> Result<Step, Fault> {
+    let line = Line::cut(line)?;
+    line.letter(0, b"S")?;
+    let Some(letter) = line.letter(1, b"TVBF")? else { return offends(COUNT, line.length) };
+    let convention = if letter == b'B' { line.letter(6, b"PC")? } else { None };
+    line.count(match letter {
+        b'B' => 14,
+        b'F' => 6,
+        _ => 9,
+    })?;
+    let [d1, e1, d2, e2] = line.numbers(2)?;
+    let kind = match letter {
+        b'T' => Kind::Shift(line.numbers(6)?),
+        b'V' => Kind::Velocity(line.numbers(6)?),
+        b'B' => bursa_wolf(convention, line.numbers(7)?),
+        _ => Kind::Frame,
     };
-    Some(Step { kind, before, after })
+    Ok(Step {
+        kind,
+        before: Realization { datum: d1, epoch: e1 },
+        after: Realization { datum: d2, epoch: e2 },
+    })
 }
 
-/// P or C, dx, dy, dz, rx, ry, rz, s.
-fn bursa_wolf(letter: &[u8], rest: &[&[u8]]) -> Option<Kind> {
-    let convention = match letter {
-        b"P" => Convention::PositionVector,
-        b"C" => Convention::CoordinateFrame,
-        _ => return None,
+fn bursa_wolf(convention: Option<u8>, [dx, dy, dz, rx, ry, rz, scale]: [i64; 7]) -> Kind {
+    let convention = match convention {
+        Some(b'C') => Convention::CoordinateFrame,
+        _ => Convention::PositionVector,
     };
-    let [dx, dy, dz, rx, ry, rz, scale] = numbers(rest)?;
-    Some(Kind::BursaWolf { convention, shift: [dx, dy, dz], rotation: [rx, ry, rz], scale })
+    Kind::BursaWolf { convention, shift: [dx, dy, dz], rotation: [rx, ry, rz], scale }
 }
 
 /// O, ellipsoid, latitude, longitude, FE, FN.
-pub fn origin(line: &[u8]) -> Result<Origin, Refusal> {
-    origin_form(line).ok_or(FORM)
-}
-
-fn origin_form(line: &[u8]) -> Option<Origin> {
-    let fields = fields(line)?;
-    let [b"O", rest @ ..] = fields.as_slice() else { return None };
-    let [ellipsoid, latitude, longitude, false_easting, false_northing] = numbers(rest)?;
-    Some(Origin { ellipsoid, latitude, longitude, false_easting, false_northing })
+pub fn origin(line: &[u8]) -> Result<Origin, Fault> {
+    let line = Line::cut(line)?;
+    line.letter(0, b"O")?;
+    line.count(6)?;
+    let [ellipsoid, latitude, longitude, false_easting, false_northing] = line.numbers(1)?;
+    Ok(Origin { ellipsoid, latitude, longitude, false_easting, false_northing })
 }
 
 /// G, id, latitude, longitude.
-pub fn geodetic(line: &[u8]) -> Result<Named<'_, [i64; 2]>, Refusal> {
-    geodetic_form(line).ok_or(FORM)
+pub fn geodetic(line: &[u8]) -> Result<Named<'_, [i64; 2]>, Fault> {
+    let line = Line::cut(line)?;
+    line.letter(0, b"G")?;
+    line.count(4)?;
+    Ok(Named { id: line.id(1)?, value: line.numbers(2)? })
 }
 
-fn geodetic_form(line: &[u8]) -> Option<Named<'_, [i64; 2]>> {
-    let fields = fields(line)?;
-    let [b"G", name, rest @ ..] = fields.as_slice() else { return None };
-    Some(Named { value: numbers(rest)?, id: id(name)? })
+/// A line whose first letter no reader of its program knows: 18, then 19 at its first byte.
+pub fn unknown(line: &[u8]) -> Fault {
+    Line::cut(line).err().unwrap_or(Fault { number: LETTER, place: 0 })
 }
 
 /// The lines of an input. A last piece with no line feed is a line of its own, and its form refuses it.

@@ -3,7 +3,7 @@
 use crate::angle::{self, Origin};
 use crate::lines;
 use crate::program::{self, Reader};
-use crate::refusal::{unless, Refusal, ANGLE, EARLIER, FORM, ORDER};
+use crate::refusal::{unless, Fault, ANGLE, EARLIER, ORDER};
 
 pub fn plan(input: &[u8]) -> Vec<u8> {
     program::run(input, Plan::default())
@@ -16,19 +16,19 @@ struct Plan {
 }
 
 impl Reader for Plan {
-    fn line(&mut self, line: &[u8]) -> Result<String, Refusal> {
+    fn line(&mut self, line: &[u8]) -> Result<String, Fault> {
         self.lines_read += 1;
         match line.first() {
             Some(b'O') => self.origin(line),
             Some(b'G') => self.geodetic(line),
-            _ => Err(FORM),
+            _ => Err(lines::unknown(line)),
         }
     }
 }
 
 impl Plan {
-    /// Order: 1, 7, 2, 12. An accepted origin prints nothing.
-    fn origin(&mut self, line: &[u8]) -> Result<String, Refusal> {
+    /// Order: 18 to 22, 7, 2, 12. An accepted origin prints nothing.
+    fn origin(&mut self, line: &[u8]) -> Result<String, Fault> {
         let origin = lines::origin(line)?;
         unless(self.lines_read == 1, ORDER)?;
         angle::origin_faults(&origin)?;
@@ -36,8 +36,8 @@ impl Plan {
         Ok(String::new())
     }
 
-    /// Order: 1, 8, 12, 13, then 14.
-    fn geodetic(&mut self, line: &[u8]) -> Result<String, Refusal> {
+    /// Order: 18 to 22, 8, 12, 13, then 14.
+    fn geodetic(&mut self, line: &[u8]) -> Result<String, Fault> {
         let named = lines::geodetic(line)?;
         let origin = self.origin.ok_or(EARLIER)?;
         let [latitude, longitude] = named.value;

@@ -1,30 +1,30 @@
 //! What the two programs have in common: the input's limit, the lines and the R lines.
 
 use crate::lines;
-use crate::refusal::{Refusal, LONG};
+use crate::refusal::{Fault, LONG};
 use std::io::{self, Read, Write};
 
 pub const MOST_BYTES: usize = 65_536;
 
 pub trait Reader {
     /// What an accepted line prints, or its refusal.
-    fn line(&mut self, line: &[u8]) -> Result<String, Refusal>;
+    fn line(&mut self, line: &[u8]) -> Result<String, Fault>;
 }
 
 pub fn run(input: &[u8], mut reader: impl Reader) -> Vec<u8> {
     if input.len() > MOST_BYTES {
-        return refused(0, LONG).into_bytes();
+        return refused(0, LONG.into()).into_bytes();
     }
     let mut out = Vec::new();
     for (place, line) in lines::split(input).enumerate() {
-        let text = reader.line(line).unwrap_or_else(|number| refused(place + 1, number));
+        let text = reader.line(line).unwrap_or_else(|fault| refused(place + 1, fault));
         out.extend(text.into_bytes());
     }
     out
 }
 
-fn refused(line: usize, number: Refusal) -> String {
-    format!("R\t{line}\t{number}\n")
+fn refused(line: usize, Fault { number, place }: Fault) -> String {
+    format!("R\t{line}\t{number}\t{place}\n")
 }
 
 /// Standard input to standard output.

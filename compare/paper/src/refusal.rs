@@ -2,7 +2,6 @@
 
 pub type Refusal = u8;
 
-pub const FORM: Refusal = 1;
 pub const RANGE: Refusal = 2;
 pub const DATUM_EPOCH: Refusal = 3;
 pub const KIND_RULE: Refusal = 4;
@@ -19,8 +18,30 @@ pub const FLOAT: Refusal = 14;
 pub const LONG: Refusal = 15;
 pub const IDS: Refusal = 16;
 pub const SAME_ISSUE: Refusal = 17;
+/// A line of over 200 bytes, or with no line feed at its end.
+pub const LENGTH: Refusal = 18;
+/// A first letter, step kind or convention that is unknown or empty.
+pub const LETTER: Refusal = 19;
+/// A wrong number of fields.
+pub const COUNT: Refusal = 20;
+pub const ID: Refusal = 21;
+/// A number not in plain form.
+pub const PLAIN: Refusal = 22;
 /// An easting or northing handed in that is not finite, or is 10,000,000 m or more in size.
 pub const PROJECTED: Refusal = 23;
+
+/// A refusal of a line, and the byte where the first offending field begins: 0 for all but 18 to 22.
+#[derive(Clone, Copy, Debug, PartialEq, Eq)]
+pub struct Fault {
+    pub number: Refusal,
+    pub place: usize,
+}
+
+impl From<Refusal> for Fault {
+    fn from(number: Refusal) -> Fault {
+        Fault { number, place: 0 }
+    }
+}
 
 /// Refuses with the number unless the test holds. The calls stand in the order of the paper's list,
 /// so the first that fails decides.

@@ -3,7 +3,7 @@
 use crate::chain::{self, MOST_STEPS};
 use crate::lines;
 use crate::program::{self, Reader};
-use crate::refusal::{unless, Refusal, EARLIER, FORM, JOIN, NINTH, ORDER};
+use crate::refusal::{unless, Fault, EARLIER, JOIN, NINTH, ORDER};
 use crate::step::{self, Step};
 
 pub fn sheet(input: &[u8]) -> Vec<u8> {
@@ -20,7 +20,7 @@ struct Sheet {
 }
 
 impl Reader for Sheet {
-    fn line(&mut self, line: &[u8]) -> Result<String, Refusal> {
+    fn line(&mut self, line: &[u8]) -> Result<String, Fault> {
         match line.first() {
             Some(b'S') => {
                 let answer = self.step(line);
@@ -28,14 +28,14 @@ impl Reader for Sheet {
                 answer
             }
             Some(b'P') => self.point(line),
-            _ => Err(FORM),
+            _ => Err(lines::unknown(line)),
         }
     }
 }
 
 impl Sheet {
-    /// Order: 1, 2, 3, 4, 8, 7, 5, 6. An accepted step prints nothing.
-    fn step(&mut self, line: &[u8]) -> Result<String, Refusal> {
+    /// Order: 18 to 22, 2, 3, 4, 8, 7, 5, 6. An accepted step prints nothing.
+    fn step(&mut self, line: &[u8]) -> Result<String, Fault> {
         let next = lines::step(line)?;
         step::faults(&next)?;
         unless(!self.step_refused, EARLIER)?;
@@ -46,8 +46,8 @@ impl Sheet {
         Ok(String::new())
     }
 
-    /// Order: 1, 2, 3, 8, 9, 10, 11.
-    fn point(&mut self, line: &[u8]) -> Result<String, Refusal> {
+    /// Order: 18 to 22, 2, 3, 8, 9, 10, 11.
+    fn point(&mut self, line: &[u8]) -> Result<String, Fault> {
         let named = lines::point(line)?;
         self.point_read = true;
         chain::point_faults(&named.value)?;

@@ -166,7 +166,24 @@ pub unsafe extern "C" fn swivelcrane_later(
 ) -> i64 {
     let first = slice::from_raw_parts(first, first_len);
     let second = slice::from_raw_parts(second, second_len);
-    give(baseline::later::later(first, second).map(|which| [which]), which, which_len)
+    let answer = baseline::later::later(first, second);
+    give(answer.map(|which| [which]).map_err(|[number, _, _]| number as u8), which, which_len)
+}
+
+/// # Safety
+/// Each pointer and length are a live slice.
+#[no_mangle]
+pub unsafe extern "C" fn swivelcrane_later_fault(
+    first: *const u8,
+    first_len: usize,
+    second: *const u8,
+    second_len: usize,
+    out: *mut i64,
+    out_len: usize,
+) -> i64 {
+    let first = slice::from_raw_parts(first, first_len);
+    let second = slice::from_raw_parts(second, second_len);
+    give(Ok(baseline::later::later(first, second).err().unwrap_or_default()), out, out_len)
 }
 
 macro_rules! text {
@@ -180,7 +197,7 @@ macro_rules! text {
             out: *mut u8,
             out_len: usize,
         ) -> i64 {
-            if out_len < 11 * input_len.min(65_536) + 7 {
+            if out_len < 13 * input_len.min(65_536) + 9 {
                 return -WRONG_LENGTH;
             }
             let mut text = Vec::new();

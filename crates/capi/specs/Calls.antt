@@ -28,9 +28,10 @@ use Rattle.angle.specs.declared.ProjectedMillimetres.the-variants as millimetre
 use Rattle.angle.specs.Cartesian.{cartesianOf, cartesianUnitsOf}
 use Rattle.angle.specs.Geodetic.{geodeticUnitsOf}
 use Rattle.angle.specs.Cassini.{cassiniOf, cassiniMillimetresOf}
+use Rattle.line.specs.declared.LaterFault.{LaterFault}
 use Rattle.line.specs.declared.Verdict.{Verdict}
 use Rattle.line.specs.declared.Verdict.the-variants as verdict
-use Rattle.line.specs.Later.{laterOf}
+use Rattle.line.specs.Later.{laterOf, laterFaultOf}
 use Rattle.capi.specs.Outcome.{Outcome, refused, gives, ifSized}
 use Rattle.capi.specs.Chains.{chainFrom, pointFrom, pointNumbers, wholeSteps}
 
@@ -109,7 +110,14 @@ roundCall x places out = ifSized (eqb (length out) 1) (ofRounded (roundedOf x pl
 abbrev pub ofVerdict : Verdict → Outcome ℤ
 ofVerdict verdict.First = gives (pos 1 ∷ [])
 ofVerdict verdict.Second = gives (pos 2 ∷ [])
-ofVerdict (verdict.Refused n) = refused n
+ofVerdict (verdict.Refused f) = refused (f .number)
 
 unfoldable pub laterCall : List ℕ → List ℕ → List ℤ → Outcome ℤ
 laterCall one other which = ifSized (eqb (length which) 1) (ofVerdict (laterOf one other))
+
+-- and why neither is: refusal number, line, place; three zeros where one is
+abbrev pub ofLaterFault : LaterFault → Outcome ℤ
+ofLaterFault f = gives (pos (f .number) ∷ pos (f .line) ∷ pos (f .place) ∷ [])
+
+unfoldable pub laterFaultCall : List ℕ → List ℕ → List ℤ → Outcome ℤ
+laterFaultCall one other out = ifSized (eqb (length out) 3) (ofLaterFault (laterFaultOf (laterOf one other)))

@@ -1,8 +1,8 @@
-// What a call returns for a refusal.
+// The small numbers of a refusal, as a call hands them over.
 ghost use mathlib.Core.Path.{_≡_};
 ghost use lib.IntN.{pos};
 
-// A refusal number as a call returns it.
+// A refusal number as a call returns it; and what a call writes of the line and the place.
 pub(crate) fn status(number: u8) -> i64
     ensures { λ r. ⌜ r ≡ pos number ⌝ }
 {

@@ -11,8 +11,8 @@ use borrow.Author.Tests.{eq-eqb, ne-eqb}
 use Rattle.refusal.specs.Order.{pick}
 use lib.Signed.{ltZ}
 use Rattle.chain.specs.declared.Point.{Point}
-use Rattle.line.specs.declared.Verdict.the-variants.{First, Second, Refused}
-use Rattle.line.specs.Later.{sameBytes, weighed}
+use Rattle.line.specs.declared.Verdict.the-variants.{First, Second}
+use Rattle.line.specs.Later.{sameBytes, refusedIn, weighed}
 
 pub same-length : (s t : List ℕ) → (length s ≡ length t → ⊥) → false ≡ sameBytes s t
 unfolding sameBytes
@@ -40,11 +40,11 @@ module _ (s t : List ℕ) (i : ℕ) where
 
 -- ---- two points
 module _ (p q : Point) (equal : Bool) where
-  pub other-high : (p .label .id .high ≡ q .label .id .high → ⊥) → Refused 16 ≡ weighed p q equal
+  pub other-high : (p .label .id .high ≡ q .label .id .high → ⊥) → refusedIn 0 16 ≡ weighed p q equal
   other-high h = rw (ne-eqb (p .label .id .high) (q .label .id .high) h)
 
   module _ (h : p .label .id .high ≡ q .label .id .high) where
-    pub other-low : (p .label .id .low ≡ q .label .id .low → ⊥) → Refused 16 ≡ weighed p q equal
+    pub other-low : (p .label .id .low ≡ q .label .id .low → ⊥) → refusedIn 0 16 ≡ weighed p q equal
     other-low l = rw (eq-eqb (p .label .id .high) (q .label .id .high) h, ne-eqb (p .label .id .low) (q .label .id .low) l)
 
     module _ (l : p .label .id .low ≡ q .label .id .low) where
@@ -58,5 +58,5 @@ module _ (p q : Point) (equal : Bool) where
         pub one-line : ltZ (q .label .issue) (p .label .issue) ≡ false → equal ≡ true → First ≡ weighed p q equal
         one-line b e = rw (eq-eqb (p .label .id .high) (q .label .id .high) h, eq-eqb (p .label .id .low) (q .label .id .low) l, a, b, e)
 
-        pub two-lines : ltZ (q .label .issue) (p .label .issue) ≡ false → equal ≡ false → Refused 17 ≡ weighed p q equal
+        pub two-lines : ltZ (q .label .issue) (p .label .issue) ≡ false → equal ≡ false → refusedIn 0 17 ≡ weighed p q equal
         two-lines b e = rw (eq-eqb (p .label .id .high) (q .label .id .high) h, eq-eqb (p .label .id .low) (q .label .id .low) l, a, b, e)

@@ -109,7 +109,7 @@ pub length-projected : (id : Id) (e n : ℤ) → natAbs e < 10 ^ 18 → natAbs n
 length-projected id e n h k =
     rw (sym (T.projected-is id e n)) (simp length-append (omega (arith, length-name id, length-integer 17 e h, length-integer 17 n k)))
 
--- a refusal line of a line number below 100,000: at most 11 bytes
-pub length-refusal : (line number : ℕ) → line < 100000 → number < 100 → length (refusalText line number) ≤ 11
-length-refusal line number h k =
-    rw (sym (T.refusal-is line number)) (simp length-append (omega (arith, len-pow 4 line h, len-pow 1 number k)))
+-- a refusal line of a line number below 100,000: at most 12 bytes and the digits of the place
+pub length-refusal : (line number place k : ℕ) → line < 100000 → number < 100 → place < 10 ^ suc k → length (refusalText line number place) ≤ 12 + suc k
+length-refusal line number place k h i j =
+    rw (sym (T.refusal-is line number place)) (simp length-append (omega (arith, len-pow 4 line h, len-pow 1 number i, len-pow k place j)))

@@ -8,6 +8,10 @@ pub mod Faults
 pub mod Texts
 pub mod Compared
 pub mod Lengths
+pub mod Malformed
+pub mod MalformedCases
+pub mod GoodForm
+pub mod SecondLook
 pub mod Readers
 pub mod WrittenNumbers
 pub mod WrittenNames

@@ -1,15 +1,14 @@
 -- The laws of the readers. How long a line of good form is: each of its fields has a byte at least, and a tab or the line feed after it. And what a reader
 -- can answer. Assumes nothing.
-use Prim.Native.Nat.{ℕ, zero, suc, _+_, _-_, _*_, _≤_, _<_}
+use Prim.Native.Nat.{ℕ, zero, suc, _+_, _*_, _≤_, _<_}
 use mathlib.Core.Path.{_≡_, refl, sym, ap, _∙_}
 use mathlib.Core.List.{List, [], _∷_}
 use mathlib.Core.Bool.{Bool, true, false}
 use mathlib.Core.Option.{Option, none, some}
-use lib.Dec.{eqb, leb, ltb}
-use lib.ListN.{length, getD, take}
-use lib.Seq.{length-take-le}
+use lib.Dec.{eqb}
+use lib.ListN.{length}
 use native.Mathlib.Omega.{arith}
-use borrow.Author.Tests.{eqb-true, ltb-true}
+use borrow.Author.Tests.{eqb-true}
 use Rattle.refusal.specs.Order.{pick}
 use Rattle.refusal.proofs.Orders.{first-short}
 use Rattle.chain.specs.declared.Point.{Point}
@@ -27,30 +26,13 @@ use Rattle.line.specs.declared.OriginLine.{OriginLine}
 use Rattle.line.specs.declared.OriginLine.the-variants as origin-line
 use Rattle.line.specs.declared.GeodeticLine.{GeodeticLine}
 use Rattle.line.specs.declared.GeodeticLine.the-variants as geodetic-line
-use Rattle.line.specs.Bytes.{tab, lineFeed}
-use Rattle.line.specs.Fields.{longestLine, body, front, fields, Form, ends, field, taken, onward, filled, inBody, said}
+use Rattle.line.specs.Fields.{longestLine, body, fields, Form, ends, field, taken, onward, filled, inBody, said}
 use Rattle.line.specs.Name.{nameOf}
 use Rattle.line.specs.Number.{numberOf}
 use Rattle.line.specs.Forms.{pointForm, stepForm, originForm, geodeticForm}
-use Rattle.line.specs.Readers.{readAs, readPoint, readStep, readOrigin, geodeticFault, readGeodetic}
-
-nothing : {A : Type 0} {a : A} → none ≡ some a → ⊥
-nothing e = let w : _≡_ {A = ℕ} 0 1 = cc in omega arith
-
--- ---- the bytes of fields, with what parts them
-abbrev spread : List (List ℕ) → ℕ
-spread [] = 0
-spread (f ∷ fs) = length f + 1 + spread fs
-
-fields-spread : (s : List ℕ) → spread (fields s) ≡ length s + 1
-unfolding fields
-fields-spread [] = refl
-fields-spread (b ∷ s) = go (eqb b tab) (fields s) (fields-spread s)
-  where
-    go : (t : Bool) (fs : List (List ℕ)) → spread fs ≡ length s + 1 → spread (pick t ([] ∷ fs) (front b fs)) ≡ suc (length s) + 1
-    go true fs h = omega arith
-    go false [] h = absurd (omega arith)
-    go false (f ∷ fs) h = omega arith
+use Rattle.line.specs.Malformed.{Shape, unknownShape, faultOf}
+use Rattle.line.specs.Readers.{strangeFault, readAs, readPoint, readStep, readOrigin, geodeticFault, readGeodetic}
+use Rattle.line.proofs.Malformed.{nothing, spread, fields-spread, body-length, fault-short, fault-inside, fault-low}
 
 -- ---- a form of n fields, none of which is read from no bytes
 Asks : {A : Type 0} → ℕ → Form A → Type 0
@@ -74,24 +56,12 @@ filled-long (suc n) (field read k) h (f ∷ fs) a e = go (read f) refl (λ b q. 
     go none q on e = absurd (nothing e)
     go (some b) q on e = omega (arith, on b e, byte read f b (h .0) q)
 
-body-length : (line s : List ℕ) → body line ≡ some s → length line ≡ length s + 1
-unfolding body
-body-length line s e = go (ltb 0 (length line)) refl (leb (length line) longestLine) (eqb (getD line (length line - 1) 0) lineFeed) e
-  where
-    go : (a : Bool) → ltb 0 (length line) ≡ a → (b c : Bool) → pick a (pick b (pick c (some (take (length line - 1) line)) none) none) none ≡ some s → length line ≡ length s + 1
-    go true q true true e =
-        let z : take (length line - 1) line ≡ s = cc in
-        omega (arith, ltb-true 0 (length line) q, ap length z, length-take-le (length line - 1) line (omega arith))
-    go true q true false e = absurd (nothing e)
-    go true q false c e = absurd (nothing e)
-    go false q b c e = absurd (nothing e)
-
 said-long : {A : Type 0} (n : ℕ) (form : Form A) → Asks n form → (line : List ℕ) (a : A) → said form line ≡ some a → 2 * n ≤ length line
 said-long n form h line a e = go (body line) refl e
   where
     go : (o : Option (List ℕ)) → body line ≡ o → inBody form o ≡ some a → 2 * n ≤ length line
     go none q e = absurd (nothing e)
-    go (some s) q e = omega (arith, filled-long n form h (fields s) a e, fields-spread s, body-length line s q)
+    go (some s) q e = omega (arith, filled-long n form h (fields s) a e, fields-spread s, body-length line s q .0)
 
 -- a point line has eight fields, a position line four
 point-long : (line : List ℕ) (p : Point) → said pointForm line ≡ some p → 16 ≤ length line
@@ -130,25 +100,34 @@ module _ {A R : Type 0} (faultOf : A → ℕ) (small : (a : A) → faultOf a < 1
       go true e = G a refl (eqb-true (faultOf a) 0 e)
       go false e = B (faultOf a) (small a)
 
--- a fault's number has two digits at most
-abbrev Small : Fault → Type 0
-Small f = f .number < 100
+-- a fault's number has two digits at most, and its place lies in the line or at its end
+pub record Small (line : List ℕ) (f : Fault) : Type 0 where
+  pub number : f .number < 100
+  pub inside : f .place ≤ length line
+  pub low : f .place ≤ longestLine
 
-pub point-outcome : (P : PointLine → Type 0) (line : List ℕ) → ((p : Point) → pointFault p ≡ 0 → 16 ≤ length line → P (point-line.Point p)) → ((f : Fault) → Small f → P (point-line.Malformed f)) → ((n : ℕ) → n < 100 → P (point-line.Refused n)) → P (readPoint line)
+-- whatever shape is looked for
+fault-small : (shape : Shape) (line : List ℕ) → Small line (faultOf shape line)
+fault-small shape line = record { number = fault-short shape line; inside = fault-inside shape line; low = fault-low shape line }
+
+pub strange-small : (line : List ℕ) → Small line (strangeFault line)
+strange-small line = fault-small unknownShape line
+
+pub point-outcome : (P : PointLine → Type 0) (line : List ℕ) → ((p : Point) → pointFault p ≡ 0 → 16 ≤ length line → P (point-line.Point p)) → ((f : Fault) → Small line f → P (point-line.Malformed f)) → ((n : ℕ) → n < 100 → P (point-line.Refused n)) → P (readPoint line)
 unfolding readPoint
-point-outcome P line G M B = outcome pointFault point-fault-short point-line.Point point-line.Refused _ P (said pointForm line) (λ p e f. G p f (point-long line p e)) (M _ (omega arith)) B
+point-outcome P line G M B = outcome pointFault point-fault-short point-line.Point point-line.Refused _ P (said pointForm line) (λ p e f. G p f (point-long line p e)) (M _ (fault-small _ line)) B
 
-pub step-outcome : (P : StepLine → Type 0) (line : List ℕ) → ((s : Step) → stepFault s ≡ 0 → P (step-line.Step s)) → ((f : Fault) → Small f → P (step-line.Malformed f)) → ((n : ℕ) → n < 100 → P (step-line.Refused n)) → P (readStep line)
+pub step-outcome : (P : StepLine → Type 0) (line : List ℕ) → ((s : Step) → stepFault s ≡ 0 → P (step-line.Step s)) → ((f : Fault) → Small line f → P (step-line.Malformed f)) → ((n : ℕ) → n < 100 → P (step-line.Refused n)) → P (readStep line)
 unfolding readStep
-step-outcome P line G M B = outcome stepFault step-fault-short step-line.Step step-line.Refused _ P (said stepForm line) (λ s e f. G s f) (M _ (omega arith)) B
+step-outcome P line G M B = outcome stepFault step-fault-short step-line.Step step-line.Refused _ P (said stepForm line) (λ s e f. G s f) (M _ (fault-small _ line)) B
 
-pub origin-outcome : (P : OriginLine → Type 0) (line : List ℕ) → ((o : OriginNumbers) → originFault o ≡ 0 → P (origin-line.Origin o)) → ((f : Fault) → Small f → P (origin-line.Malformed f)) → ((n : ℕ) → n < 100 → P (origin-line.Refused n)) → P (readOrigin line)
+pub origin-outcome : (P : OriginLine → Type 0) (line : List ℕ) → ((o : OriginNumbers) → originFault o ≡ 0 → P (origin-line.Origin o)) → ((f : Fault) → Small line f → P (origin-line.Malformed f)) → ((n : ℕ) → n < 100 → P (origin-line.Refused n)) → P (readOrigin line)
 unfolding readOrigin
-origin-outcome P line G M B = outcome originFault origin-fault-short origin-line.Origin origin-line.Refused _ P (said originForm line) (λ o e f. G o f) (M _ (omega arith)) B
+origin-outcome P line G M B = outcome originFault origin-fault-short origin-line.Origin origin-line.Refused _ P (said originForm line) (λ o e f. G o f) (M _ (fault-small _ line)) B
 
-pub geodetic-outcome : (P : GeodeticLine → Type 0) (line : List ℕ) → ((g : Geodetic) → 8 ≤ length line → P (geodetic-line.Geodetic g)) → ((f : Fault) → Small f → P (geodetic-line.Malformed f)) → ((n : ℕ) → n < 100 → P (geodetic-line.Refused n)) → P (readGeodetic line)
+pub geodetic-outcome : (P : GeodeticLine → Type 0) (line : List ℕ) → ((g : Geodetic) → 8 ≤ length line → P (geodetic-line.Geodetic g)) → ((f : Fault) → Small line f → P (geodetic-line.Malformed f)) → ((n : ℕ) → n < 100 → P (geodetic-line.Refused n)) → P (readGeodetic line)
 unfolding readGeodetic
-geodetic-outcome P line G M B = outcome geodeticFault geodetic-fault-short geodetic-line.Geodetic geodetic-line.Refused _ P (said geodeticForm line) (λ g e f. G g (geodetic-long line g e)) (M _ (omega arith)) B
+geodetic-outcome P line G M B = outcome geodeticFault geodetic-fault-short geodetic-line.Geodetic geodetic-line.Refused _ P (said geodeticForm line) (λ g e f. G g (geodetic-long line g e)) (M _ (fault-small _ line)) B
 
 -- ---- a reader that gives a record has found no fault
 pub point-sound : (line : List ℕ) (p : Point) → readPoint line ≡ point-line.Point p → pointFault p ≡ 0

@@ -267,9 +267,10 @@ unfolding nameText
 name-is id a = sym (append-assoc (letters 8 (id .high)) (letters 8 (id .low)) (a ∷ []))
 
 -- ---- lines
-pub refusal-is : (line number : ℕ) → (82 ∷ 9 ∷ []) ++ (decimal line ++ ((9 ∷ []) ++ (decimal number ++ (10 ∷ [])))) ≡ refusalText line number
+pub refusal-is : (line number place : ℕ)
+    → (82 ∷ 9 ∷ []) ++ (decimal line ++ ((9 ∷ []) ++ (decimal number ++ ((9 ∷ []) ++ (decimal place ++ (10 ∷ [])))))) ≡ refusalText line number place
 unfolding refusalText lineText
-refusal-is line number = refl
+refusal-is line number place = refl
 
 -- a text, a tab, and what follows
 tabbed : (a r : List ℕ) → (a ++ (9 ∷ [])) ++ r ≡ a ++ (9 ∷ r)

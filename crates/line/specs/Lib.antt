@@ -3,8 +3,11 @@ pub mod Number
 pub mod Fields
 pub mod Name
 pub mod Forms
+pub mod Malformed
+pub mod MalformedCases
 pub mod Readers
 pub mod Lines
 pub mod Text
 pub mod Later
 pub mod Reading
+pub mod SecondLook

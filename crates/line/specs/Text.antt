@@ -61,9 +61,9 @@ pointText p =
 unfoldable pub projectedText : Id → ℤ → ℤ → List ℕ
 projectedText id e n = lineText ((letterC ∷ []) ∷ nameText id ∷ integer e ∷ integer n ∷ [])
 
--- R, line number, refusal number
-unfoldable pub refusalText : ℕ → ℕ → List ℕ
-refusalText line number = lineText ((letterR ∷ []) ∷ decimal line ∷ decimal number ∷ [])
+-- R, line number, refusal number, place in the line
+unfoldable pub refusalText : ℕ → ℕ → ℕ → List ℕ
+refusalText line number place = lineText ((letterR ∷ []) ∷ decimal line ∷ decimal number ∷ decimal place ∷ [])
 
 -- the place past a text of n bytes that begins at `at` in a slice of `size` bytes: its end where the text is cut off there
 abbrev pub past : ℕ → ℕ → ℕ → ℕ

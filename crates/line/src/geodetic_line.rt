@@ -1,11 +1,11 @@
 // G, id, latitude, longitude.
-use crate::Fault;
 use crate::Geodetic;
 use crate::GeodeticLine;
 use crate::field::body_end;
 use crate::field::letter;
 use crate::name::name;
 use crate::number::number;
+use crate::second_look::fault_of;
 ghost use mathlib.Core.Path.{_≡_};
 ghost use Rattle.line.specs.Forms.{geodeticForm};
 ghost use Rattle.line.specs.Readers.{readGeodetic, judged, geodeticFault};
@@ -46,7 +46,7 @@ fn judge_geodetic(g: Geodetic) -> GeodeticLine
     }
 }
 
-// A position line: its position, or FORM, GEODETIC.
+// A position line: its position; malformed (LENGTH, LETTER, COUNT, ID, PLAIN); or GEODETIC.
 pub fn read_geodetic(line: &[u8]) -> GeodeticLine
     ensures { λ r. ⌜ r ≡ readGeodetic (now (line .entry)) ⌝ }
 {
@@ -59,7 +59,6 @@ pub fn read_geodetic(line: &[u8]) -> GeodeticLine
             return judge_geodetic(g);
         }
     }
-    GeodeticLine::Malformed(Fault {
-        number: refusal::FORM,
-    })
+    let fault = fault_of(line, b'G');
+    GeodeticLine::Malformed(fault)
 }

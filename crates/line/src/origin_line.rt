@@ -1,9 +1,9 @@
 // O, ellipsoid, latitude, longitude, FE, FN.
-use crate::Fault;
 use crate::OriginLine;
 use crate::field::body_end;
 use crate::field::letter;
 use crate::number::number;
+use crate::second_look::fault_of;
 ghost use mathlib.Core.Path.{_≡_};
 ghost use Rattle.line.specs.Forms.{originForm};
 ghost use Rattle.line.specs.Readers.{readOrigin, judged};
@@ -48,7 +48,7 @@ fn judge_origin(o: angle::OriginNumbers) -> OriginLine
     }
 }
 
-// An origin line: its numbers, or FORM, RANGE, GEODETIC.
+// An origin line: its numbers; malformed (LENGTH, LETTER, COUNT, PLAIN); or RANGE, GEODETIC.
 pub fn read_origin(line: &[u8]) -> OriginLine
     ensures { λ r. ⌜ r ≡ readOrigin (now (line .entry)) ⌝ }
 {
@@ -61,7 +61,6 @@ pub fn read_origin(line: &[u8]) -> OriginLine
             return judge_origin(o);
         }
     }
-    OriginLine::Malformed(Fault {
-        number: refusal::FORM,
-    })
+    let fault = fault_of(line, b'O');
+    OriginLine::Malformed(fault)
 }

@@ -1,10 +1,10 @@
 // P, id, issue, datum, epoch, X, Y, Z.
-use crate::Fault;
 use crate::PointLine;
 use crate::field::body_end;
 use crate::field::letter;
 use crate::name::name;
 use crate::number::number;
+use crate::second_look::fault_of;
 ghost use mathlib.Core.Path.{_≡_};
 ghost use Rattle.line.specs.Forms.{pointForm};
 ghost use Rattle.line.specs.Readers.{readPoint, judged};
@@ -61,7 +61,7 @@ fn judge_point(p: chain::Point) -> PointLine
     }
 }
 
-// A point line: its point, or FORM, RANGE, EPOCH.
+// A point line: its point; malformed (LENGTH, LETTER, COUNT, ID, PLAIN); or RANGE, EPOCH.
 pub fn read_point(line: &[u8]) -> PointLine
     ensures { λ r. ⌜ r ≡ readPoint (now (line .entry)) ⌝ }
 {
@@ -74,7 +74,6 @@ pub fn read_point(line: &[u8]) -> PointLine
             return judge_point(p);
         }
     }
-    PointLine::Malformed(Fault {
-        number: refusal::FORM,
-    })
+    let fault = fault_of(line, b'P');
+    PointLine::Malformed(fault)
 }

@@ -1,5 +1,4 @@
 // S, kind, datum, epoch, datum, epoch, then T or V: three numbers; B: P or C, dx, dy, dz, rx, ry, rz, s; F: none.
-use crate::Fault;
 use crate::StepLine;
 use crate::field::ByteField;
 use crate::field::body_end;
@@ -7,6 +6,7 @@ use crate::field::letter;
 use crate::field::nowhere;
 use crate::field::single;
 use crate::number::number;
+use crate::second_look::fault_of;
 ghost use mathlib.Core.Path.{_≡_};
 ghost use mathlib.Core.List.{[], _∷_};
 ghost use Rattle.line.specs.Bytes.{letterT, letterV, letterB, letterF, letterP, letterC};
@@ -29,7 +29,7 @@ struct StepFields {
 }
 
 // The field at `at` is T, V, B or F.
-fn kind_letter(s: &[u8], at: usize) -> ByteField
+pub fn kind_letter(s: &[u8], at: usize) -> ByteField
     ensures { λ r. ⌜ Got (now (s .entry)) itself (letterOf (letterT ∷ letterV ∷ letterB ∷ letterF ∷ [])) at (r .byte) (r .next) ⌝ }
 {
     let c = single(s, at);
@@ -44,7 +44,7 @@ fn kind_letter(s: &[u8], at: usize) -> ByteField
 }
 
 // The field at `at` is P or C.
-fn convention_letter(s: &[u8], at: usize) -> ByteField
+pub fn convention_letter(s: &[u8], at: usize) -> ByteField
     ensures { λ r. ⌜ Got (now (s .entry)) itself (letterOf (letterP ∷ letterC ∷ [])) at (r .byte) (r .next) ⌝ }
 {
     let c = single(s, at);
@@ -186,7 +186,7 @@ fn judge_step(step: chain::Step) -> StepLine
     }
 }
 
-// A step line: its step, or FORM, RANGE, EPOCH, KIND.
+// A step line: its step; malformed (LENGTH, LETTER, COUNT, PLAIN); or RANGE, EPOCH, KIND.
 pub fn read_step(line: &[u8]) -> StepLine
     ensures { λ r. ⌜ r ≡ readStep (now (line .entry)) ⌝ }
 {
@@ -199,7 +199,6 @@ pub fn read_step(line: &[u8]) -> StepLine
             return judge_step(step);
         }
     }
-    StepLine::Malformed(Fault {
-        number: refusal::FORM,
-    })
+    let fault = fault_of(line, b'S');
+    StepLine::Malformed(fault)
 }

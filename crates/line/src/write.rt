@@ -51,7 +51,7 @@ fn short(out: &mut [u8], at: usize, n: u64) -> usize
     digit(out, e, n)
 }
 
-// A number of up to three digits: a refusal's. Most lines of a bad sheet end in one, so it has no more digits to look at than it needs.
+// A number of up to three digits: a refusal's, or a place in a line. Most lines of a bad sheet end in one, so it has no more digits to look at than it needs.
 fn three(out: &mut [u8], at: usize, n: u64) -> usize
     requires { ⌜ n < 1000 ⌝ }
     ensures { λ r. ⌜ Wrote (now (out .entry)) at (decimal n) (now (out .exit)) r ⌝ }
@@ -176,13 +176,15 @@ fn wide(n: u8) -> u64
     n as u64
 }
 
-// R, line number, refusal number.
-pub fn write_refusal(out: &mut [u8], at: usize, line: u64, number: u8) -> usize
-    ensures { λ r. ⌜ Wrote (now (out .entry)) at (refusalText line number) (now (out .exit)) r ⌝ }
+// R, line number, refusal number, place in the line.
+pub fn write_refusal(out: &mut [u8], at: usize, line: u64, number: u8, place: u8) -> usize
+    ensures { λ r. ⌜ Wrote (now (out .entry)) at (refusalText line number place) (now (out .exit)) r ⌝ }
 {
     let a = letter(out, at, b'R');
     let b = natural(out, a, line);
     let c = byte(out, b, TAB);
     let d = three(out, c, wide(number));
-    byte(out, d, LINE_FEED)
+    let e = byte(out, d, TAB);
+    let f = three(out, e, wide(place));
+    byte(out, f, LINE_FEED)
 }

@@ -188,6 +188,31 @@ fn later_lines() {
         b"P\tA2\t9\t6\t0\t1\t2\t3\n",
     );
     later(b"", b"");
+    later(
+        b"P\tA1\t9\t6\t2000000\t1\t2\t3\n",
+        b"P\tA1\t10\t6\t2000000\t1\tx\t3\n",
+    );
+    later(
+        b"P\tA1\t9\t6\t2000000\t1\t2\t3\n",
+        b"P\tA1\t10\t6\t2000000\t1\t2\t3",
+    );
+}
+
+// Lines with more than one thing wrong: the order is over the whole line, not from left to right.
+fn faults_in_order() {
+    step(b"S\tB\t1\t0\t5\t2000000\tX\t01\n");
+    step(b"S\tB\t01\t0\t5\t2000000\t\t1\t2\t3\t4\t5\t6\t7\n");
+    step(b"S\tX\n");
+    step(b"S\tB\t01\n");
+    step(b"S\tT\t01\t2000000\t6\t2006586\t1\t2\n");
+    step(b"T\tX\t01");
+    point(b"P\ta1\t1\t6\t2000000\t1\t2\n");
+    point(b"P\ta1\t01\t6\t2000000\t1\t2\t3\n");
+    point(b"P\tA1\t1\t06\t2000000\t1\t2\tx\n");
+    point(b"p\ta1\t01\n");
+    point(b"p\ta1\t01");
+    origin(b"O\t1\t0\t036720000000\t0\n");
+    geodetic(b"G\tb1\t00\t36720000000\n");
 }
 
 fn numbers_and_names() {
@@ -231,4 +256,5 @@ fn main() {
     positions();
     later_lines();
     numbers_and_names();
+    faults_in_order();
 }

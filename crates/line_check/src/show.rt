@@ -1,6 +1,9 @@
-// How each reader's answer is printed: what was read of an accepted line, the number of a refused one.
+// How each reader's answer is printed: what was read of an accepted line; the number of a refused one, and the place of a malformed one after it; of two lines the
+// number, the line and the place.
 use libc::STDOUT_FILENO;
+use line::Fault;
 use line::GeodeticLine;
+use line::LaterFault;
 use line::OriginLine;
 use line::PointLine;
 use line::StepLine;
@@ -9,6 +12,20 @@ use line::Verdict;
 fn number(n: u8) {
     io::print_decimal(STDOUT_FILENO, n as u64);
     io::write_all(STDOUT_FILENO, b"\n");
+}
+
+fn malformed(f: Fault) {
+    io::print_decimal(STDOUT_FILENO, f.number as u64);
+    io::write_all(STDOUT_FILENO, b" ");
+    number(f.place);
+}
+
+fn neither(f: LaterFault) {
+    io::print_decimal(STDOUT_FILENO, f.number as u64);
+    io::write_all(STDOUT_FILENO, b" ");
+    io::print_decimal(STDOUT_FILENO, f.line as u64);
+    io::write_all(STDOUT_FILENO, b" ");
+    number(f.place);
 }
 
 // The first n bytes of a text.
@@ -31,7 +48,7 @@ fn projected(id: chain::Id, a: i64, b: i64) {
 
 pub(crate) fn point(l: &[u8]) {
     match line::read_point(l) {
-        PointLine::Malformed(f) => number(f.number),
+        PointLine::Malformed(f) => malformed(f),
         PointLine::Refused(n) => number(n),
         PointLine::Point(p) => {
             let mut out = [0u8; 200];
@@ -78,7 +95,7 @@ fn bursa_wolf(t: chain::BursaWolf) {
 
 pub(crate) fn step(l: &[u8]) {
     match line::read_step(l) {
-        StepLine::Malformed(f) => number(f.number),
+        StepLine::Malformed(f) => malformed(f),
         StepLine::Refused(n) => number(n),
         StepLine::Step(s) => {
             pair(s.before.datum, s.before.epoch);
@@ -91,7 +108,7 @@ pub(crate) fn step(l: &[u8]) {
 
 pub(crate) fn origin(l: &[u8]) {
     match line::read_origin(l) {
-        OriginLine::Malformed(f) => number(f.number),
+        OriginLine::Malformed(f) => malformed(f),
         OriginLine::Refused(n) => number(n),
         OriginLine::Origin(o) => {
             pair(o.ellipsoid, o.latitude);
@@ -103,7 +120,7 @@ pub(crate) fn origin(l: &[u8]) {
 
 pub(crate) fn geodetic(l: &[u8]) {
     match line::read_geodetic(l) {
-        GeodeticLine::Malformed(f) => number(f.number),
+        GeodeticLine::Malformed(f) => malformed(f),
         GeodeticLine::Refused(n) => number(n),
         GeodeticLine::Geodetic(g) => {
             let id = g.id;
@@ -120,6 +137,6 @@ pub(crate) fn later(first: &[u8], second: &[u8]) {
         Verdict::Second => {
             io::write_all(STDOUT_FILENO, b"second\n");
         }
-        Verdict::Refused(n) => number(n),
+        Verdict::Refused(f) => neither(f),
     }
 }

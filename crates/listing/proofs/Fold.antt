@@ -16,7 +16,7 @@ use Rattle.listing.specs.Fold.{Rules, run, longestInput, printed, byLett
 
 -- ---- a whole input: one that is too long, and any other
 module _ {S R : Type 0} (r : Rules S R) (s : S) (input : List ℕ) where
-  pub printed-long : longestInput < length input → printed r s input ≡ refusalText 0 refusal.long
+  pub printed-long : longestInput < length input → printed r s input ≡ refusalText 0 refusal.long 0
   unfolding printed
   printed-long h = rw (lt-ltb longestInput (length input) h)
 

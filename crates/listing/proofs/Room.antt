@@ -1,4 +1,4 @@
--- The room for what a program prints: a law of its replies. Where each line is replied within 11 bytes for each of its own, the whole input is. Assumes nothing.
+-- The room for what a program prints: a law of its replies. Where each line is replied within 13 bytes for each of its own, the whole input is. Assumes nothing.
 use Prim.Native.Nat.{ℕ, _+_, _*_, _≤_, _<_}
 use mathlib.Core.Path.{_≡_, refl, sym, ap, _∙_}
 use mathlib.Core.Bool.{Bool, true, false}
@@ -6,27 +6,33 @@ use mathlib.Core.List.{List, [], _∷_, _++_}
 use lib.Dec.{ltb}
 use lib.ListN.{length, take, drop, length-append, length-take}
 use lib.Seq.{sets-eq}
+use native.Mathlib.Decide.{decLt}
 use native.Mathlib.Omega.{arith}
 use borrow.Author.Tests.{ltb-true, ltb-false}
 use Rattle.refusal.specs.Numbers as refusal
 use Rattle.refusal.specs.Order.{pick}
+use Rattle.line.specs.Fields.{longestLine}
 use Rattle.line.specs.Lines.{lines}
 use Rattle.line.specs.Text.{Wrote, refusalText}
 use Rattle.line.proofs.Lines.{total, total-lines, Some, some-lines}
 use Rattle.line.proofs.Lengths.{length-refusal}
 use Rattle.listing.specs.Fold.{Rules, run, longestInput, printed, roomFor, Prints}
 
--- a refusal fits wherever a line has a byte and a number of at most five digits
-pub refusal-fits : (l : List ℕ) (line n : ℕ) → 0 < length l → line < 100000 → n < 100 → length (refusalText line n) ≤ 11 * length l
-refusal-fits l line n some few h = omega (arith, length-refusal line n few h)
+-- a refusal fits wherever a line has a byte and a number of at most five digits: in a line of one byte a place has one digit, and two bytes have room for three
+pub refusal-fits : (l : List ℕ) (line n place : ℕ) → 0 < length l → line < 100000 → n < 100 → place ≤ length l → place ≤ longestLine → length (refusalText line n place) ≤ 13 * length l
+refusal-fits l line n place some few h inside low = go (decLt place 10)
+  where
+    go : Dec (place < 10) → length (refusalText line n place) ≤ 13 * length l
+    go (yes d) = omega (arith, length-refusal line n place 0 few h (omega arith))
+    go (no d) = omega (arith, length-refusal line n place 2 few h (omega arith))
 
 -- a program that counts its lines, and replies to each within the line's room
 pub record Roomy {S R : Type 0} (r : Rules S R) (number : S → ℕ) : Type 0 where
   pub counts : (s : S) (l : List ℕ) → number (r .next s l) ≡ number s + 1
-  pub short : (s : S) (l : List ℕ) → 0 < length l → number s < 100000 → length (r .text (r .reply s l)) ≤ 11 * length l
+  pub short : (s : S) (l : List ℕ) → 0 < length l → number s < 100000 → length (r .text (r .reply s l)) ≤ 13 * length l
 
 module _ {S R : Type 0} {r : Rules S R} {number : S → ℕ} (roomy : Roomy r number) where
-  run-short : (ls : List (List ℕ)) → Some ls → (s : S) → number s + total ls < 100000 → length (run r s ls) ≤ 11 * total ls
+  run-short : (ls : List (List ℕ)) → Some ls → (s : S) → number s + total ls < 100000 → length (run r s ls) ≤ 13 * total ls
   unfolding run
   run-short [] h s n = omega arith
   run-short (l ∷ ls) h s n =
@@ -38,8 +44,8 @@ module _ {S R : Type 0} {r : Rules S R} {number : S → ℕ} (roomy : Roomy r nu
   unfolding printed roomFor
   printed-fits s n input = go (ltb longestInput (length input)) refl
     where
-      go : (b : Bool) → ltb longestInput (length input) ≡ b → length (pick b (refusalText 0 refusal.long) (run r s (lines input))) ≤ roomFor (length input)
-      go true e = omega (arith, length-refusal 0 refusal.long (omega arith) (omega arith), ltb-true longestInput (length input) e)
+      go : (b : Bool) → ltb longestInput (length input) ≡ b → length (pick b (refusalText 0 refusal.long 0) (run r s (lines input))) ≤ roomFor (length input)
+      go true e = omega (arith, length-refusal 0 refusal.long 0 0 (omega arith) (omega arith) (omega arith), ltb-true longestInput (length input) e)
       go false e =
           let m = ltb-false longestInput (length input) e in
           let t = total-lines input in

@@ -20,16 +20,16 @@ unfoldable pub run : {S R : Type 0} → Rules S R → S → List (List ℕ) → 
 run r s [] = []
 run r s (l ∷ ls) = r .text (r .reply s l) ++ run r (r .next s l) ls
 
--- a whole input, of at most so many bytes; more prints only R, 0, 15
+-- a whole input, of at most so many bytes; more prints only R, 0, 15, 0
 abbrev pub longestInput : ℕ
 longestInput = 65536
 
 unfoldable pub printed : {S R : Type 0} → Rules S R → S → List ℕ → List ℕ
-printed r s input = pick (ltb longestInput (length input)) (refusalText 0 refusal.long) (run r s (lines input))
+printed r s input = pick (ltb longestInput (length input)) (refusalText 0 refusal.long 0) (run r s (lines input))
 
--- the room that an input of n bytes asks for: 11 bytes for each byte, up to the longest input, and 7
+-- the room that an input of n bytes asks for: 13 bytes for each byte, up to the longest input, and 9
 unfoldable pub roomFor : ℕ → ℕ
-roomFor n = 11 * min n longestInput + 7
+roomFor n = 13 * min n longestInput + 9
 
 -- what a call that prints does: the array held `before` and holds `after`, and r is the place past the text
 pub record Prints (text input before after : List ℕ) (r : ℕ) : Type 0 where

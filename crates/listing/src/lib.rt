@@ -7,14 +7,14 @@ ghost use Rattle.listing.specs.Fold.{longestInput, roomFor};
 // The longest input that is read, in bytes. Of a longer one nothing is read.
 pub const LONGEST_INPUT: usize = 65536;
 
-// The room that an input of n bytes asks for, in bytes: a line prints at most 11 for each of its own.
+// The room that an input of n bytes asks for, in bytes: a line prints at most 13 for each of its own.
 pub fn room_for(n: usize) -> usize
     ensures { λ r. ⌜ r ≡ roomFor n ⌝ }
 {
     if n < LONGEST_INPUT {
-        11 * n + 7
+        13 * n + 9
     } else {
-        11 * LONGEST_INPUT + 7
+        13 * LONGEST_INPUT + 9
     }
 }
 
@@ -26,8 +26,8 @@ pub fn input_space() -> [u8; 65537]
 }
 
 // Room for what any input prints.
-pub fn output_space() -> [u8; 720903]
+pub fn output_space() -> [u8; 851977]
     ensures { λ r. ⌜ roomFor longestInput ≡ length r ⌝ }
 {
-    [0; 720903]
+    [0; 851977]
 }

@@ -13,13 +13,14 @@ use Rattle.angle.specs.declared.ProjectedMillimetres.{ProjectedMillimetres}
 use Rattle.angle.specs.Ranges.{originFault}
 use Rattle.angle.specs.Cassini.{originOf, cassiniMillimetresFromOf, cassiniMillimetresOf}
 use Rattle.angle.proofs.Made.{by-origin}
+use Rattle.line.specs.declared.Fault.{Fault}
 use Rattle.plan_rules.specs.declared.PlanOrigin.{PlanOrigin}
 use Rattle.plan_rules.specs.declared.PlanOrigin.the-variants.{Missing, Made}
 use Rattle.plan_rules.specs.declared.Reply.{Reply}
 use Rattle.plan_rules.specs.declared.Reply.the-variants as reply
 use Rattle.plan_rules.specs.declared.State.{State}
 use Rattle.plan_rules.specs.declared.Decided.{Decided}
-use Rattle.plan_rules.specs.Plan.{Plan, nextOf, refuse, withOrigin, noOrigin}
+use Rattle.plan_rules.specs.Plan.{Plan, nextOf, malformed, withOrigin, noOrigin}
 use Rattle.plan_rules.specs.State.{Values, Holds, Gave, afterIn, refusedIn}
 
 -- ---- an origin with no fault is made
@@ -52,9 +53,12 @@ module _ {st : State} {p : Plan} (h : Holds st p) (x : Option OriginNumbers) (e 
   unfolding afterIn
   gave a r ea er = record { reply = ea; holds = rw er (record { line = ap (λ (n : ℕ). n + 1) (h .line); origin = rw e (h .origin) }) }
 
-  pub gave-refusal : (n : ℕ) (r : Decided) → r ≡ refusedIn st n → Gave (refuse p n) (withOrigin p x) r
+  pub gave-refusal : (n place : ℕ) (r : Decided) → r ≡ refusedIn st n place → Gave (reply.Refused (p .line) n place) (withOrigin p x) r
   unfolding refusedIn
-  gave-refusal n r er = gave (refuse p n) r (rw er (ap (λ (k : ℕ). reply.Refused k n) (h .line))) (rw er)
+  gave-refusal n place r er = gave (reply.Refused (p .line) n place) r (rw er (ap (λ (k : ℕ). reply.Refused k n place) (h .line))) (rw er)
+
+  pub gave-malformed : {f g : Fault} → f ≡ g → (r : Decided) → r ≡ refusedIn st (f .number) (f .place) → Gave (malformed p g) (withOrigin p x) r
+  gave-malformed {f} q r er = rw (← q) (gave-refusal (f .number) (f .place) r er)
 
 -- and on an accepted origin
 pub gave-origin : {st : State} {p : Plan} → Holds st p → (o : OriginNumbers) (m : Origin) → originOf o ≡ answer.Made m → Gave reply.Nothing (withOrigin p (some o)) (record { reply = reply.Nothing; state = record { line = st .line + 1; origin = Made m } })

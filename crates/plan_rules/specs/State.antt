@@ -34,5 +34,5 @@ pub record Gave (answer : Reply) (next : Plan) (r : Decided) : Type 0 where
 unfoldable pub afterIn : State → State
 afterIn st = record { line = st .line + 1; origin = st .origin }
 
-unfoldable pub refusedIn : State → ℕ → Decided
-refusedIn st number = record { reply = reply.Refused (st .line) number; state = afterIn st }
+unfoldable pub refusedIn : State → ℕ → ℕ → Decided
+refusedIn st number place = record { reply = reply.Refused (st .line) number place; state = afterIn st }

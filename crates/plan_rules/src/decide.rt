@@ -16,6 +16,7 @@ use angle::Origin;
 use angle::OriginAnswer;
 use angle::OriginNumbers;
 use angle::ProjectedMillimetres;
+use line::Fault;
 use line::Geodetic;
 use line::GeodeticLine;
 use line::OriginLine;
@@ -34,13 +35,26 @@ fn after(state: State) -> State
     }
 }
 
+// A line refused for what it says or where it stands.
 fn refuse(state: State, number: u8) -> Decided
     requires { ⌜ state .line < 1000000 ⌝ }
-    ensures { λ r. ⌜ r ≡ refusedIn state number ⌝ }
+    ensures { λ r. ⌜ r ≡ refusedIn state number 0 ⌝ }
 {
     let next = after(state);
     Decided {
-        reply: Reply::Refused(state.line, number),
+        reply: Reply::Refused(state.line, number, 0),
+        state: next,
+    }
+}
+
+// A line refused for its form.
+fn malformed(state: State, fault: Fault) -> Decided
+    requires { ⌜ state .line < 1000000 ⌝ }
+    ensures { λ r. ⌜ r ≡ refusedIn state (fault .number) (fault .place) ⌝ }
+{
+    let next = after(state);
+    Decided {
+        reply: Reply::Refused(state.line, fault.number, fault.place),
         state: next,
     }
 }
@@ -82,7 +96,7 @@ fn decide_origin(state: State, text: &[u8]) -> Decided
     ensures { λ r. ⌜ ((p : Plan) → Holds state p → Gave (originReply p (readOrigin (now (text .entry)))) (withOrigin p (originAfter p (readOrigin (now (text .entry))))) r) ⌝ }
 {
     match line::read_origin(text) {
-        OriginLine::Malformed(fault) => refuse(state, fault.number),
+        OriginLine::Malformed(fault) => malformed(state, fault),
         OriginLine::Refused(number) => refuse_origin(state, number),
         OriginLine::Origin(o) => take_origin(state, o),
     }
@@ -136,7 +150,7 @@ fn decide_geodetic(state: State, text: &[u8]) -> Decided
     ensures { λ r. ⌜ ((p : Plan) → Holds state p → Gave (geodeticReply p (readGeodetic (now (text .entry)))) (withOrigin p (p .origin)) r) ⌝ }
 {
     match line::read_geodetic(text) {
-        GeodeticLine::Malformed(fault) => refuse(state, fault.number),
+        GeodeticLine::Malformed(fault) => malformed(state, fault),
         GeodeticLine::Refused(number) => refuse_geodetic(state, number),
         GeodeticLine::Geodetic(g) => take_geodetic(state, g),
     }
@@ -154,5 +168,6 @@ fn decide(state: State, text: &[u8]) -> Decided
     if letter == b'G' {
         return decide_geodetic(state, text);
     }
-    refuse(state, refusal::FORM)
+    let fault = line::strange(text);
+    malformed(state, fault)
 }

@@ -9,8 +9,8 @@ enum Reply {
     Nothing,
     // A position's name, easting and northing, in millimetres.
     Projected(chain::Id, i64, i64),
-    // The line's number, and the refusal's.
-    Refused(u64, u8),
+    // The line's number, the refusal's, and the place in the line: 0 but for a line of bad form.
+    Refused(u64, u8, u8),
 }
 
 // The plan's origin: none accepted, or its values, made once for all positions.

@@ -58,6 +58,10 @@ datumRange d = within (pos 1) d (pos 10)
 abbrev pub issueRange : ℤ → Bool
 issueRange i = within (pos 1) i (pos 65535)
 
+-- the order of control, first to fourth
+abbrev pub orderRange : ℤ → Bool
+orderRange o = within (pos 1) o (pos 4)
+
 -- an epoch, or 0 for none
 abbrev pub epochRange : ℤ → Bool
 epochRange e = equal (pos 0) e || within (pos 1980000) e (pos 2100000)

@@ -16,6 +16,7 @@ use Rattle.chain.specs.Faults.{pointFault, stepFault}
 use Rattle.chain.specs.Convert.{moreTests, forwardOf}
 use Rattle.chain.specs.Prepared.{extendFault, extendedBy, forwardPrepared, chainOf}
 use Rattle.chain.proofs.Keeping.{holds-none, extend-joins, extend-holds, refused-is, prepared-forward}
+use Rattle.line.specs.declared.Fault.{Fault}
 use Rattle.line.specs.declared.StepLine.the-variants as step-line
 use Rattle.line.specs.declared.StepLine.{StepLine}
 use Rattle.line.specs.Bytes.{letterS, letterP}
@@ -24,7 +25,7 @@ use Rattle.listing.proofs.Fold.{by-letter}
 use Rattle.sheet_rules.specs.declared.State.{State}
 use Rattle.sheet_rules.specs.declared.Reply.the-variants as reply
 use Rattle.sheet_rules.specs.declared.Decided.{Decided}
-use Rattle.sheet_rules.specs.Sheet.{Sheet, fresh, nextOf, refuse, stepTests, stepReply, afterStep, withStep, withoutStep}
+use Rattle.sheet_rules.specs.Sheet.{Sheet, fresh, nextOf, refuse, malformed, stepTests, stepReply, afterStep, withStep, withoutStep}
 use Rattle.sheet_rules.specs.State.{Holds, Gave, afterIn, refusedIn}
 
 -- a refusal's number is not 0
@@ -42,21 +43,21 @@ hold-after h a b c d e f = record { line = ap (λ (n : ℕ). n + 1) (h .line); r
 -- ---- what is decided on each kind of line
 module _ {st : State} {l : List ℤ} {s : Sheet} (h : Holds st l s) (t : Step) where
   -- a refused step, whose number the sheet's tests give
-  refused-step : (n : ℕ) (a : Bool) → first (stepTests s t) ≡ n → (n ≡ 0 → ⊥) → a ≡ s .closed → (r : Decided) → r ≡ refusedIn st n true a → Gave (stepReply s (step-line.Step t)) (afterStep s (step-line.Step t)) l r
+  refused-step : (n : ℕ) (a : Bool) → first (stepTests s t) ≡ n → (n ≡ 0 → ⊥) → a ≡ s .closed → (r : Decided) → r ≡ refusedIn st n 0 true a → Gave (stepReply s (step-line.Step t)) (afterStep s (step-line.Step t)) l r
   unfolding refusedIn
   refused-step n a is z f r er =
       let y : first (stepTests s t) ≡ 0 → ⊥ = λ q. z (sym is ∙ q) in
       rw er
       (record {
-        reply = ap (λ (k : ℕ). reply.Refused k n) (h .line) ∙ ap (refuse s) (sym is) ∙ sym (unless-some (first (stepTests s t)) (refuse s) reply.Nothing y);
+        reply = ap (λ (k : ℕ). reply.Refused k n 0) (h .line) ∙ ap (refuse s) (sym is) ∙ sym (unless-some (first (stepTests s t)) (refuse s) reply.Nothing y);
         holds = rw (unless-some (first (stepTests s t)) (λ (_ : ℕ). withoutStep s) (withStep s t) y) (hold-after h true a true (s .closed) refl f);
       })
 
-  pub gave-earlier : st .refused ≡ true → (r : Decided) → r ≡ refusedIn st refusal.earlier true (st .closed) → Gave (stepReply s (step-line.Step t)) (afterStep s (step-line.Step t)) l r
+  pub gave-earlier : st .refused ≡ true → (r : Decided) → r ≡ refusedIn st refusal.earlier 0 true (st .closed) → Gave (stepReply s (step-line.Step t)) (afterStep s (step-line.Step t)) l r
   gave-earlier e r er = let q : s .refused ≡ true = sym (h .refused) ∙ e in refused-step refusal.earlier (st .closed) (rw q) (λ z. no-number z) (h .closed) r er
 
   module _ (unrefused : st .refused ≡ false) where
-    pub gave-misplaced : st .closed ≡ true → (r : Decided) → r ≡ refusedIn st refusal.misplaced true true → Gave (stepReply s (step-line.Step t)) (afterStep s (step-line.Step t)) l r
+    pub gave-misplaced : st .closed ≡ true → (r : Decided) → r ≡ refusedIn st refusal.misplaced 0 true true → Gave (stepReply s (step-line.Step t)) (afterStep s (step-line.Step t)) l r
     gave-misplaced e r er =
         let q : s .refused ≡ false = sym (h .refused) ∙ unrefused in
         let c : s .closed ≡ true = sym (h .closed) ∙ e in
@@ -70,7 +71,7 @@ module _ {st : State} {l : List ℤ} {s : Sheet} (h : Holds st l s) (t : Step) w
           extend-joins l (s .steps) t (h .chain) good ∙ sym (rw (q, c))
 
       -- refused by the chain, which stays as it was
-      pub gave-no-step : (n : ℕ) → n ≡ extendFault l t → (n ≡ 0 → ⊥) → (m : List ℤ) → m ≡ extendedBy l t → (r : Decided) → r ≡ refusedIn st n true false → Gave (stepReply s (step-line.Step t)) (afterStep s (step-line.Step t)) m r
+      pub gave-no-step : (n : ℕ) → n ≡ extendFault l t → (n ≡ 0 → ⊥) → (m : List ℤ) → m ≡ extendedBy l t → (r : Decided) → r ≡ refusedIn st n 0 true false → Gave (stepReply s (step-line.Step t)) (afterStep s (step-line.Step t)) m r
       gave-no-step n e z m i r er =
           rw (i, refused-is l t (λ q. z (e ∙ q))) (refused-step n false (sym (e ∙ tests)) z (sym (sym (h .closed) ∙ unclosed)) r er)
 
@@ -87,9 +88,13 @@ module _ {st : State} {l : List ℤ} {s : Sheet} (h : Holds st l s) (t : Step) w
 
 module _ {st : State} {l : List ℤ} {s : Sheet} (h : Holds st l s) (a b c d : Bool) (e : a ≡ c) (f : b ≡ d) where
   -- a line that its reader or the conversion refused
-  pub gave-refusal : (n : ℕ) (r : Decided) → r ≡ refusedIn st n a b → Gave (refuse s n) (record { line = s .line + 1; steps = s .steps; refused = c; closed = d }) l r
+  pub gave-refusal : (n place : ℕ) (r : Decided) → r ≡ refusedIn st n place a b → Gave (reply.Refused (s .line) n place) (record { line = s .line + 1; steps = s .steps; refused = c; closed = d }) l r
   unfolding refusedIn
-  gave-refusal n r er = rw er (record { reply = ap (λ (k : ℕ). reply.Refused k n) (h .line); holds = hold-after h a b c d e f })
+  gave-refusal n place r er = rw er (record { reply = ap (λ (k : ℕ). reply.Refused k n place) (h .line); holds = hold-after h a b c d e f })
+
+  -- a line whose form was found bad
+  pub gave-malformed : {f g : Fault} → f ≡ g → (r : Decided) → r ≡ refusedIn st (f .number) (f .place) a b → Gave (malformed s g) (record { line = s .line + 1; steps = s .steps; refused = c; closed = d }) l r
+  gave-malformed {f} q r er = rw (← q) (gave-refusal (f .number) (f .place) r er)
 
   -- a converted point
   pub gave-point : (p : Point) (r : Decided) → r .reply ≡ reply.Point p → r .state ≡ afterIn st a b → Gave (reply.Point p) (record { line = s .line + 1; steps = s .steps; refused = c; closed = d }) l r

@@ -10,12 +10,13 @@ use Rattle.chain.specs.declared.Answer.{Answer}
 use Rattle.chain.specs.declared.Answer.the-variants as answer
 use Rattle.chain.specs.Convert.{moreTests, forwardOf}
 use Rattle.chain.specs.Prepared.{chainOf}
+use Rattle.line.specs.declared.Fault.{Fault}
 use Rattle.line.specs.declared.PointLine.{PointLine}
 use Rattle.line.specs.declared.PointLine.the-variants as point-line
 use Rattle.line.specs.declared.StepLine.{StepLine}
 use Rattle.line.specs.declared.StepLine.the-variants as step-line
 use Rattle.line.specs.Bytes.{letterP, letterS}
-use Rattle.line.specs.Readers.{readPoint, readStep}
+use Rattle.line.specs.Readers.{strangeFault, readPoint, readStep}
 use Rattle.line.specs.Text.{pointText, refusalText}
 use Rattle.listing.specs.Fold.{Rules, printed, byLetter}
 use Rattle.sheet_rules.specs.declared.Reply.{Reply}
@@ -40,19 +41,24 @@ passed s = record { line = s .line + 1; steps = s .steps; refused = s .refused; 
 abbrev pub replyText : Reply → List ℕ
 replyText reply.Nothing = []
 replyText (reply.Point p) = pointText p
-replyText (reply.Refused line number) = refusalText line number
+replyText (reply.Refused line number place) = refusalText line number place
 
+-- refused for what it says or where it stands: no place in the line
 abbrev pub refuse : Sheet → ℕ → Reply
-refuse s number = reply.Refused (s .line) number
+refuse s number = reply.Refused (s .line) number 0
 
--- ---- a step line: 1, 2, 3, 4 by itself, then 8, 7, 5, 6
+-- refused for its form, with the place in the line
+abbrev pub malformed : Sheet → Fault → Reply
+malformed s f = reply.Refused (s .line) (f .number) (f .place)
+
+-- ---- a step line: its form, 2, 3, 4 by itself, then 8, 7, 5, 6
 abbrev pub stepTests : Sheet → Step → List Test
 stepTests s step =
     (s .refused gives refusal.earlier) ∷ (s .closed gives refusal.misplaced) ∷ moreTests (s .steps) step
 
 -- an accepted step prints nothing
 abbrev pub stepReply : Sheet → StepLine → Reply
-stepReply s (step-line.Malformed f) = refuse s (f .number)
+stepReply s (step-line.Malformed f) = malformed s f
 stepReply s (step-line.Refused n) = refuse s n
 stepReply s (step-line.Step step) = unless (first (stepTests s step)) (refuse s) reply.Nothing
 
@@ -67,13 +73,13 @@ afterStep s (step-line.Malformed f) = withoutStep s
 afterStep s (step-line.Refused n) = withoutStep s
 afterStep s (step-line.Step step) = unless (first (stepTests s step)) (λ _. withoutStep s) (withStep s step)
 
--- ---- a point line: 1, 2, 3 by itself, then 8, then 9, 10, 11 of the conversion
+-- ---- a point line: its form, 2, 3 by itself, then 8, then 9, 10, 11 of the conversion
 abbrev pub conversionReply : Sheet → Answer → Reply
 conversionReply s (answer.Converted p) = reply.Point p
 conversionReply s (answer.Refused n) = refuse s n
 
 abbrev pub pointReply : Sheet → PointLine → Reply
-pointReply s (point-line.Malformed f) = refuse s (f .number)
+pointReply s (point-line.Malformed f) = malformed s f
 pointReply s (point-line.Refused n) = refuse s n
 pointReply s (point-line.Point p) = pick (s .refused) (refuse s refusal.earlier) (conversionReply s (forwardOf (chainOf (s .steps)) p))
 
@@ -88,7 +94,7 @@ afterPoint s l = record { line = s .line + 1; steps = s .steps; refused = s .ref
 
 -- ---- one line, by its first byte
 unfoldable pub replyOf : Sheet → List ℕ → Reply
-replyOf s line = byLetter letterS letterP line (stepReply s (readStep line)) (pointReply s (readPoint line)) (refuse s refusal.form)
+replyOf s line = byLetter letterS letterP line (stepReply s (readStep line)) (pointReply s (readPoint line)) (malformed s (strangeFault line))
 
 unfoldable pub nextOf : Sheet → List ℕ → Sheet
 nextOf s line = byLetter letterS letterP line (afterStep s (readStep line)) (afterPoint s (readPoint line)) (passed s)

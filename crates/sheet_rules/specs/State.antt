@@ -27,5 +27,5 @@ pub record Gave (answer : Reply) (next : Sheet) (numbers : List ℤ) (r : Decide
 unfoldable pub afterIn : State → Bool → Bool → State
 afterIn st refused closed = record { line = st .line + 1; refused = refused; closed = closed }
 
-unfoldable pub refusedIn : State → ℕ → Bool → Bool → Decided
-refusedIn st number refused closed = record { reply = reply.Refused (st .line) number; state = afterIn st refused closed }
+unfoldable pub refusedIn : State → ℕ → ℕ → Bool → Bool → Decided
+refusedIn st number place refused closed = record { reply = reply.Refused (st .line) number place; state = afterIn st refused closed }

@@ -15,6 +15,7 @@ use chain::Answer;
 use chain::Point;
 use chain::Prepared;
 use chain::Step;
+use line::Fault;
 use line::PointLine;
 use line::StepLine;
 
@@ -32,14 +33,26 @@ fn after(state: State, refused: bool, closed: bool) -> State
     }
 }
 
-// A refused line, and whether it counts as a refused step, and as closing the chain.
+// A line refused for what it says or where it stands, and whether it counts as a refused step, and as closing the chain.
 fn refuse(state: State, number: u8, refused: bool, closed: bool) -> Decided
     requires { ⌜ state .line < 1000000 ⌝ }
-    ensures { λ r. ⌜ r ≡ refusedIn state number refused closed ⌝ }
+    ensures { λ r. ⌜ r ≡ refusedIn state number 0 refused closed ⌝ }
 {
     let next = after(state, refused, closed);
     Decided {
-        reply: Reply::Refused(state.line, number),
+        reply: Reply::Refused(state.line, number, 0),
+        state: next,
+    }
+}
+
+// A line refused for its form, likewise.
+fn malformed(state: State, fault: Fault, refused: bool, closed: bool) -> Decided
+    requires { ⌜ state .line < 1000000 ⌝ }
+    ensures { λ r. ⌜ r ≡ refusedIn state (fault .number) (fault .place) refused closed ⌝ }
+{
+    let next = after(state, refused, closed);
+    Decided {
+        reply: Reply::Refused(state.line, fault.number, fault.place),
         state: next,
     }
 }
@@ -72,7 +85,7 @@ fn decide_step(state: State, numbers: &mut Prepared, text: &[u8]) -> Decided
     ensures { λ r. ⌜ ((s : Sheet) → Holds state (now (numbers .entry)) s → Gave (stepReply s (readStep (now (text .entry)))) (afterStep s (readStep (now (text .entry)))) (now (numbers .exit)) r) ⌝ }
 {
     match line::read_step(text) {
-        StepLine::Malformed(fault) => refuse(state, fault.number, true, state.closed),
+        StepLine::Malformed(fault) => malformed(state, fault, true, state.closed),
         StepLine::Refused(number) => refuse(state, number, true, state.closed),
         StepLine::Step(step) => take_step(state, step, numbers),
     }
@@ -104,7 +117,7 @@ fn decide_point(state: State, numbers: &Prepared, text: &[u8]) -> Decided
     ensures { λ r. ⌜ ((s : Sheet) → Holds state (now (numbers .entry)) s → Gave (pointReply s (readPoint (now (text .entry)))) (afterPoint s (readPoint (now (text .entry)))) (now (numbers .entry)) r) ⌝ }
 {
     match line::read_point(text) {
-        PointLine::Malformed(fault) => refuse(state, fault.number, state.refused, state.closed),
+        PointLine::Malformed(fault) => malformed(state, fault, state.refused, state.closed),
         PointLine::Refused(number) => refuse(state, number, state.refused, true),
         PointLine::Point(point) => convert_point(state, numbers, point),
     }
@@ -122,5 +135,6 @@ fn decide(state: State, numbers: &mut Prepared, text: &[u8]) -> Decided
     if letter == b'P' {
         return decide_point(state, numbers, text);
     }
-    refuse(state, refusal::FORM, state.refused, state.closed)
+    let fault = line::strange(text);
+    malformed(state, fault, state.refused, state.closed)
 }

@@ -9,8 +9,8 @@ enum Reply {
     Nothing,
     // A point's new line.
     Point(chain::Point),
-    // The line's number, and the refusal's.
-    Refused(u64, u8),
+    // The line's number, the refusal's, and the place in the line: 0 but for a line of bad form.
+    Refused(u64, u8, u8),
 }
 
 // What has been read so far, but for the chain, which is lent beside it so that no line copies it.

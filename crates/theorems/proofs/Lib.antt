@@ -4,6 +4,8 @@ pub mod Rounding
 pub mod Projection
 pub mod Geodetic
 pub mod Texts
+pub mod Malformed
 pub mod Apart
 pub mod MarksApart
 pub mod MarksMeet
+pub mod Orders

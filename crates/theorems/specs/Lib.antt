@@ -4,5 +4,7 @@ pub mod Rounding
 pub mod Projection
 pub mod Geodetic
 pub mod Texts
+pub mod Malformed
 pub mod MarksApart
 pub mod MarksMeet
+pub mod Orders

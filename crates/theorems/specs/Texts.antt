@@ -2,7 +2,7 @@
 use mathlib.Core.Path.{_≡_}
 use mathlib.Core.List.{List}
 use mathlib.Core.Option.{some}
-use Prim.Native.Nat.{ℕ, _≤_, _<_, _^_}
+use Prim.Native.Nat.{ℕ, suc, _+_, _≤_, _<_, _^_}
 use lib.IntN.{ℤ, natAbs}
 use lib.ListN.{length}
 use Rattle.chain.specs.declared.Id.{Id}
@@ -30,7 +30,7 @@ PointBack = (p : Point) (name : List ℕ) → nameOf name ≡ some (p .label .id
 pub record Lengths : Type 0 where
   pub point : (p : Point) → pointFault p ≡ 0 → length (pointText p) ≤ 78
   pub projected : (id : Id) (e n : ℤ) → natAbs e < 10 ^ 18 → natAbs n < 10 ^ 18 → length (projectedText id e n) ≤ 60
-  pub refusal : (line number : ℕ) → line < 100000 → number < 100 → length (refusalText line number) ≤ 11
+  pub refusal : (line number place k : ℕ) → line < 100000 → number < 100 → place < 10 ^ suc k → length (refusalText line number place) ≤ 12 + suc k
 
 -- ---- the room for a text: `roomFor` the input's length is enough
 abbrev pub SheetFits : Type 0

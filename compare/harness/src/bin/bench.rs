@@ -97,6 +97,7 @@ fn sheets(report: &mut Report, rng: &mut Rng, chains: &Chains) {
     sheet("F and B in turn", full::sheet(rng, chains, "FBFBFBFB", FULL));
     sheet("one B step", full::sheet(rng, chains, "B", FULL));
     sheet("refusals", full::refusals(rng, chains, FULL));
+    sheet("bad forms", full::malformed(rng, chains, FULL));
     sheet("bare line feeds", vec![b'\n'; FULL]);
     sheet("no line feed", vec![b'S'; FULL]);
 }
@@ -116,7 +117,7 @@ fn linear(rng: &mut Rng, chains: &Chains) {
         (0..count).map(|_| full::sheet(rng, chains, "BBBBBBBB", FULL / count)).collect()
     };
     let inputs = [sheets(1), sheets(2), sheets(4)];
-    let mut out = vec![0; 11 * FULL + 7];
+    let mut out = vec![0; product::room(&inputs[0][0])];
     let mut other = Vec::with_capacity(out.len());
     let mut ours = |inputs: &[Vec<u8>]| {
         for input in inputs {
@@ -209,8 +210,9 @@ fn from_cartesian(report: &mut Report, rng: &mut Rng) {
     report.aside("the same formulas over the C library", &pair);
 }
 
-/// The C interface makes the projection at each call, and so does the baseline here; what making alone and points on a
-/// made projection cost is the baseline's.
+/// The C interface makes the projection at each call, and so does the baseline here. Making alone is timed by a latitude
+/// out of its range, which is looked at after the projection has been made; what points on a made projection cost is the
+/// baseline's.
 fn oblique_mercator(report: &mut Report, rng: &mut Rng) {
     let points: Vec<([i64; 8], [i64; 2])> = (0..CALLS).map(|_| full::rso(rng)).collect();
     let on_the_map = |(parameters, [latitude, longitude]): &([i64; 8], [i64; 2])| {
@@ -220,13 +222,20 @@ fn oblique_mercator(report: &mut Report, rng: &mut Rng) {
         )
     };
     let metres: Vec<([i64; 8], [f64; 2])> = points.iter().map(on_the_map).collect();
-    let (mut out, mut home) = ([0.0; 2], [0; 2]);
+    let (mut out, mut nothing, mut home) = ([0.0; 2], [0.0; 2], [0; 2]);
     let mut forward = |(parameters, at): &([i64; 8], [i64; 2])| {
         _ = black_box(product::rso_forward(parameters, *at, &mut out));
     };
     calls(report, "RSO forward, projection made each time", &points, &mut forward, |(parameters, [a, b])| {
         _ = black_box(baseline::rso::forward(parameters, *a, *b));
     });
+    calls(
+        report,
+        "RSO, a projection made and no point",
+        &points,
+        |(parameters, _)| _ = black_box(product::rso_forward(parameters, [-1, 0], &mut nothing)),
+        |(parameters, _)| _ = black_box(baseline::rso::forward(parameters, -1, 0)),
+    );
     let mut reverse = |(parameters, at): &([i64; 8], [f64; 2])| {
         _ = black_box(product::rso_reverse(parameters, *at, &mut home));
     };

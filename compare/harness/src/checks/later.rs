@@ -1,4 +1,4 @@
-//! The later of two.
+//! The later of two, and which line and byte its refusal points at.
 
 use crate::compare::{shown, Comparison, Outcome};
 use crate::gen::pairs;
@@ -12,6 +12,8 @@ pub fn run(c: &mut Comparison, count: u64) -> Outcome {
         c.tally.count(Function::Later, &expected);
         let input = || format!("{} {}", shown(&first), shown(&second));
         c.hold("later", input, &expected, |s| s.later(&first, &second))?;
+        let fault = c.reference.later_fault(&first, &second);
+        c.hold("fault of the later", input, &fault, |s| s.later_fault(&first, &second))?;
     }
     Ok(())
 }

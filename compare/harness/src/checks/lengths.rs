@@ -69,7 +69,10 @@ fn others(c: &mut Comparison) -> Outcome {
     let mut whole = vec![MARK; length];
     let line: &[u8] = c.rng.pick(&[b"P\tA\t1\t6\t2000000\t0\t0\t0\n", b""]);
     let number = product::later(line, line, &mut whole);
-    decide(&what("later"), number, length != 1, &whole, MARK)
+    decide(&what("later"), number, length != 1, &whole, MARK)?;
+    let mut whole = vec![MARK; length];
+    let number = product::later_fault(line, line, &mut whole);
+    decide(&what("fault of the later"), number, length != 3, &whole, MARK)
 }
 
 /// Parameters and room of any length; the length comes before what the call itself would refuse.

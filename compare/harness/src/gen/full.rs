@@ -61,6 +61,27 @@ pub fn refusals(rng: &mut Rng, chains: &Chains, size: usize) -> Vec<u8> {
     })
 }
 
+/// Lines of bad form alone: too long, an unknown convention, a field too many, a bad id, a number not plain.
+pub fn malformed(rng: &mut Rng, chains: &Chains, size: usize) -> Vec<u8> {
+    let mut row = rows(rng, chains, "B")[0];
+    row[1] = i64::from(b'X');
+    let mut count = 0;
+    filled(Vec::new(), size, || {
+        count += 1;
+        let position = inside(rng);
+        let point = points::point(rng, [row[2], row[3]], position);
+        let mut line = lines::point(b"A1", &point);
+        match count % 5 {
+            0 => line.splice(2..2, [b'A'; 150]).for_each(drop),
+            1 => return lines::step(&row),
+            2 => line.insert(1, b'\t'),
+            3 => line[2] = b'a',
+            _ => line.insert(5, b'+'),
+        }
+        line
+    })
+}
+
 const ORIGIN: [i64; 5] = [1, 1_440_000_000, 36_720_000_000, 50_000, -25_000];
 
 /// An origin and points within reach of it.

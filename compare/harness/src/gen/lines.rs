@@ -91,10 +91,14 @@ fn piece(rng: &mut Rng) -> Vec<u8> {
     }
 }
 
+fn fields(line: &[u8]) -> Vec<Vec<u8>> {
+    let body = line.strip_suffix(b"\n").unwrap_or(line);
+    body.split(|&b| b == b'\t').map(<[u8]>::to_vec).collect()
+}
+
 /// A line with one field made another, dropped or doubled.
 pub fn other_field(rng: &mut Rng, line: &[u8]) -> Vec<u8> {
-    let body = line.strip_suffix(b"\n").unwrap_or(line);
-    let mut fields: Vec<Vec<u8>> = body.split(|&b| b == b'\t').map(<[u8]>::to_vec).collect();
+    let mut fields = fields(line);
     let place = rng.index(fields.len());
     match rng.below(6) {
         0 => drop(fields.remove(place)),
@@ -104,6 +108,28 @@ pub fn other_field(rng: &mut Rng, line: &[u8]) -> Vec<u8> {
         _ => fields[place] = piece(rng),
     }
     joined(&fields)
+}
+
+/// Two to four fields made others, a letter's place more often than not, so that the order of the faults shows and
+/// not that of the fields.
+pub fn several_faults(rng: &mut Rng, line: &[u8]) -> Vec<u8> {
+    let mut fields = fields(line);
+    for _ in 0..rng.between(2, 4) {
+        let place = if rng.once_in(2) { rng.pick(&[0, 1, 6]) } else { rng.index(fields.len()) };
+        let place = place.min(fields.len() - 1);
+        match rng.below(5) {
+            0 if fields.len() > 1 => drop(fields.remove(place)),
+            1 => fields.push(piece(rng)),
+            2 => fields[place] = rng.pick(PIECES).as_bytes().to_vec(),
+            _ => fields[place] = rng.pick(ODD_NUMBERS).as_bytes().to_vec(),
+        }
+    }
+    let line = joined(&fields);
+    if rng.once_in(10) {
+        drawn_out(rng, &line)
+    } else {
+        line
+    }
 }
 
 /// Fields put together at random behind one of the letters that begin a line.
@@ -118,8 +144,7 @@ pub fn random(rng: &mut Rng) -> Vec<u8> {
 /// The line drawn out to about 200 bytes by digits of one number: plain form, out of range.
 pub fn drawn_out(rng: &mut Rng, line: &[u8]) -> Vec<u8> {
     let length = rng.pick(&[198, 199, 200, 201, 202, 255, 256, 257]);
-    let mut fields: Vec<Vec<u8>> =
-        line.strip_suffix(b"\n").unwrap_or(line).split(|&b| b == b'\t').map(<[u8]>::to_vec).collect();
+    let mut fields = fields(line);
     let more = usize::max(length, line.len()) - line.len();
     let last = fields.len() - 1 - rng.index(2.min(fields.len()));
     let digits = [b"1".repeat(more), fields[last].clone()].concat();

@@ -14,7 +14,21 @@ pub fn pair(rng: &mut Rng) -> [Vec<u8>; 2] {
     }
     let other_name = if rng.once_in(8) { other_id(rng, &name) } else { name.clone() };
     let pair = [lines::point(&name, &first), lines::point(&other_name, &second)];
-    pair.map(|line| if rng.once_in(8) { spoiled(rng, &line) } else { line })
+    pair.map(|line| match rng.below(32) {
+        0..=3 => spoiled(rng, &line),
+        4 => with_a_line_feed(rng, line),
+        _ => line,
+    })
+}
+
+/// A line feed more, at the end or anywhere; or the line twice. What is lent is one line all the same.
+fn with_a_line_feed(rng: &mut Rng, mut line: Vec<u8>) -> Vec<u8> {
+    match rng.below(3) {
+        0 => line.push(b'\n'),
+        1 => line.insert(rng.index(line.len()), b'\n'),
+        _ => line.extend(line.clone()),
+    }
+    line
 }
 
 fn point(rng: &mut Rng) -> [i64; 6] {

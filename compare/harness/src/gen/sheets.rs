@@ -81,7 +81,7 @@ fn mixed(rng: &mut Rng, chains: &Chains) -> Vec<u8> {
 }
 
 pub fn spoiled(rng: &mut Rng, line: &[u8]) -> Vec<u8> {
-    match rng.below(6) {
+    match rng.below(8) {
         0 => lines::random(rng),
         1 => lines::drawn_out(rng, line),
         2 => {
@@ -89,6 +89,7 @@ pub fn spoiled(rng: &mut Rng, line: &[u8]) -> Vec<u8> {
             texts::damage(rng, &mut line);
             line
         }
+        3 | 4 => lines::several_faults(rng, line),
         _ => lines::other_field(rng, line),
     }
 }

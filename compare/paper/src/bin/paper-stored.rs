@@ -22,6 +22,8 @@ const ARAU: [i64; 6] = [1, 6, 2000000, -113105165410, 623631179950, 71174811140]
 const POINT: [i64; 6] = [12, 1, 0, -122145678901, 622012345678, 53876543210];
 const FIRST: &[u8] = b"P\tARAU\t10\t6\t2000000\t-113105165410\t623631179950\t71174811140\n";
 const SECOND: &[u8] = b"P\tARAU\t9\t6\t2000000\t-113105165411\t623631179950\t71174811140\n";
+const BAD: &[u8] = b"P\tARAU\t9\t6\t2000000\t-113105165411\t+623631179950\t71174811140\n";
+const OTHER: &[u8] = b"P\tARAV\t9\t6\t2000000\t-113105165411\t623631179950\t71174811140\n";
 
 fn main() {
     let there = numbers::forward(&CHAIN, &POINT).unwrap_or_default();
@@ -60,6 +62,15 @@ fn main() {
         Err(_) => 0,
     };
     whole("later", &[which(FIRST, SECOND), which(SECOND, FIRST)]);
+    whole("later_fault", &fault(FIRST, BAD));
+    whole("later_fault_first", &fault(BAD, b""));
+    whole("later_fault_ids", &fault(FIRST, OTHER));
+    whole("later_fault_none", &fault(FIRST, SECOND));
+}
+
+fn fault(first: &[u8], second: &[u8]) -> [i64; 3] {
+    let refused = later::later(first, second).err();
+    refused.map_or([0; 3], |r| [i64::from(r.number), r.line, r.place as i64])
 }
 
 fn whole(name: &str, values: &[i64]) {

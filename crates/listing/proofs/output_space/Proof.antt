@@ -8,7 +8,7 @@ use Rattle.listing.proofs.output_space.Tie as tie
 
 returns : tie.Need-returns
 unfolding roomFor
-returns c = sym (length-replicate {0} {A = ℕ} 720903 0)
+returns c = sym (length-replicate {0} {A = ℕ} 851977 0)
 
 pub output-space-spec : {M : Type 1} → statement M
 output-space-spec = tie.close (tie.spec returns)

@@ -31,7 +31,7 @@ fn write_reply(out: &mut [u8], at: usize, reply: Reply) -> usize
             easting,
             northing,
         ),
-        Reply::Refused(line, number) => line::write_refusal(out, at, line, number),
+        Reply::Refused(line, number, place) => line::write_refusal(out, at, line, number, place),
     }
 }
 
@@ -41,7 +41,7 @@ pub fn plan(input: &[u8], out: &mut [u8]) -> usize
     ensures { λ r. ⌜ Prints (planOf (now (input .entry))) (now (input .entry)) (now (out .entry)) (now (out .exit)) r ⌝ }
 {
     if listing::LONGEST_INPUT < input.len() {
-        return line::write_refusal(out, 0, 0, refusal::LONG);
+        return line::write_refusal(out, 0, 0, refusal::LONG, 0);
     }
     let mut state = fresh();
     let mut at: usize = 0;

@@ -27,7 +27,7 @@ fn write_reply(out: &mut [u8], at: usize, reply: Reply) -> usize
     match reply {
         Reply::Nothing => at,
         Reply::Point(point) => line::write_point(out, at, point),
-        Reply::Refused(line, number) => line::write_refusal(out, at, line, number),
+        Reply::Refused(line, number, place) => line::write_refusal(out, at, line, number, place),
     }
 }
 
@@ -37,7 +37,7 @@ pub fn sheet(input: &[u8], out: &mut [u8]) -> usize
     ensures { λ r. ⌜ Prints (sheetOf (now (input .entry))) (now (input .entry)) (now (out .entry)) (now (out .exit)) r ⌝ }
 {
     if listing::LONGEST_INPUT < input.len() {
-        return line::write_refusal(out, 0, 0, refusal::LONG);
+        return line::write_refusal(out, 0, 0, refusal::LONG, 0);
     }
     let mut numbers = [0i64; 72];
     let mut state = fresh();

@@ -9,11 +9,20 @@ use borrow.Author.Needs.{needs}
 use Rattle.line.proofs.compare.weigh.Statement.{statement}
 use Rattle.line.proofs.compare.weigh.Tie as tie
 
+refused-requires : tie.Need-refused-requires
+refused-requires c κs = search needs
+
 returns : tie.Need-returns
-returns c = let a = c .before .before .before .args in K.other-high (a .p) (a .q) (a .equal) (c .if1 .taken)
+returns c = let b = c .before in let a = b .before .before .before .args in c .refused .ensures ∙ K.other-high (a .p) (a .q) (a .equal) (b .if1 .taken)
+
+refused-requires-2 : tie.Need-refused-requires-2
+refused-requires-2 c κs = search needs
 
 returns-2 : tie.Need-returns-2
-returns-2 c = let a = c .before .before .before .before .before .before .args in K.other-low (a .p) (a .q) (a .equal) (c .before .before .before .if1 .left) (c .if2 .taken)
+returns-2 c =
+    let b = c .before in
+    let a = b .before .before .before .before .before .before .args in
+    c .refused2 .ensures ∙ K.other-low (a .p) (a .q) (a .equal) (b .before .before .before .if1 .left) (b .if2 .taken)
 
 is-before-requires : tie.Need-is-before-requires
 is-before-requires c κs = search needs
@@ -64,22 +73,29 @@ returns-5 c =
     let a = start t .args in
     K.one-line (a .p) (a .q) (a .equal) (t .before .before .before .before .before .before .if1 .left) (t .before .before .before .if2 .left) (first-before t (u .before .before .before .if3 .left)) (second-before u (c .before .if4 .left)) (c .if5 .taken)
 
+refused-requires-3 : tie.Need-refused-requires-3
+refused-requires-3 c κs = search needs
+
 returns-6 : tie.Need-returns-6
 returns-6 c =
-    let u = c .before .before in
+    let b = c .before in
+    let u = b .before .before in
     let t = one u in
     let a = start t .args in
-    K.two-lines (a .p) (a .q) (a .equal) (t .before .before .before .before .before .before .if1 .left) (t .before .before .before .if2 .left) (first-before t (u .before .before .before .if3 .left)) (second-before u (c .before .if4 .left)) (c .if5 .left)
+    c .refused3 .ensures ∙ K.two-lines (a .p) (a .q) (a .equal) (t .before .before .before .before .before .before .if1 .left) (t .before .before .before .if2 .left) (first-before t (u .before .before .before .if3 .left)) (second-before u (b .before .if4 .left)) (b .if5 .left)
 
 pub weigh-spec : {M : Type 1} → statement M
 weigh-spec =
     tie.close
     (tie.spec
+    refused-requires
     returns
+    refused-requires-2
     returns-2
     is-before-requires
     returns-3
     is-before-requires-2
     returns-4
+    refused-requires-3
     returns-5
     returns-6)

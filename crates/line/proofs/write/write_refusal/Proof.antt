@@ -22,6 +22,15 @@ three-requires c κs = search needs
 byte-requires-2 : tie.Need-byte-requires-2
 byte-requires-2 c κs = search needs
 
+wide-requires-2 : tie.Need-wide-requires-2
+wide-requires-2 c κs = search needs
+
+three-requires-2 : tie.Need-three-requires-2
+three-requires-2 c κs = search needs
+
+byte-requires-3 : tie.Need-byte-requires-3
+byte-requires-3 c κs = search needs
+
 same-length : tie.Need-same-length
 same-length c = search needs
 
@@ -32,8 +41,12 @@ returns c =
     let c7 = c6 .before in
     let c11 = c7 .before .before .before .before in
     let c15 = c11 .before .before .before .before in
-    let c19 = c15 .before .before .before .before in
-    T.says (T.«then» (c19 .letter .ensures) (T.«then» (c15 .natural .ensures) (T.«then» (c11 .byte .ensures) (T.«then» (c6 .three .ensures) (c2 .byte2 .ensures))))) (rw (c7 .wide .ensures) (T.refusal-is _ _))
+    let c16 = c15 .before in
+    let c20 = c16 .before .before .before .before in
+    let c24 = c20 .before .before .before .before in
+    let c28 = c24 .before .before .before .before in
+    T.says (T.«then» (c28 .letter .ensures) (T.«then» (c24 .natural .ensures) (T.«then» (c20 .byte .ensures) (T.«then» (c15 .three .ensures) (T.«then» (c11 .byte2 .ensures) (T.«then» (c6 .three2 .ensures) (c2 .byte3 .ensures)))))))
+    (rw (c16 .wide .ensures, c7 .wide2 .ensures) (T.refusal-is _ _ _))
 
 pub write-refusal-spec : {M : Type 1} → statement M
 write-refusal-spec =
@@ -45,5 +58,8 @@ write-refusal-spec =
     wide-requires
     three-requires
     byte-requires-2
+    wide-requires-2
+    three-requires-2
+    byte-requires-3
     same-length
     returns)

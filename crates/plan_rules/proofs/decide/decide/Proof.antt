@@ -3,7 +3,7 @@ use mathlib.Core.Path.{refl}
 use borrow.Author.Tests.{eq-eqb, ne-eqb}
 use Rattle.line.specs.Bytes.{letterO, letterG}
 use Rattle.plan_rules.specs.Plan.{replyOf, nextOf}
-use Rattle.plan_rules.proofs.Laws.{gave-refusal}
+use Rattle.plan_rules.proofs.Laws.{gave-malformed}
 use borrow.Author.Needs.{needs}
 use Rattle.plan_rules.proofs.decide.decide.Statement.{statement}
 use Rattle.plan_rules.proofs.decide.decide.Tie as tie
@@ -25,12 +25,15 @@ returns-2 : tie.Need-returns-2
 unfolding replyOf nextOf
 returns-2 c = λ p h. rw (ne-eqb _ letterO (c .before .before .if1 .left), eq-eqb _ letterG (c .before .if2 .taken)) (c .decide-geodetic .ensures p h)
 
-refuse-requires : tie.Need-refuse-requires
-refuse-requires c κs = search needs
+strange-requires : tie.Need-strange-requires
+strange-requires c κs = search needs
+
+malformed-requires : tie.Need-malformed-requires
+malformed-requires c κs = search needs
 
 returns-3 : tie.Need-returns-3
 unfolding replyOf nextOf
-returns-3 c = λ p h. rw (ne-eqb _ letterO (c .before .before .if1 .left), ne-eqb _ letterG (c .before .if2 .left)) (gave-refusal h _ refl _ _ (c .refuse .ensures))
+returns-3 c = λ p h. rw (ne-eqb _ letterO (c .before .before .before .if1 .left), ne-eqb _ letterG (c .before .before .if2 .left)) (gave-malformed h _ refl (c .before .strange .ensures) _ (c .malformed .ensures))
 
 pub decide-spec : {M : Type 1} → statement M
 decide-spec =
@@ -41,5 +44,6 @@ decide-spec =
     returns
     decide-geodetic-requires
     returns-2
-    refuse-requires
+    strange-requires
+    malformed-requires
     returns-3)

@@ -11,8 +11,8 @@ read-geodetic-requires c κs = search needs
 enum-known-fault : tie.Need-enum-known-fault
 enum-known-fault c = search needs
 
-refuse-requires : tie.Need-refuse-requires
-refuse-requires c κs = search needs
+malformed-requires : tie.Need-malformed-requires
+malformed-requires c κs = search needs
 
 enum-known-number : tie.Need-enum-known-number
 enum-known-number c = search needs
@@ -27,7 +27,7 @@ take-geodetic-requires : tie.Need-take-geodetic-requires
 take-geodetic-requires c κs = search needs
 
 returns : tie.Need-returns
-returns c = λ p h. let e = sym (c .before .before .before .before .read-geodetic .ensures) ∙ c .before .before .fault .given .1 in rw e (gave-refusal h _ refl _ _ (c .refuse .ensures))
+returns c = λ p h. let e = sym (c .before .before .before .before .read-geodetic .ensures) ∙ c .before .before .fault .given .1 in rw e (gave-refusal h _ refl _ _ _ (c .malformed .ensures))
 
 returns-2 : tie.Need-returns-2
 returns-2 c = λ p h. let e = sym (c .before .before .before .before .read-geodetic .ensures) ∙ c .before .before .number .given .1 in rw e (c .refuse-geodetic .ensures p h)
@@ -41,7 +41,7 @@ decide-geodetic-spec =
     (tie.spec
     read-geodetic-requires
     enum-known-fault
-    refuse-requires
+    malformed-requires
     enum-known-number
     refuse-geodetic-requires
     enum-known-g

@@ -12,8 +12,8 @@ read-origin-requires c κs = search needs
 enum-known-fault : tie.Need-enum-known-fault
 enum-known-fault c = search needs
 
-refuse-requires : tie.Need-refuse-requires
-refuse-requires c κs = search needs
+malformed-requires : tie.Need-malformed-requires
+malformed-requires c κs = search needs
 
 enum-known-number : tie.Need-enum-known-number
 enum-known-number c = search needs
@@ -28,7 +28,7 @@ take-origin-requires : tie.Need-take-origin-requires
 take-origin-requires c κs = (c .before .before .before .before .before .pre, origin-sound _ _ (sym (c .before .before .before .read-origin .ensures) ∙ c .before .o .given .1))
 
 returns : tie.Need-returns
-returns c = λ p h. let e = sym (c .before .before .before .before .read-origin .ensures) ∙ c .before .before .fault .given .1 in rw e (gave-refusal h _ refl _ _ (c .refuse .ensures))
+returns c = λ p h. let e = sym (c .before .before .before .before .read-origin .ensures) ∙ c .before .before .fault .given .1 in rw e (gave-refusal h _ refl _ _ _ (c .malformed .ensures))
 
 returns-2 : tie.Need-returns-2
 returns-2 c = λ p h. let e = sym (c .before .before .before .before .read-origin .ensures) ∙ c .before .before .number .given .1 in rw e (c .refuse-origin .ensures p h)
@@ -42,7 +42,7 @@ decide-origin-spec =
     (tie.spec
     read-origin-requires
     enum-known-fault
-    refuse-requires
+    malformed-requires
     enum-known-number
     refuse-origin-requires
     enum-known-o

@@ -27,7 +27,7 @@ returns c = λ p h m.
     let g = c .before .before .before .before .before .before .before .args .g in
     let a = accepted _ (p .origin) (h .origin) m in
     let e = on-origin (a .numbers) (g .latitude) (g .longitude) (a .values) (told (c .before .before .before .before .before .before .struct-told .given .1 .0 .1)) (told (c .before .before .before .before .before .struct-told2 .given .1 .1 .0 .1)) (sym (c .before .before .before .before .cassini-millimetres-from .ensures) ∙ c .before .before .number .given .1) in
-    rw (a .is, e) (gave-refusal h _ (sym (a .is)) _ _ (c .refuse .ensures))
+    rw (a .is, e) (gave-refusal h _ (sym (a .is)) _ _ _ (c .refuse .ensures))
 
 returns-2 : tie.Need-returns-2
 returns-2 c = λ p h m.

@@ -18,10 +18,10 @@ refuse-requires-2 : tie.Need-refuse-requires-2
 refuse-requires-2 c κs = search needs
 
 returns : tie.Need-returns
-returns c = λ p h. let e = missing (p .origin) (h .origin) (c .before .enum-told .given .1) in rw e (gave-refusal h _ (sym e) _ _ (c .refuse .ensures))
+returns c = λ p h. let e = missing (p .origin) (h .origin) (c .before .enum-told .given .1) in rw e (gave-refusal h _ (sym e) _ _ _ (c .refuse .ensures))
 
 returns-2 : tie.Need-returns-2
-returns-2 c = λ p h. let a = accepted _ (p .origin) (h .origin) (c .before .enum-told2 .given .1) in rw (a .is) (gave-refusal h _ (sym (a .is)) _ _ (c .refuse2 .ensures))
+returns-2 c = λ p h. let a = accepted _ (p .origin) (h .origin) (c .before .enum-told2 .given .1) in rw (a .is) (gave-refusal h _ (sym (a .is)) _ _ _ (c .refuse2 .ensures))
 
 pub refuse-geodetic-spec : {M : Type 1} → statement M
 refuse-geodetic-spec =

@@ -12,13 +12,13 @@ refuse-requires : tie.Need-refuse-requires
 refuse-requires c κs = search needs
 
 returns : tie.Need-returns
-returns c = λ p h. let q : eqb (p .line) 1 ≡ false = ne-eqb (p .line) 1 (λ y. c .before .if1 .taken (h .line ∙ y)) in rw q (gave-refusal h _ refl _ _ (c .refuse .ensures))
+returns c = λ p h. let q : eqb (p .line) 1 ≡ false = ne-eqb (p .line) 1 (λ y. c .before .if1 .taken (h .line ∙ y)) in rw q (gave-refusal h _ refl _ _ _ (c .refuse .ensures))
 
 refuse-requires-2 : tie.Need-refuse-requires-2
 refuse-requires-2 c κs = search needs
 
 returns-2 : tie.Need-returns-2
-returns-2 c = λ p h. let q : eqb (p .line) 1 ≡ true = eq-eqb (p .line) 1 (sym (h .line) ∙ c .before .if1 .left) in rw q (gave-refusal h _ refl _ _ (c .refuse2 .ensures))
+returns-2 c = λ p h. let q : eqb (p .line) 1 ≡ true = eq-eqb (p .line) 1 (sym (h .line) ∙ c .before .if1 .left) in rw q (gave-refusal h _ refl _ _ _ (c .refuse2 .ensures))
 
 pub refuse-origin-spec : {M : Type 1} → statement M
 refuse-origin-spec = tie.close (tie.spec refuse-requires returns refuse-requires-2 returns-2)

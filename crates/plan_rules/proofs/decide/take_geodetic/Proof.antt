@@ -18,7 +18,7 @@ lay-requires : tie.Need-lay-requires
 lay-requires c κs = search needs
 
 returns : tie.Need-returns
-returns c = λ p h. let e = missing (p .origin) (h .origin) (c .before .enum-told .given .1) in rw e (gave-refusal h _ (sym e) _ _ (c .refuse .ensures))
+returns c = λ p h. let e = missing (p .origin) (h .origin) (c .before .enum-told .given .1) in rw e (gave-refusal h _ (sym e) _ _ _ (c .refuse .ensures))
 
 returns-2 : tie.Need-returns-2
 returns-2 c = λ p h. c .lay .ensures p h (c .before .before .origin .given .1)

@@ -12,7 +12,7 @@ refuse-requires : tie.Need-refuse-requires
 refuse-requires c κs = search needs
 
 returns : tie.Need-returns
-returns c = λ p h. let q : eqb (p .line) 1 ≡ false = ne-eqb (p .line) 1 (λ y. c .before .if1 .taken (h .line ∙ y)) in rw q (gave-refusal h _ refl _ _ (c .refuse .ensures))
+returns c = λ p h. let q : eqb (p .line) 1 ≡ false = ne-eqb (p .line) 1 (λ y. c .before .if1 .taken (h .line ∙ y)) in rw q (gave-refusal h _ refl _ _ _ (c .refuse .ensures))
 
 make-origin-requires : tie.Need-make-origin-requires
 make-origin-requires c κs = tt

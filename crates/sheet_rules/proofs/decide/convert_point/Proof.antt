@@ -10,7 +10,7 @@ refuse-requires : tie.Need-refuse-requires
 refuse-requires c κs = search needs
 
 returns : tie.Need-returns
-returns c = λ s h. let q : s .refused ≡ true = sym (h .refused) ∙ c .before .if1 .taken in rw q (gave-refusal h _ _ _ _ refl (sym (or-true (s .closed))) _ _ (c .refuse .ensures))
+returns c = λ s h. let q : s .refused ≡ true = sym (h .refused) ∙ c .before .if1 .taken in rw q (gave-refusal h _ _ _ _ refl (sym (or-true (s .closed))) _ _ _ (c .refuse .ensures))
 
 forward-prepared-requires : tie.Need-forward-prepared-requires
 forward-prepared-requires c κs = tt
@@ -33,7 +33,7 @@ returns-2 c = λ s h.
     let b = c .before .before .before .before .before .before in
     let q : s .refused ≡ false = sym (h .refused) ∙ c .before .before .before .before .before .if1 .left in
     let e = answered h (b .args .point) (b .pre .1) (f .forward-prepared .ensures) (c .before .before .number .given .1) in
-    rw (q, e) (gave-refusal h _ _ _ _ refl (sym (or-true (s .closed))) _ _ (c .refuse2 .ensures))
+    rw (q, e) (gave-refusal h _ _ _ _ refl (sym (or-true (s .closed))) _ _ _ (c .refuse2 .ensures))
 
 returns-3 : tie.Need-returns-3
 returns-3 c = λ s h.

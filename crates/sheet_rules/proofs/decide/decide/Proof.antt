@@ -2,7 +2,7 @@
 use borrow.Author.Tests.{eq-eqb, ne-eqb}
 use Rattle.line.specs.Bytes.{letterS, letterP}
 use Rattle.sheet_rules.specs.Sheet.{replyOf, nextOf}
-use Rattle.sheet_rules.proofs.Laws.{gave-refusal}
+use Rattle.sheet_rules.proofs.Laws.{gave-malformed}
 use borrow.Author.Needs.{needs}
 use Rattle.sheet_rules.proofs.decide.decide.Statement.{statement}
 use Rattle.sheet_rules.proofs.decide.decide.Tie as tie
@@ -24,12 +24,15 @@ returns-2 : tie.Need-returns-2
 unfolding replyOf nextOf
 returns-2 c = λ s h. rw (ne-eqb _ letterS (c .before .before .before .if1 .left), eq-eqb _ letterP (c .before .before .if2 .taken)) (c .decide-point .ensures s h)
 
-refuse-requires : tie.Need-refuse-requires
-refuse-requires c κs = search needs
+strange-requires : tie.Need-strange-requires
+strange-requires c κs = search needs
+
+malformed-requires : tie.Need-malformed-requires
+malformed-requires c κs = search needs
 
 returns-3 : tie.Need-returns-3
 unfolding replyOf nextOf
-returns-3 c = λ s h. rw (ne-eqb _ letterS (c .before .before .if1 .left), ne-eqb _ letterP (c .before .if2 .left)) (gave-refusal h _ _ _ _ (h .refused) (h .closed) _ _ (c .refuse .ensures))
+returns-3 c = λ s h. rw (ne-eqb _ letterS (c .before .before .before .if1 .left), ne-eqb _ letterP (c .before .before .if2 .left)) (gave-malformed h _ _ _ _ (h .refused) (h .closed) (c .before .strange .ensures) _ (c .malformed .ensures))
 
 pub decide-spec : {M : Type 1} → statement M
 decide-spec =
@@ -40,5 +43,6 @@ decide-spec =
     returns
     decide-point-requires
     returns-2
-    refuse-requires
+    strange-requires
+    malformed-requires
     returns-3)

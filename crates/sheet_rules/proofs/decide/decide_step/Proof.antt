@@ -12,14 +12,14 @@ read-step-requires c κs = search needs
 enum-known-fault : tie.Need-enum-known-fault
 enum-known-fault c = search needs
 
-refuse-requires : tie.Need-refuse-requires
-refuse-requires c κs = search needs
+malformed-requires : tie.Need-malformed-requires
+malformed-requires c κs = search needs
 
 enum-known-number : tie.Need-enum-known-number
 enum-known-number c = search needs
 
-refuse-requires-2 : tie.Need-refuse-requires-2
-refuse-requires-2 c κs = search needs
+refuse-requires : tie.Need-refuse-requires
+refuse-requires c κs = search needs
 
 enum-known-step : tie.Need-enum-known-step
 enum-known-step c = search needs
@@ -28,10 +28,10 @@ take-step-requires : tie.Need-take-step-requires
 take-step-requires c κs = (c .before .before .before .before .before .before .pre, step-sound _ _ (sym (c .before .before .before .before .read-step .ensures) ∙ c .before .before .step .given .1))
 
 returns : tie.Need-returns
-returns c = λ s h. let e = sym (c .before .before .before .before .read-step .ensures) ∙ c .before .before .fault .given .1 in rw e (gave-refusal h _ _ _ _ refl (h .closed) _ _ (c .refuse .ensures))
+returns c = λ s h. let e = sym (c .before .before .before .before .read-step .ensures) ∙ c .before .before .fault .given .1 in rw e (gave-refusal h _ _ _ _ refl (h .closed) _ _ _ (c .malformed .ensures))
 
 returns-2 : tie.Need-returns-2
-returns-2 c = λ s h. let e = sym (c .before .before .before .before .read-step .ensures) ∙ c .before .before .number .given .1 in rw e (gave-refusal h _ _ _ _ refl (h .closed) _ _ (c .refuse2 .ensures))
+returns-2 c = λ s h. let e = sym (c .before .before .before .before .read-step .ensures) ∙ c .before .before .number .given .1 in rw e (gave-refusal h _ _ _ _ refl (h .closed) _ _ _ (c .refuse .ensures))
 
 returns-3 : tie.Need-returns-3
 returns-3 c = λ s h. let e = sym (c .before .before .before .before .before .read-step .ensures) ∙ c .before .before .before .step .given .1 in rw e (c .take-step .ensures s h)
@@ -42,9 +42,9 @@ decide-step-spec =
     (tie.spec
     read-step-requires
     enum-known-fault
-    refuse-requires
+    malformed-requires
     enum-known-number
-    refuse-requires-2
+    refuse-requires
     enum-known-step
     take-step-requires
     returns

@@ -1,0 +1,65 @@
+-- How the code looks at a bad line a second time, field by field.
+use Prim.Native.Nat.{ℕ, _+_, _≤_}
+use mathlib.Core.Path.{_≡_}
+use mathlib.Core.List.{List, [], _∷_, _++_}
+use mathlib.Core.Option.{Option, none, some}
+use lib.Dec.{eqb, leb}
+use lib.ListN.{length}
+use Rattle.refusal.specs.Numbers as refusal
+use Rattle.refusal.specs.Order.{pick}
+use Rattle.line.specs.declared.awaited.Awaited.{Awaited}
+use Rattle.line.specs.declared.awaited.Awaited.the-variants.{Letter, Kind, Convention, Identifier, Number, Nothing}
+use Rattle.line.specs.Bytes.{letterP, letterS, letterT, letterV, letterB, letterF, letterC, letterO, letterG}
+use Rattle.line.specs.Fields.{fields}
+use Rattle.line.specs.Malformed.{Class, letters, identifier, number, Shape, numbers, kindOf, kindShape, fieldFault, offending}
+use Rattle.line.specs.Reading.{from}
+
+-- ---- the shapes by the line's first letter and the step's kind
+abbrev pub stepRest : ℕ → List Class
+stepRest kind = letters (letterT ∷ letterV ∷ letterB ∷ letterF ∷ []) ∷ (numbers 4 ++ kindShape kind)
+
+abbrev pub restOf : ℕ → ℕ → List Class
+restOf first kind =
+    pick (eqb first letterP) (identifier ∷ numbers 6)
+    (pick (eqb first letterS) (stepRest kind)
+    (pick (eqb first letterO) (numbers 5)
+    (pick (eqb first letterG) (identifier ∷ numbers 2) [])))
+
+abbrev pub classesOf : ℕ → ℕ → List Class
+classesOf first kind = letters (first ∷ []) ∷ restOf first kind
+
+abbrev pub shapeOf : ℕ → Shape
+shapeOf first fs = classesOf first (kindOf fs)
+
+abbrev pub classOf : Awaited → Option Class
+classOf (Letter l) = some (letters (l ∷ []))
+classOf Kind = some (letters (letterT ∷ letterV ∷ letterB ∷ letterF ∷ []))
+classOf Convention = some (letters (letterP ∷ letterC ∷ []))
+classOf Identifier = some identifier
+classOf Number = some number
+classOf Nothing = none
+
+-- ---- one field
+-- what is wrong with the first of the fields
+abbrev pub firstFault : Option Class → List (List ℕ) → ℕ
+firstFault none fs = 0
+firstFault (some c) [] = 0
+firstFault (some c) (f ∷ fs) = fieldFault c f
+
+-- the field that begins at `at`; the next begins past the tab after it
+pub record Passed (s : List ℕ) (at next : ℕ) : Type 0 where
+  pub bytes : List ℕ
+  pub there : from s at ≡ bytes ∷ from s next
+  pub place : next ≡ at + length bytes + 1
+  pub inside : next ≤ length s + 1
+
+-- ---- the whole line
+-- a place that was found before, or what is found from here on; a place past the end says that nothing was
+abbrev pub earlier : List ℕ → ℕ → Option ℕ → Option ℕ
+earlier s p later = pick (leb p (length s)) (some p) later
+
+pub record Looked (s : List ℕ) (cs : List Class) (letter id plain count : ℕ) : Type 0 where
+  pub letter-at : earlier s letter none ≡ offending refusal.letter 0 cs (fields s)
+  pub id-at : earlier s id none ≡ offending refusal.id 0 cs (fields s)
+  pub plain-at : earlier s plain none ≡ offending refusal.plain 0 cs (fields s)
+  pub counted : count ≡ length (fields s)

@@ -3,3 +3,4 @@ pub mod Chains
 pub mod Outcome
 pub mod Printing
 pub mod Rso
+pub mod Velocities

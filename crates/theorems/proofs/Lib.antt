@@ -9,3 +9,4 @@ pub mod Apart
 pub mod MarksApart
 pub mod MarksMeet
 pub mod Orders
+pub mod Velocities

@@ -8,3 +8,4 @@ pub mod Malformed
 pub mod MarksApart
 pub mod MarksMeet
 pub mod Orders
+pub mod Velocities

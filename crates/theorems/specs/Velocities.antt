@@ -1,5 +1,5 @@
--- What is promised of a velocity grid, beside the definitions: the bilinear rule once over every mesh, one value on an edge that two cells share, and a velocity small enough for
--- a step.
+-- What is promised of a velocity grid, beside the definitions: the bilinear rule once over every mesh, one value on an edge that two cells share, and a
+-- velocity small enough for a step.
 use mathlib.Core.Path.{_≡_}
 use mathlib.Core.List.{List}
 use Prim.Native.Nat.{ℕ, _+_, _≤_, _<_}

@@ -1,5 +1,5 @@
--- Laws of the bilinear rule, over every mesh: exact at a node, between the least and the greatest of the four nodes, and one value on an edge that two cells share.
--- Assumes nothing.
+-- Laws of the bilinear rule, over every mesh: exact at a node, between the least and the greatest of the four nodes, and one value on an edge that two cells
+-- share. Assumes nothing.
 use mathlib.Core.Path.{_≡_, refl, sym, _∙_, ap, ap₂, subst}
 use Prim.Native.Nat.{ℕ, _+_, _-_, _*_, _<_, _≤_}
 use native.Mathlib.Nat as NatL

@@ -1,5 +1,5 @@
--- No NaN and no infinity in the turn: for every accepted point and parts within 2,500 every f64 is finite, X, Y and Z are at most 4,330 in size, and so is what they are rounded
--- to. Each is one computed test over all the ranges at once. Assumes nothing.
+-- No NaN and no infinity in the turn: for every accepted point and parts within 2,500 every f64 is finite, X, Y and Z are at most 4,330 in size, and so is
+-- what they are rounded to. Each is one computed test over all the ranges at once. Assumes nothing.
 use mathlib.Core.Path.{_≡_, refl, sym, ap, _∙_, subst}
 use mathlib.Core.Bool.{Bool, true, false}
 use mathlib.Core.List.{List, [], _∷_}

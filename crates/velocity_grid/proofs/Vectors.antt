@@ -1,5 +1,5 @@
--- Worked values: the turn bit for bit, each step from the bits of those before it (docs/ORDERS.md, section 6: station ARAU); and a grid of three rows and three columns, whose
--- last node has no value: halves, edges, corners, and refusals in their order. Assumes nothing.
+-- Worked values: the turn bit for bit, each step from the bits of those before it (docs/ORDERS.md, section 6: station ARAU); and a grid of three rows and
+-- three columns, whose last node has no value: halves, edges, corners, and refusals in their order. Assumes nothing.
 use mathlib.Core.Path.{_≡_, refl}
 use mathlib.Core.List.{List, [], _∷_, _++_}
 use Prim.Native.Nat.{ℕ}
@@ -107,8 +107,8 @@ parts e n u = Parts (record { east = e; north = n; up = u })
 abbrev at : ℕ → ℕ → PartsAnswer
 at lat lon = partsOf header missing (pos lat) (pos lon)
 
--- a node; halves of both signs; a quarter north and a half east; off the middle; nodes on the outer edges, and next to them; the cell to the north-east, whose node has no value;
--- the cell just south of it; the corner; one unit off each edge; angles out of their ranges; a number too few; a header's mesh
+-- a node; halves of both signs; a quarter north and a half east; off the middle; nodes on the outer edges, and next to them; the cell to the north-east,
+-- whose node has no value; the cell just south of it; the corner; one unit off each edge; angles out of their ranges; a number too few; a header's mesh
 points : List PartsAnswer
 points =
     at 1440000000 36720000000

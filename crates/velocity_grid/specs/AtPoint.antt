@@ -1,5 +1,5 @@
--- East, north and up at a point of a velocity grid. The nodes are a list of three numbers each, east, north and up; a node whose numbers are not each within 2,500 has
--- no value.
+-- East, north and up at a point of a velocity grid. The nodes are a list of three numbers each, east, north and up; a node whose numbers are not each within
+-- 2,500 has no value.
 use mathlib.Core.Bool.{Bool, not, _&&_}
 use mathlib.Core.List.{List, [], _∷_, _++_}
 use Prim.Native.Nat.{ℕ, _+_, _*_, _≤_}

@@ -1,5 +1,5 @@
--- What is promised of the turn beside its definition: of parts within 2,500, at every accepted point, no rounding refuses and the velocity stays below 4,331 in size, so that a
--- velocity step's range takes it.
+-- What is promised of the turn beside its definition: of parts within 2,500, at every accepted point, no rounding refuses and the velocity stays below 4,331
+-- in size, so that a velocity step's range takes it.
 use mathlib.Core.Path.{_≡_}
 use mathlib.Core.Bool.{true}
 use Prim.Native.Nat.{_≤_}

@@ -49,9 +49,9 @@ fn grid_fault(g: Grid, nodes: &[i64]) -> u8
     0
 }
 
-// East, north and up at a point, each one fraction of the four nodes of its cell, rounded once. The nodes are three numbers each, east, north and up, eastward, rows going
-// north; a node whose numbers are not each within 2,500 has no value. Refused: RANGE for the header, LINES where numbers are missing or left over, GEODETIC for the point's
-// angles, OFF_GRID where it lies off the grid or a node of its cell has no value.
+// East, north and up at a point, each one fraction of the four nodes of its cell, rounded once. The nodes are three numbers each, east, north and up,
+// eastward, rows going north; a node whose numbers are not each within 2,500 has no value. Refused: RANGE for the header, LINES where numbers are missing or
+// left over, GEODETIC for the point's angles, OFF_GRID where it lies off the grid or a node of its cell has no value.
 pub fn parts_at(g: Grid, nodes: &[i64], latitude: i64, longitude: i64) -> PartsAnswer
     ensures { λ r. ⌜ r ≡ partsOf g (now (nodes .entry)) latitude longitude ⌝ }
 {

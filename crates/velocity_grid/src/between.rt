@@ -12,8 +12,8 @@ fn blend(m: i64, x: i64, a: i64, b: i64) -> i64
     a * (m - x) + b * x
 }
 
-// The value x east and y north of a cell's south-west node, on a mesh of m: one fraction over m·m, rounded once, a half away from zero. With nodes within 2,500 and a
-// mesh of 10 minutes its numerator reaches 9·10^18, which fits.
+// The value x east and y north of a cell's south-west node, on a mesh of m: one fraction over m·m, rounded once, a half away from zero. With nodes within
+// 2,500 and a mesh of 10 minutes its numerator reaches 9·10^18, which fits.
 pub(crate) fn bilinear(m: i64, x: i64, y: i64, c: Corners) -> i64
     requires { ⌜ CellOk m x y c ⌝ }
     ensures { λ r. ⌜ r ≡ bilinear m x y c ⌝ }

@@ -1,5 +1,5 @@
-// A velocity grid: east, north and up at its nodes, between them by the bilinear rule, and turned to a velocity step. Latitudes and longitudes are whole units of 0.00001",
-// parts whole hundredths of a millimetre a year, which are units of 0.00001 m. Every call answers for every input.
+// A velocity grid: east, north and up at its nodes, between them by the bilinear rule, and turned to a velocity step. Latitudes and longitudes are whole
+// units of 0.00001", parts whole hundredths of a millimetre a year, which are units of 0.00001 m. Every call answers for every input.
 mod at_point;
 mod between;
 mod header;
@@ -12,8 +12,8 @@ pub use at_point::parts_at;
 pub use step::step_at;
 pub use step::velocity_at;
 
-// A grid's header: the latitude (0 to 8 degrees) and longitude (99 to 120 degrees) of its south-west corner, rows and columns (2 or more each, at most 4,000 nodes), and
-// the mesh in minutes (5 or 10). The grid itself may reach past those angles.
+// A grid's header: the latitude (0 to 8 degrees) and longitude (99 to 120 degrees) of its south-west corner, rows and columns (2 or more each, at most 4,000
+// nodes), and the mesh in minutes (5 or 10). The grid itself may reach past those angles.
 pub struct Grid {
     pub latitude: i64,
     pub longitude: i64,

@@ -46,8 +46,8 @@ fn checked(answer: VelocityAnswer, datum: i64, before: i64, after: i64) -> Veloc
     }
 }
 
-// The velocity at a point (units of 0.00001") of a datum between two epochs (thousandths of a year), in units of 0.00001 m a year: the three parts, turned to X, Y and Z and
-// rounded. Refused as parts_at refuses, then RANGE, EPOCH, KIND for the datum and the epochs.
+// The velocity at a point (units of 0.00001") of a datum between two epochs (thousandths of a year), in units of 0.00001 m a year: the three parts, turned
+// to X, Y and Z and rounded. Refused as parts_at refuses, then RANGE, EPOCH, KIND for the datum and the epochs.
 pub fn velocity_at(
     g: Grid,
     nodes: &[i64],

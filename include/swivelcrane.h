@@ -50,7 +50,9 @@ enum swivelcrane_refusal {
     SWIVELCRANE_REFUSAL_ID = 21,       /* an id that is not 1 to 16 of A-Z, 0-9 and hyphen */
     SWIVELCRANE_REFUSAL_PLAIN = 22,    /* a number that is not in plain form */
     SWIVELCRANE_REFUSAL_PLANE = 23,    /* an easting or northing not finite, or 10,000,000 m or more in size */
-    SWIVELCRANE_REFUSAL_PROFILE = 25   /* a step or a point that the chain's profile doesn't have */
+    SWIVELCRANE_REFUSAL_OFF_GRID = 24, /* a position off the velocity grid, or in a cell of which a node has no value */
+    SWIVELCRANE_REFUSAL_PROFILE = 25,  /* a step or a point that the chain's profile doesn't have */
+    SWIVELCRANE_REFUSAL_LINES = 30     /* numbers of a velocity grid's nodes missing, or left over */
 };
 
 /* An array has not the number of elements that its call asks for. It comes before every refusal. */
@@ -122,6 +124,18 @@ int64_t swivelcrane_rso_forward(const int64_t *parameters, size_t parameters_len
  * more in size, or not finite), 12 (a result out of its range: the far side of the earth too). */
 int64_t swivelcrane_rso_reverse(const int64_t *parameters, size_t parameters_length, double easting, double northing,
                                 int64_t *out, size_t out_length);
+
+/* Numbers to a velocity grid: latitude and longitude of its south-west corner (the ranges of angles), rows, columns (2 or more each, at
+ * most 4,000 nodes), mesh (5 or 10 minutes). Its nodes are three numbers each, east, north and up in hundredths of a millimetre a year,
+ * eastward, rows going north; a node whose numbers are not each within 2,500 has no value. */
+#define SWIVELCRANE_GRID_NUMBERS 5
+
+/* The velocity step at a point of a grid, for a datum from the epoch before to the epoch after: out has 13 elements, a step of a chain.
+ * Refusals: 2 (the grid's numbers), 30 (numbers of nodes missing or left over), 12 (latitude, longitude), 24 (off the grid, or one of the
+ * four nodes has no value), then 2, 3, 4 (datum and epochs). */
+int64_t swivelcrane_velocity_step(const int64_t *grid, size_t grid_length, const int64_t *nodes, size_t nodes_length,
+                                  int64_t latitude, int64_t longitude, int64_t datum, int64_t epoch_before, int64_t epoch_after,
+                                  int64_t *out, size_t out_length);
 
 /* The whole number nearest to the exact value of x times ten to the places (0 to 5), a half away from zero. out has 1
  * element. Refusals: 2 (places), 14 (x not finite, or 10,000,000 or more in size). */

@@ -261,6 +261,38 @@ static void oblique_mercator(void) {
     refused(swivelcrane_rso_reverse(projection, 8, metres[0], metres[1], out, 1), SWIVELCRANE_WRONG_LENGTH, "rso_reverse, room for one");
 }
 
+/* corner's latitude and longitude, two rows, three columns, a mesh of 10 minutes; east, north and up of six nodes, all different */
+static const int64_t grid_numbers[5] = {1440000000, 36720000000, 2, 3, 10};
+static const int64_t grid_nodes[18] = {101, -202, 303, -404, 505, -606, 707, -808, 909, -1010, 1111, -1212, 1313, -1414, 1515, -1616, 1717, -1818};
+
+/* Worked out apart from the library, in exact fractions and then in the order of docs/ORDERS.md: the parts are 67, -64, 61. */
+static const int64_t stored_velocity_step[STEP] = {'V', 0, 10, 2010000, 10, 2020500, -79, 50, -60, 0, 0, 0, 0};
+
+/* The grid with one number changed, or one of its nodes, at a point: the number it is refused with. */
+static void changed_grid(size_t place, int64_t number, size_t node, int64_t part, int64_t latitude, int64_t refusal, const char *what) {
+    int64_t header[5], nodes[18];
+    memcpy(header, grid_numbers, sizeof header);
+    memcpy(nodes, grid_nodes, sizeof nodes);
+    header[place] = number;
+    nodes[node] = part;
+    refused(swivelcrane_velocity_step(header, 5, nodes, 18, latitude, 36807654321, 10, 2010000, 2020500, out, STEP), refusal, what);
+}
+
+static void velocities(void) {
+    wrote(swivelcrane_velocity_step(grid_numbers, 5, grid_nodes, 18, 1456789012, 36807654321, 10, 2010000, 2020500, out, STEP), stored_velocity_step, STEP, "velocity_step");
+    changed_grid(0, -1, 0, 101, 1456789012, SWIVELCRANE_REFUSAL_RANGE, "a grid's corner south of the equator: 2");
+    changed_grid(4, 15, 0, 101, 1456789012, SWIVELCRANE_REFUSAL_RANGE, "a mesh of 15 minutes: 2");
+    changed_grid(3, 4, 0, 101, 1456789012, SWIVELCRANE_REFUSAL_LINES, "four columns of three: 30");
+    changed_grid(4, 10, 0, 101, -1, SWIVELCRANE_REFUSAL_GEODETIC, "a point south of the equator: 12");
+    changed_grid(4, 10, 0, 101, 1500000001, SWIVELCRANE_REFUSAL_OFF_GRID, "a unit north of the grid: 24");
+    changed_grid(4, 10, 17, 2501, 1456789012, SWIVELCRANE_REFUSAL_OFF_GRID, "a node without a value: 24");
+    refused(swivelcrane_velocity_step(grid_numbers, 5, grid_nodes, 18, 1456789012, 36807654321, 11, 2010000, 2020500, out, STEP), SWIVELCRANE_REFUSAL_RANGE, "a velocity on datum 11: 2");
+    refused(swivelcrane_velocity_step(grid_numbers, 5, grid_nodes, 18, 1456789012, 36807654321, 10, 0, 2020500, out, STEP), SWIVELCRANE_REFUSAL_EPOCH, "a velocity from no epoch: 3");
+    refused(swivelcrane_velocity_step(grid_numbers, 5, grid_nodes, 18, 1456789012, 36807654321, 2, 0, 0, out, STEP), SWIVELCRANE_REFUSAL_KIND, "a velocity of BT68: 4");
+    refused(swivelcrane_velocity_step(grid_numbers, 4, grid_nodes, 18, 1456789012, 36807654321, 10, 2010000, 2020500, out, STEP), SWIVELCRANE_WRONG_LENGTH, "a grid of four numbers");
+    refused(swivelcrane_velocity_step(grid_numbers, 5, grid_nodes, 18, 1456789012, 36807654321, 10, 2010000, 2020500, out, 3), SWIVELCRANE_WRONG_LENGTH, "velocity_step, room for three");
+}
+
 static void rounding(void) {
     wrote(swivelcrane_round(-1234.567895, 3, out, 1), stored_rounded, 1, "round");
     refused(swivelcrane_round(1.0, 6, out, 1), SWIVELCRANE_REFUSAL_RANGE, "six places: 2");
@@ -354,6 +386,7 @@ int main(void) {
     to_angles();
     grid();
     oblique_mercator();
+    velocities();
     rounding();
     later();
     faults_of_the_later();

@@ -11,6 +11,7 @@ pub mod projected;
 pub mod rounded;
 pub mod rso;
 mod status;
+pub mod velocity;
 
 // An array that has not the number of elements that its call asks for. It comes before every refusal.
 const WRONG_LENGTH: i64 = 255;

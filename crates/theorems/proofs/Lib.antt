@@ -11,3 +11,4 @@ pub mod MarksMeet
 pub mod Orders
 pub mod Joins
 pub mod LineOrders
+pub mod Velocities

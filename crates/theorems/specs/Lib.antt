@@ -10,3 +10,4 @@ pub mod MarksMeet
 pub mod Orders
 pub mod Joins
 pub mod LineOrders
+pub mod Velocities

@@ -19,9 +19,9 @@ use Rattle.angle.specs.Ranges.{angleTests}
 use Rattle.velocity_grid.specs.Bilinear.{CellOk}
 use Rattle.velocity_grid.specs.OnGrid.{gridRange, onGrid, cellOf, CellIn}
 use Rattle.velocity_grid.specs.AtPoint.{partRange, valueOf, known, cellKnown, cornersOf, partOf, partsIn, gridTests, pointTests, partsTests, partsOf, PartsOk}
-use Rattle.velocity_grid.specs.declared.Grid.{Grid}
+use Rattle.line.specs.declared.GridHeader.{GridHeader}
 use Rattle.velocity_grid.specs.declared.Cell.{Cell}
-use Rattle.velocity_grid.specs.declared.Parts.{Parts}
+use Rattle.line.specs.declared.Parts.{Parts}
 use Rattle.velocity_grid.specs.declared.PartsAnswer.{PartsAnswer}
 use Rattle.velocity_grid.specs.declared.PartsAnswer.the-variants as answer
 use Rattle.velocity_grid.proofs.Bilinear.{bilinear-size, east-edge, north-edge}
@@ -80,7 +80,7 @@ module _ (nodes : List ℤ) (c : Cell) (i : CellIn c) (h : cellKnown nodes c ≡
   parts-ok = record { east = within-nodes 0 (omega arith); north = within-nodes 1 (omega arith); up = within-nodes 2 (omega arith) }
 
 -- ---- the answer by the tests
-module _ (g : Grid) (nodes : List ℤ) (lat lon : ℤ) where
+module _ (g : GridHeader) (nodes : List ℤ) (lat lon : ℤ) where
   abbrev cell : Cell
   cell = cellOf g lat lon
 
@@ -121,7 +121,7 @@ pub record Answered (lat lon : ℤ) (p : Parts) : Type 0 where
   pub latitude : latitudeRange lat ≡ true
   pub longitude : longitudeRange lon ≡ true
 
-module _ (g : Grid) (nodes : List ℤ) (lat lon : ℤ) (p : Parts) where
+module _ (g : GridHeader) (nodes : List ℤ) (lat lon : ℤ) (p : Parts) where
   all-passed : Passed (partsTests g nodes lat lon) → partsIn nodes (cellOf g lat lon) ≡ p → Answered lat lon p
   all-passed t e = record {
     parts = subst PartsOk e (parts-ok nodes (cellOf g lat lon) (cell-in g (not-false _ (t .0)) lat lon) (not-false _ (t .1 .1 .1 .1 .1 .0)));

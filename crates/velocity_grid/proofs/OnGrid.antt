@@ -14,7 +14,7 @@ use Rattle.ranges.proofs.Ranges.{Natural, both, bounds, natural, natural-holds,
 use Rattle.rounding.proofs.Zn.{P, N, v, k, _⊕_, _⊖_, _⊗_, le, unle, lt, unlt, eq, abs, unabs, pos-abs, mul-le}
 use Rattle.rounding.proofs.Machine.{le-true, yes-le}
 use Rattle.velocity_grid.specs.OnGrid.{sizeRange, meshRange, gridRange, meshOf, nodesOf, onAxis, placeOf, onGrid, alongOf, cellOf, AxisOk, CellIn}
-use Rattle.velocity_grid.specs.declared.Grid.{Grid}
+use Rattle.line.specs.declared.GridHeader.{GridHeader}
 use Rattle.velocity_grid.specs.declared.Place.{Place}
 use Rattle.velocity_grid.specs.declared.Cell.{Cell}
 
@@ -59,7 +59,7 @@ not-sized r c e = go (sizeRange r c) refl
     go true f = let s = sized r c f in f ∙ sym (ap₂ _&&_ (again (s .rows)) (again (s .columns))) ∙ e
 
 -- ---- the header
-pub record Header (g : Grid) : Type 0 where
+pub record Header (g : GridHeader) : Type 0 where
   pub latitude : latitudeRange (g .latitude) ≡ true
   pub longitude : longitudeRange (g .longitude) ≡ true
   pub sizes : sizeRange (g .rows) (g .columns) ≡ true
@@ -82,7 +82,7 @@ mesh-between m e = go (equal (pos 5) m) (equal (pos 10) m) refl refl e
         no : false ≡ true → ⊥
         no r = let z : _≡_ {A = ℕ} 0 1 = cc in omega arith
 
-pub header : (g : Grid) → gridRange g ≡ true → Header g
+pub header : (g : GridHeader) → gridRange g ≡ true → Header g
 unfolding gridRange meshOf
 header g e =
     let f = both (latitudeRange (g .latitude) && longitudeRange (g .longitude) && sizeRange (g .rows) (g .columns)) (meshRange (g .mesh)) e in
@@ -109,10 +109,10 @@ axis {s} {c} {m} h p q = record {
   small = most-is q;
 }
 
-pub rows-axis : (g : Grid) → Header g → AxisOk (g .latitude) (g .rows) (meshOf g)
+pub rows-axis : (g : GridHeader) → Header g → AxisOk (g .latitude) (g .rows) (meshOf g)
 rows-axis g h = axis (let l = size-is (natural 0 (g .latitude) 2880000000 (h .latitude)) in omega arith) (h .size .rows) (h .mesh)
 
-pub columns-axis : (g : Grid) → Header g → AxisOk (g .longitude) (g .columns) (meshOf g)
+pub columns-axis : (g : GridHeader) → Header g → AxisOk (g .longitude) (g .columns) (meshOf g)
 columns-axis g h = axis (size-is (natural 35640000000 (g .longitude) 43200000000 (h .longitude))) (h .size .columns) (h .mesh)
 
 -- ---- a place on an axis
@@ -138,7 +138,7 @@ along-placed {s} {c} {m} a z =
     placed (natAbs c) (natAbs m) (natAbs (z -ℤ s)) (omega arith) (omega arith)
 
 -- ---- a point's cell
-pub cell-in : (g : Grid) → gridRange g ≡ true → (lat lon : ℤ) → CellIn (cellOf g lat lon)
+pub cell-in : (g : GridHeader) → gridRange g ≡ true → (lat lon : ℤ) → CellIn (cellOf g lat lon)
 unfolding cellOf
 cell-in g e lat lon =
     let h = header g e in
@@ -195,7 +195,7 @@ natural-of {z = pos n} h = refl
 natural-of {z = negsuc n} h = absurd (h .le)
 
 -- both axes of a point on the grid
-pub on-both : (g : Grid) (lat lon : ℤ) → onGrid g lat lon ≡ true
+pub on-both : (g : GridHeader) (lat lon : ℤ) → onGrid g lat lon ≡ true
     → (onAxis (g .latitude) (g .rows) (meshOf g) lat ≡ true) × (onAxis (g .longitude) (g .columns) (meshOf g) lon ≡ true)
 unfolding onGrid
 on-both g lat lon e = both (onAxis (g .latitude) (g .rows) (meshOf g) lat) (onAxis (g .longitude) (g .columns) (meshOf g) lon) e

@@ -33,7 +33,7 @@ use Rattle.velocity_grid.specs.AtPoint.{PartsOk}
 use Rattle.velocity_grid.specs.Turn.{turnedBy, turnedAt, inUnits}
 use Rattle.velocity_grid.specs.Bounded as statements
 use Rattle.velocity_grid.specs.Bounded.{Small}
-use Rattle.velocity_grid.specs.declared.Parts.{Parts}
+use Rattle.line.specs.declared.Parts.{Parts}
 use Rattle.velocity_grid.specs.declared.Turned.{Turned}
 use Rattle.velocity_grid.proofs.AtPoint.{sized-upto}
 

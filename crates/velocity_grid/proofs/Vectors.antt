@@ -12,13 +12,13 @@ use Rattle.ranges.specs.Ranges.{within}
 use Rattle.refusal.specs.Numbers as refusal
 use Rattle.elementary.specs.Floats.{whole}
 use Rattle.angle.specs.Units.{k, radians}
-use Rattle.chain.specs.Faults.{realizationRange, agrees, kindRange, stepRange, kindRule, stepFault}
+use Rattle.chain.specs.Faults.{realizationRange, agrees, hasDatum, hasKind, hasStep, kindRange, stepRange, kindRule, stepFault}
 use Rattle.velocity_grid.specs.Bilinear.{blend, weighed, bilinear}
 use Rattle.velocity_grid.specs.OnGrid.{sizeRange, meshRange, gridRange, meshOf, nodesOf, onAxis, placeOf, onGrid, alongOf, cellOf}
 use Rattle.velocity_grid.specs.AtPoint.{known, cellKnown, cornersOf, partOf, partsIn, partsOf}
 use Rattle.velocity_grid.specs.Turn.{turnedBy, inUnits}
 use Rattle.velocity_grid.specs.Step.{velocityFor}
-use Rattle.velocity_grid.specs.declared.Grid.{Grid}
+use Rattle.line.specs.declared.GridHeader.{GridHeader}
 use Rattle.velocity_grid.specs.declared.Turned.{Turned}
 use Rattle.velocity_grid.specs.declared.PartsAnswer.{PartsAnswer}
 use Rattle.velocity_grid.specs.declared.PartsAnswer.the-variants.{Parts, Refused}
@@ -74,11 +74,11 @@ answered : answers
     ∷ velocity.Refused refusal.epoch
     ∷ velocity.Refused refusal.kind
     ∷ [])
-unfolding answers inUnits velocityFor stepFault stepRange kindRange realizationRange agrees kindRule within roundedOf tooLarge wholeOf away floor rest goesUp rounded round ofBits
+unfolding answers inUnits velocityFor stepFault hasDatum hasKind hasStep stepRange kindRange realizationRange agrees kindRule within roundedOf tooLarge wholeOf away floor rest goesUp rounded round ofBits
 answered = refl
 
 -- ---- a grid from 4 degrees north and 102 degrees east, a mesh of 5 minutes (30,000,000 units)
-header : Grid
+header : GridHeader
 header = record { latitude = pos 1440000000; longitude = pos 36720000000; rows = pos 3; columns = pos 3; mesh = pos 5 }
 
 -- east, north and up of each node, eastward, rows going north

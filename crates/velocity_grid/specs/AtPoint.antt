@@ -13,9 +13,9 @@ use Rattle.angle.specs.Ranges.{angleTests}
 use Rattle.velocity_grid.specs.Bilinear.{bilinear}
 use Rattle.velocity_grid.specs.OnGrid.{gridRange, nodesOf, onGrid, cellOf}
 use Rattle.velocity_grid.specs.declared.Corners.{Corners}
-use Rattle.velocity_grid.specs.declared.Grid.{Grid}
+use Rattle.line.specs.declared.GridHeader.{GridHeader}
 use Rattle.velocity_grid.specs.declared.Cell.{Cell}
-use Rattle.velocity_grid.specs.declared.Parts.{Parts}
+use Rattle.line.specs.declared.Parts.{Parts}
 use Rattle.velocity_grid.specs.declared.PartsAnswer.{PartsAnswer}
 use Rattle.velocity_grid.specs.declared.PartsAnswer.the-variants as answer
 
@@ -54,19 +54,19 @@ unfolding partOf
 partsIn nodes c = record { east = partOf nodes 0 c; north = partOf nodes 1 c; up = partOf nodes 2 c }
 
 -- refused: 2 for the header, 30 where numbers of nodes are missing or left over
-abbrev pub gridTests : Grid → List ℤ → List Test
+abbrev pub gridTests : GridHeader → List ℤ → List Test
 gridTests g nodes = (not (gridRange g) gives refusal.range) ∷ (not (eqb (length nodes) (3 * nodesOf g)) gives refusal.lines) ∷ []
 
 -- 12 for the angles, then 24 off the grid or at a node without a value, also where its weight is 0
-abbrev pub pointTests : Grid → List ℤ → ℤ → ℤ → List Test
+abbrev pub pointTests : GridHeader → List ℤ → ℤ → ℤ → List Test
 pointTests g nodes latitude longitude =
     angleTests latitude longitude
     ++ ((not (onGrid g latitude longitude) gives refusal.offGrid) ∷ (not (cellKnown nodes (cellOf g latitude longitude)) gives refusal.offGrid) ∷ [])
 
-abbrev pub partsTests : Grid → List ℤ → ℤ → ℤ → List Test
+abbrev pub partsTests : GridHeader → List ℤ → ℤ → ℤ → List Test
 partsTests g nodes latitude longitude = gridTests g nodes ++ pointTests g nodes latitude longitude
 
-unfoldable pub partsOf : Grid → List ℤ → ℤ → ℤ → PartsAnswer
+unfoldable pub partsOf : GridHeader → List ℤ → ℤ → ℤ → PartsAnswer
 unfolding partsIn cellOf
 partsOf g nodes latitude longitude = unless (first (partsTests g nodes latitude longitude)) answer.Refused (answer.Parts (partsIn nodes (cellOf g latitude longitude)))
 

@@ -7,7 +7,7 @@ use lib.IntN.{ℤ, natAbs}
 use Rattle.ranges.specs.Ranges.{latitudeRange, longitudeRange}
 use Rattle.velocity_grid.specs.AtPoint.{PartsOk}
 use Rattle.velocity_grid.specs.Turn.{turnedAt, inUnits}
-use Rattle.velocity_grid.specs.declared.Parts.{Parts}
+use Rattle.line.specs.declared.Parts.{Parts}
 use Rattle.velocity_grid.specs.declared.VelocityAnswer.{VelocityAnswer}
 use Rattle.velocity_grid.specs.declared.VelocityAnswer.the-variants.{Velocity, Refused}
 

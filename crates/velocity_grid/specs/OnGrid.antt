@@ -7,7 +7,7 @@ use lib.IntN.{ℤ, pos, natAbs, _+ℤ_, _-ℤ_, _*ℤ_}
 use lib.Signed.{leZ, _≤ℤ_, _<ℤ_}
 use Rattle.refusal.specs.Order.{pick}
 use Rattle.ranges.specs.Ranges.{within, equal, latitudeRange, longitudeRange}
-use Rattle.velocity_grid.specs.declared.Grid.{Grid}
+use Rattle.line.specs.declared.GridHeader.{GridHeader}
 use Rattle.velocity_grid.specs.declared.Place.{Place}
 use Rattle.velocity_grid.specs.declared.Cell.{Cell}
 
@@ -20,15 +20,15 @@ sizeRange rows columns = leZ (pos 2) rows && leZ (pos 2) columns && leZ (rows *�
 unfoldable pub meshRange : ℤ → Bool
 meshRange m = equal (pos 5) m || equal (pos 10) m
 
-unfoldable pub gridRange : Grid → Bool
+unfoldable pub gridRange : GridHeader → Bool
 gridRange g = latitudeRange (g .latitude) && longitudeRange (g .longitude) && sizeRange (g .rows) (g .columns) && meshRange (g .mesh)
 
 -- the mesh in units of 0.00001", of which a minute has 6,000,000
-unfoldable pub meshOf : Grid → ℤ
+unfoldable pub meshOf : GridHeader → ℤ
 meshOf g = g .mesh *ℤ pos 6000000
 
 -- how many nodes
-unfoldable pub nodesOf : Grid → ℕ
+unfoldable pub nodesOf : GridHeader → ℕ
 nodesOf g = natAbs (g .rows) * natAbs (g .columns)
 
 -- ---- along an axis of so many nodes, m apart
@@ -41,7 +41,7 @@ unfoldable pub placeOf : ℕ → ℕ → ℕ → Place
 placeOf count m d = pick (ltb (d / m + 1) count) (record { cell = d / m; offset = d % m }) (record { cell = count - 2; offset = m })
 
 -- ---- a point
-unfoldable pub onGrid : Grid → ℤ → ℤ → Bool
+unfoldable pub onGrid : GridHeader → ℤ → ℤ → Bool
 unfolding onAxis meshOf
 onGrid g latitude longitude = onAxis (g .latitude) (g .rows) (meshOf g) latitude && onAxis (g .longitude) (g .columns) (meshOf g) longitude
 
@@ -51,7 +51,7 @@ unfolding placeOf
 alongOf start count m z = placeOf (natAbs count) (natAbs m) (natAbs (z -ℤ start))
 
 -- its cell: the number of the south-west node, in the order of the nodes, the columns of a row, the mesh, and how far east and north of that node
-unfoldable pub cellOf : Grid → ℤ → ℤ → Cell
+unfoldable pub cellOf : GridHeader → ℤ → ℤ → Cell
 unfolding alongOf meshOf
 cellOf g latitude longitude =
     let n = alongOf (g .latitude) (g .rows) (meshOf g) latitude in

@@ -8,7 +8,7 @@ use Rattle.rounding.specs.declared.decimals.Rounded.the-variants as rounded
 use Rattle.elementary.specs.Floats.{_⊗_, _⊕_, _⊖_, whole}
 use Rattle.elementary.specs.Series.{sineOf, cosineOf}
 use Rattle.angle.specs.Units.{radians}
-use Rattle.velocity_grid.specs.declared.Parts.{Parts}
+use Rattle.line.specs.declared.Parts.{Parts}
 use Rattle.velocity_grid.specs.declared.Turned.{Turned}
 use Rattle.velocity_grid.specs.declared.VelocityAnswer.{VelocityAnswer}
 use Rattle.velocity_grid.specs.declared.VelocityAnswer.the-variants as answer

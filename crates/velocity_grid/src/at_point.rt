@@ -6,8 +6,6 @@ ghost use Rattle.refusal.specs.Order.{first};
 ghost use Rattle.velocity_grid.specs.AtPoint.{cellKnown, partOf, partsIn, partsOf, gridTests};
 ghost use Rattle.velocity_grid.specs.OnGrid.{CellIn};
 use crate::Cell;
-use crate::Grid;
-use crate::Parts;
 use crate::PartsAnswer;
 use crate::between::bilinear;
 use crate::header;
@@ -15,6 +13,8 @@ use crate::locate::cell;
 use crate::locate::on_grid;
 use crate::nodes::cell_known;
 use crate::nodes::corners;
+use line::GridHeader;
+use line::Parts;
 
 // Part p of a point in a cell whose nodes all have a value.
 fn part(nodes: &[i64], p: usize, c: Cell) -> i64
@@ -37,7 +37,7 @@ fn parts_in(nodes: &[i64], c: Cell) -> Parts
 }
 
 // What a grid is refused for by itself: RANGE for its header, LINES where numbers of nodes are missing or left over, or 0 for none.
-fn grid_fault(g: Grid, nodes: &[i64]) -> u8
+fn grid_fault(g: GridHeader, nodes: &[i64]) -> u8
     ensures { λ r. ⌜ r ≡ first (gridTests g (now (nodes .entry))) ⌝ }
 {
     if !header::in_range(g) {
@@ -52,7 +52,7 @@ fn grid_fault(g: Grid, nodes: &[i64]) -> u8
 // East, north and up at a point, each one fraction of the four nodes of its cell, rounded once. The nodes are three numbers each, east, north and up,
 // eastward, rows going north; a node whose numbers are not each within 2,500 has no value. Refused: RANGE for the header, LINES where numbers are missing or
 // left over, GEODETIC for the point's angles, OFF_GRID where it lies off the grid or a node of its cell has no value.
-pub fn parts_at(g: Grid, nodes: &[i64], latitude: i64, longitude: i64) -> PartsAnswer
+pub fn parts_at(g: GridHeader, nodes: &[i64], latitude: i64, longitude: i64) -> PartsAnswer
     ensures { λ r. ⌜ r ≡ partsOf g (now (nodes .entry)) latitude longitude ⌝ }
 {
     let fault = grid_fault(g, nodes);

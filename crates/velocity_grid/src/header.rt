@@ -4,7 +4,7 @@ ghost use mathlib.Core.Bool.{true};
 ghost use Prim.Native.Nat.{_*_};
 ghost use lib.IntN.{pos, natAbs, _*ℤ_};
 ghost use Rattle.velocity_grid.specs.OnGrid.{sizeRange, meshRange, gridRange};
-use crate::Grid;
+use line::GridHeader;
 
 // Units of 0.00001" in a minute.
 const MINUTE: i64 = 6000000;
@@ -27,7 +27,7 @@ fn is_mesh(m: i64) -> bool
 }
 
 // Whether a header's numbers are in their ranges.
-pub(crate) fn in_range(g: Grid) -> bool
+pub(crate) fn in_range(g: GridHeader) -> bool
     ensures { λ r. ⌜ r ≡ gridRange g ⌝ }
 {
     ranges::is_latitude(g.latitude)

@@ -12,15 +12,8 @@ pub use at_point::parts_at;
 pub use step::step_at;
 pub use step::velocity_at;
 
-// A grid's header: the latitude (0 to 8 degrees) and longitude (99 to 120 degrees) of its south-west corner, rows and columns (2 or more each, at most 4,000
-// nodes), and the mesh in minutes (5 or 10). The grid itself may reach past those angles.
-pub struct Grid {
-    pub latitude: i64,
-    pub longitude: i64,
-    pub rows: i64,
-    pub columns: i64,
-    pub mesh: i64,
-}
+// A grid is its header (`line::GridHeader`: the south-west corner, at 0 to 8 degrees north and 99 to 120 degrees east, rows and columns, 2 or more each and at
+// most 4,000 nodes, and a mesh of 5 or 10 minutes) and the numbers of its nodes. It may reach past those angles itself.
 
 // Where a number stands along an axis: the cell, from 0, and how far into it.
 pub struct Place {
@@ -45,16 +38,9 @@ pub struct Corners {
     pub north_east: i64,
 }
 
-// East, north and up, in hundredths of a millimetre a year.
-pub struct Parts {
-    pub east: i64,
-    pub north: i64,
-    pub up: i64,
-}
-
 // The three parts, or the refusal number.
 pub enum PartsAnswer {
-    Parts(Parts),
+    Parts(line::Parts),
     Refused(u8),
 }
 

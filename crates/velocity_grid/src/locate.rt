@@ -4,9 +4,9 @@ ghost use mathlib.Core.Bool.{true};
 ghost use Prim.Native.Nat.{_+_, _*_, _≤_, _<_};
 ghost use Rattle.velocity_grid.specs.OnGrid.{gridRange, meshOf, onAxis, placeOf, alongOf, onGrid, cellOf, AxisOk};
 use crate::Cell;
-use crate::Grid;
 use crate::Place;
 use crate::header::mesh_units;
+use line::GridHeader;
 
 // Whether a number lies on an axis that begins at `start` and has `count` nodes, m apart.
 fn on_axis(start: i64, count: i64, m: i64, z: i64) -> bool
@@ -17,7 +17,7 @@ fn on_axis(start: i64, count: i64, m: i64, z: i64) -> bool
 }
 
 // Whether a point lies on the grid, its edges and corners too.
-pub(crate) fn on_grid(g: Grid, latitude: i64, longitude: i64) -> bool
+pub(crate) fn on_grid(g: GridHeader, latitude: i64, longitude: i64) -> bool
     requires { ⌜ gridRange g ≡ true ⌝ }
     ensures { λ r. ⌜ r ≡ onGrid g latitude longitude ⌝ }
 {
@@ -60,7 +60,7 @@ fn node_number(row: usize, columns: usize, column: usize) -> usize
 }
 
 // The cell of a point that lies on the grid.
-pub(crate) fn cell(g: Grid, latitude: i64, longitude: i64) -> Cell
+pub(crate) fn cell(g: GridHeader, latitude: i64, longitude: i64) -> Cell
     requires { ⌜ (gridRange g ≡ true) × (onGrid g latitude longitude ≡ true) ⌝ }
     ensures { λ r. ⌜ r ≡ cellOf g latitude longitude ⌝ }
 {

@@ -1,7 +1,6 @@
 // A velocity step out of a grid.
 ghost use mathlib.Core.Path.{_≡_};
 ghost use Rattle.velocity_grid.specs.Step.{velocityStep, velocityFor, velocityOf, asStep, stepOf};
-use crate::Grid;
 use crate::PartsAnswer;
 use crate::StepAnswer;
 use crate::VelocityAnswer;
@@ -12,6 +11,7 @@ use chain::Kind;
 use chain::Realization;
 use chain::Step;
 use chain::Velocity;
+use line::GridHeader;
 
 // The step of a velocity, on one datum, from one epoch to another.
 fn velocity_step(v: Velocity, datum: i64, before: i64, after: i64) -> Step
@@ -37,7 +37,7 @@ fn checked(answer: VelocityAnswer, datum: i64, before: i64, after: i64) -> Veloc
     match answer {
         VelocityAnswer::Refused(n) => VelocityAnswer::Refused(n),
         VelocityAnswer::Velocity(v) => {
-            let fault = chain::step_fault(velocity_step(v, datum, before, after));
+            let fault = chain::step_fault(chain::LATEST, velocity_step(v, datum, before, after));
             if fault != 0 {
                 return VelocityAnswer::Refused(fault);
             }
@@ -49,7 +49,7 @@ fn checked(answer: VelocityAnswer, datum: i64, before: i64, after: i64) -> Veloc
 // The velocity at a point (units of 0.00001") of a datum between two epochs (thousandths of a year), in units of 0.00001 m a year: the three parts, turned
 // to X, Y and Z and rounded. Refused as parts_at refuses, then RANGE, EPOCH, KIND for the datum and the epochs.
 pub fn velocity_at(
-    g: Grid,
+    g: GridHeader,
     nodes: &[i64],
     latitude: i64,
     longitude: i64,
@@ -78,7 +78,7 @@ fn as_step(answer: VelocityAnswer, datum: i64, before: i64, after: i64) -> StepA
 
 // The same as a step, from the epoch before to the epoch after.
 pub fn step_at(
-    g: Grid,
+    g: GridHeader,
     nodes: &[i64],
     latitude: i64,
     longitude: i64,

@@ -4,13 +4,13 @@ ghost use mathlib.Core.Bool.{true};
 ghost use Rattle.ranges.specs.Ranges.{latitudeRange, longitudeRange};
 ghost use Rattle.velocity_grid.specs.AtPoint.{PartsOk};
 ghost use Rattle.velocity_grid.specs.Turn.{turnedBy, turnedAt, three, inUnits};
-use crate::Parts;
 use crate::Turned;
 use crate::VelocityAnswer;
 use angle::radians;
 use chain::Velocity;
 use elementary::cosine;
 use elementary::sine;
+use line::Parts;
 use rounding::Rounded;
 use rounding::round_places;
 

@@ -9,7 +9,7 @@ use mir.Val.{SFits, toZ, ofZ}
 use Rattle.rounding.proofs.Machine.{fits, rd, to₄, of₄, told}
 use Rattle.velocity_grid.specs.OnGrid.{meshRange, meshOf, onAxis, alongOf, cellOf, AxisOk}
 use Rattle.velocity_grid.specs.declared.Cell.{Cell}
-use Rattle.velocity_grid.specs.declared.Grid.{Grid}
+use Rattle.line.specs.declared.GridHeader.{GridHeader}
 use Rattle.velocity_grid.specs.declared.Place.{Place}
 use Rattle.velocity_grid.proofs.OnGrid.{Header, header, rows-axis, columns-axis, size-is, on-both, Placed, along-placed}
 use Rattle.velocity_grid.proofs.locate.cell.Statement.{statement}
@@ -25,7 +25,7 @@ module _ (c : tie.After-mesh-units) where
   abbrev start : tie.Start
   start = c .before .before
 
-  abbrev grid : Grid
+  abbrev grid : GridHeader
   grid = start .args .g
 
   mesh-is : toZ w64 (ofZ w64 (c .mesh-units .result)) ≡ meshOf grid
@@ -60,7 +60,7 @@ module _ (c : tie.After-along2) where
   abbrev made : tie.After-mesh-units
   made = c .before .before .before .before .before .before
 
-  abbrev g : Grid
+  abbrev g : GridHeader
   g = grid made
 
   north-is : c .before .before .before .along .result ≡ alongOf (g .latitude) (g .rows) (meshOf g) (start made .args .latitude)

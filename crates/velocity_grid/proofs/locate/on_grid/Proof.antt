@@ -6,7 +6,7 @@ use mir.Syntax.{w64}
 use mir.Val.{toZ, ofZ}
 use Rattle.rounding.proofs.Machine.{rd, to₃, of₄, told}
 use Rattle.velocity_grid.specs.OnGrid.{meshRange, meshOf, onAxis, onGrid, AxisOk}
-use Rattle.velocity_grid.specs.declared.Grid.{Grid}
+use Rattle.line.specs.declared.GridHeader.{GridHeader}
 use Rattle.velocity_grid.proofs.OnGrid.{Header, header, rows-axis, columns-axis}
 use Rattle.velocity_grid.proofs.locate.on_grid.Statement.{statement}
 use Rattle.velocity_grid.proofs.locate.on_grid.Tie as tie
@@ -18,7 +18,7 @@ mesh-units-requires c κs =
 
 -- the mesh in units
 module _ (c : tie.After-mesh-units) where
-  abbrev grid : Grid
+  abbrev grid : GridHeader
   grid = c .before .before .args .g
 
   mesh-is : toZ w64 (ofZ w64 (c .mesh-units .result)) ≡ meshOf grid

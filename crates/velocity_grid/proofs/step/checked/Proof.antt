@@ -4,7 +4,7 @@ use mathlib.Core.Path.{_≡_, sym, _∙_, ap}
 use lib.IntN.{ℤ}
 use Rattle.refusal.proofs.Orders.{unless-some, unless-none}
 use Rattle.rounding.proofs.Machine.{rd, of₃}
-use Rattle.chain.specs.Faults.{stepFault}
+use Rattle.chain.specs.Faults.{latest, stepFault}
 use Rattle.chain.specs.declared.Velocity.{Velocity}
 use Rattle.velocity_grid.specs.Step.{velocityStep, velocityFor}
 use Rattle.velocity_grid.specs.declared.VelocityAnswer.the-variants as velocity
@@ -26,13 +26,13 @@ step-fault-requires c κs = search needs
 
 -- ---- the answer by the fault
 module _ (v : Velocity) (d b a : ℤ) where
-  by-fault : (stepFault (velocityStep v d b a) ≡ 0 → ⊥) → velocity.Refused (stepFault (velocityStep v d b a)) ≡ velocityFor (velocity.Velocity v) d b a
+  by-fault : (stepFault latest (velocityStep v d b a) ≡ 0 → ⊥) → velocity.Refused (stepFault latest (velocityStep v d b a)) ≡ velocityFor (velocity.Velocity v) d b a
   unfolding velocityFor
-  by-fault f = sym (unless-some (stepFault (velocityStep v d b a)) velocity.Refused (velocity.Velocity v) f)
+  by-fault f = sym (unless-some (stepFault latest (velocityStep v d b a)) velocity.Refused (velocity.Velocity v) f)
 
-  by-step : stepFault (velocityStep v d b a) ≡ 0 → velocity.Velocity v ≡ velocityFor (velocity.Velocity v) d b a
+  by-step : stepFault latest (velocityStep v d b a) ≡ 0 → velocity.Velocity v ≡ velocityFor (velocity.Velocity v) d b a
   unfolding velocityFor
-  by-step e = sym (unless-none (stepFault (velocityStep v d b a)) velocity.Refused (velocity.Velocity v) e)
+  by-step e = sym (unless-none (stepFault latest (velocityStep v d b a)) velocity.Refused (velocity.Velocity v) e)
 
 -- the velocity of the arm, and its step's fault
 module _ (c : tie.After-step-fault) where
@@ -42,10 +42,10 @@ module _ (c : tie.After-step-fault) where
   abbrev begun : tie.Start
   begun = c .before .before .before .before .before
 
-  fault-is : c .step-fault .result ≡ stepFault (velocityStep moved (begun .args .datum) (begun .args .before) (begun .args .after))
+  fault-is : c .step-fault .result ≡ stepFault latest (velocityStep moved (begun .args .datum) (begun .args .before) (begun .args .after))
   fault-is =
       c .step-fault .ensures
-      ∙ ap stepFault (c .before .velocity-step .ensures ∙ of₃ (velocityStep moved) (rd (begun .fits .datum)) (rd (begun .fits .before)) (rd (begun .fits .after)))
+      ∙ ap (stepFault latest) (c .before .velocity-step .ensures ∙ of₃ (velocityStep moved) (rd (begun .fits .datum)) (rd (begun .fits .before)) (rd (begun .fits .after)))
 
 returns : tie.Need-returns
 returns c =

@@ -6,13 +6,13 @@ use lib.IntN.{ℤ}
 use denote.Ref.{now}
 use Rattle.rounding.proofs.Machine.{rd, of₃}
 use Rattle.velocity_grid.specs.Step.{velocityOf, asStep, stepOf}
-use Rattle.velocity_grid.specs.declared.Grid.{Grid}
+use Rattle.line.specs.declared.GridHeader.{GridHeader}
 use Rattle.velocity_grid.specs.declared.VelocityAnswer.{VelocityAnswer}
 use Rattle.velocity_grid.proofs.step.step_at.Statement.{statement}
 use Rattle.velocity_grid.proofs.step.step_at.Tie as tie
 
 -- of the same five numbers
-same : (g : Grid) (ns : List ℤ) {a a′ o o′ d d′ b b′ e e′ : ℤ} → a ≡ a′ → o ≡ o′ → d ≡ d′ → b ≡ b′ → e ≡ e′ → velocityOf g ns a o d b e ≡ velocityOf g ns a′ o′ d′ b′ e′
+same : (g : GridHeader) (ns : List ℤ) {a a′ o o′ d d′ b b′ e e′ : ℤ} → a ≡ a′ → o ≡ o′ → d ≡ d′ → b ≡ b′ → e ≡ e′ → velocityOf g ns a o d b e ≡ velocityOf g ns a′ o′ d′ b′ e′
 same g ns p q r s t = rw (p, q, r, s, t)
 
 velocity-at-requires : tie.Need-velocity-at-requires

@@ -4,4 +4,4 @@ pub mod Outcome
 pub mod Printing
 pub mod Rso
 pub mod Joining
-pub mod Velocities
+pub mod Grids

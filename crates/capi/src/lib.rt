@@ -4,6 +4,7 @@ pub mod conversion;
 mod decode;
 pub mod from_xyz;
 pub mod geodetic;
+pub mod grid;
 pub mod joining;
 pub mod later;
 pub mod printing;
@@ -11,7 +12,6 @@ pub mod projected;
 pub mod rounded;
 pub mod rso;
 mod status;
-pub mod velocity;
 
 // An array that has not the number of elements that its call asks for. It comes before every refusal.
 const WRONG_LENGTH: i64 = 255;

@@ -2,4 +2,6 @@ pub mod Bilinear
 pub mod OnGrid
 pub mod AtPoint
 pub mod TurnFinite
+pub mod Texts
+pub mod Motions
 pub mod Vectors

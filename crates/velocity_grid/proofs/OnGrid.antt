@@ -43,6 +43,9 @@ sized r c e =
     go (negsuc a) c h l m = absurd (h .le)
     go (pos a) (negsuc b) h l m = absurd (l .le)
 
+pub few : (a b : ℕ) (r c : ℤ) → r ≡ pos a → c ≡ pos b → (r *ℤ c) ≤ℤ pos 4000 → a * b ≤ 4000
+few a b r c p q m = leb→le (a * b) 4000 ((rw (p, q) at m) .le)
+
 -- with both from 2 to 2,000, the product decides
 pub sized-by : (r c : ℤ) → within (pos 2) r (pos 2000) ≡ true → within (pos 2) c (pos 2000) ≡ true → sizeRange r c ≡ leZ (r *ℤ c) (pos 4000)
 unfolding sizeRange

@@ -4,3 +4,6 @@ pub mod AtPoint
 pub mod Turn
 pub mod Step
 pub mod Bounded
+pub mod Text
+pub mod Motion
+pub mod Reading

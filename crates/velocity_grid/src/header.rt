@@ -1,7 +1,7 @@
 // A grid's header: its ranges, and the faults that it and the count of numbers decide.
 ghost use mathlib.Core.Path.{_≡_};
 ghost use mathlib.Core.Bool.{true};
-ghost use Prim.Native.Nat.{_*_};
+ghost use Prim.Native.Nat.{_*_, _≤_};
 ghost use lib.IntN.{pos, natAbs, _*ℤ_};
 ghost use Rattle.velocity_grid.specs.OnGrid.{sizeRange, meshRange, gridRange};
 use line::GridHeader;
@@ -36,12 +36,20 @@ pub(crate) fn in_range(g: GridHeader) -> bool
         & is_mesh(g.mesh)
 }
 
-// How many numbers the nodes of a grid have, three each.
+// How many nodes a grid has.
+pub(crate) fn nodes(rows: i64, columns: i64) -> usize
+    requires { ⌜ sizeRange rows columns ≡ true ⌝ }
+    ensures { λ r. ⌜ (r ≡ natAbs rows * natAbs columns) × (r ≤ 4000) ⌝ }
+{
+    rows as usize * columns as usize
+}
+
+// How many numbers they have, three each.
 pub(crate) fn count(rows: i64, columns: i64) -> usize
     requires { ⌜ sizeRange rows columns ≡ true ⌝ }
     ensures { λ r. ⌜ r ≡ 3 * (natAbs rows * natAbs columns) ⌝ }
 {
-    3 * (rows as usize * columns as usize)
+    3 * nodes(rows, columns)
 }
 
 // A mesh of 5 or 10 minutes, in units of 0.00001".

@@ -4,16 +4,37 @@ mod at_point;
 mod between;
 mod header;
 mod locate;
+mod moving;
 mod nodes;
 mod step;
+mod text;
 mod turn;
 
 pub use at_point::parts_at;
+pub use moving::motion_at;
 pub use step::step_at;
 pub use step::velocity_at;
+pub use text::check_grid;
+pub use text::read_grid;
 
 // A grid is its header (`line::GridHeader`: the south-west corner, at 0 to 8 degrees north and 99 to 120 degrees east, rows and columns, 2 or more each and at
 // most 4,000 nodes, and a mesh of 5 or 10 minutes) and the numbers of its nodes. It may reach past those angles itself.
+
+// Room for the numbers of 4,000 nodes.
+pub type Nodes = [i64; 12000];
+
+// What is wrong with a grid's text: a number of the refusal table; the line, from 1, or 0 where no line is; and the place in it, 0 but for a line of bad form.
+pub struct GridFault {
+    pub number: u8,
+    pub line: usize,
+    pub place: u8,
+}
+
+// A grid's header, or why its text is no grid.
+pub enum GridAnswer {
+    Grid(line::GridHeader),
+    Refused(GridFault),
+}
 
 // Where a number stands along an axis: the cell, from 0, and how far into it.
 pub struct Place {
@@ -60,5 +81,17 @@ pub enum VelocityAnswer {
 // A velocity step, or the refusal number.
 pub enum StepAnswer {
     Step(chain::Step),
+    Refused(u8),
+}
+
+// East, north and up at a point, and the velocity that they turn to.
+pub struct Motion {
+    pub parts: line::Parts,
+    pub velocity: chain::Velocity,
+}
+
+// The motion of a point, or the refusal number.
+pub enum MotionAnswer {
+    Motion(Motion),
     Refused(u8),
 }

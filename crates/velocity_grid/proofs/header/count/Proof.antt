@@ -1,44 +1,21 @@
 -- `velocity_grid::header::count` meets its contract. Assumes nothing.
-use borrow.Author.Needs.{needs}
-use mathlib.Core.Path.{_≡_, _∙_}
-use Prim.Native.Nat.{_*_, _≤_}
-use native.Mathlib.Nat as NatL
+use mathlib.Core.Path.{_∙_, ap, ap₂}
+use Prim.Native.Nat.{ℕ, _*_}
 use native.Mathlib.Omega.{arith}
-use lib.IntN.{pos}
-use mir.Syntax.{w64}
-use mir.Val.{toZ, ofZ}
+use lib.IntN.{ℤ, natAbs}
 use Rattle.rounding.proofs.Machine.{rd}
-use Rattle.velocity_grid.proofs.OnGrid.{Sized, sized}
+use Rattle.velocity_grid.specs.OnGrid.{sizeRange}
 use Rattle.velocity_grid.proofs.header.count.Statement.{statement}
 use Rattle.velocity_grid.proofs.header.count.Tie as tie
 
-module _ (s : tie.Start) where
-  size : Sized (s .args .rows) (s .args .columns)
-  size = sized (s .args .rows) (s .args .columns) (s .pre)
-
-  rows-is : toZ w64 (ofZ w64 (s .args .rows)) ≡ pos (size .rows .n)
-  rows-is = rd (s .fits .rows) ∙ size .rows .is
-
-  columns-is : toZ w64 (ofZ w64 (s .args .columns)) ≡ pos (size .columns .n)
-  columns-is = rd (s .fits .columns) ∙ size .columns .is
-
-  small : size .rows .n * size .columns .n ≤ 2000 * 2000
-  small = NatL.mul-le-mul (size .rows .high) (size .columns .high)
-
-cast-result : tie.Need-cast-result
-cast-result c = let h = size c .rows .high in rw (rows-is c) (tt, record { fits = omega arith })
-
-cast-result-2 : tie.Need-cast-result-2
-cast-result-2 c = let h = size c .columns .high in rw (columns-is c) (tt, record { fits = omega arith })
+nodes-requires : tie.Need-nodes-requires
+nodes-requires c κs = ap₂ sizeRange (rd (c .fits .rows)) (rd (c .fits .columns)) ∙ c .pre
 
 mul-result : tie.Need-mul-result
-mul-result c = let h = small c in rw (rows-is c, columns-is c) (record { fits = omega arith })
-
-mul-result-2 : tie.Need-mul-result-2
-mul-result-2 c = let h = small c in rw (rows-is c, columns-is c) (record { fits = omega arith })
+mul-result c = record { fits = omega (arith, c .nodes .ensures .1) }
 
 returns : tie.Need-returns
-returns c = search needs
+returns c = ap (λ (n : ℕ). 3 * n) (c .nodes .ensures .0 ∙ ap₂ (λ (a b : ℤ). natAbs a * natAbs b) (rd (c .before .fits .rows)) (rd (c .before .fits .columns)))
 
 pub count-spec : {M : Type 1} → statement M
-count-spec = tie.close (tie.spec cast-result cast-result-2 mul-result mul-result-2 returns)
+count-spec = tie.close (tie.spec nodes-requires mul-result returns)

@@ -24,7 +24,7 @@ extern "C" {
 
 /* The version of this interface: a function or a number that is added raises the minor, any other change the major. */
 #define SWIVELCRANE_VERSION_MAJOR 4
-#define SWIVELCRANE_VERSION_MINOR 1
+#define SWIVELCRANE_VERSION_MINOR 2
 
 /* The refusal numbers by name; README.md says of each what to do. 1 is not given. */
 enum swivelcrane_refusal {
@@ -50,9 +50,9 @@ enum swivelcrane_refusal {
     SWIVELCRANE_REFUSAL_ID = 21,       /* an id that is not 1 to 16 of A-Z, 0-9 and hyphen */
     SWIVELCRANE_REFUSAL_PLAIN = 22,    /* a number that is not in plain form */
     SWIVELCRANE_REFUSAL_PLANE = 23,    /* an easting or northing not finite, or 10,000,000 m or more in size */
-    SWIVELCRANE_REFUSAL_OFF_GRID = 24, /* a position off the velocity grid, or in a cell of which a node has no value */
+    SWIVELCRANE_REFUSAL_OFF_GRID = 24, /* a point off the velocity grid, or in a cell with a node that has no value */
     SWIVELCRANE_REFUSAL_PROFILE = 25,  /* a step or a point that the chain's profile doesn't have */
-    SWIVELCRANE_REFUSAL_LINES = 30     /* numbers of a velocity grid's nodes missing, or left over */
+    SWIVELCRANE_REFUSAL_LINES = 30     /* lines of a velocity grid missing, or anything left over */
 };
 
 /* An array has not the number of elements that its call asks for. It comes before every refusal. */
@@ -125,18 +125,6 @@ int64_t swivelcrane_rso_forward(const int64_t *parameters, size_t parameters_len
 int64_t swivelcrane_rso_reverse(const int64_t *parameters, size_t parameters_length, double easting, double northing,
                                 int64_t *out, size_t out_length);
 
-/* Numbers to a velocity grid: latitude and longitude of its south-west corner (the ranges of angles), rows, columns (2 or more each, at
- * most 4,000 nodes), mesh (5 or 10 minutes). Its nodes are three numbers each, east, north and up in hundredths of a millimetre a year,
- * eastward, rows going north; a node whose numbers are not each within 2,500 has no value. */
-#define SWIVELCRANE_GRID_NUMBERS 5
-
-/* The velocity step at a point of a grid, for a datum from the epoch before to the epoch after: out has 13 elements, a step of a chain.
- * Refusals: 2 (the grid's numbers), 30 (numbers of nodes missing or left over), 12 (latitude, longitude), 24 (off the grid, or one of the
- * four nodes has no value), then 2, 3, 4 (datum and epochs). */
-int64_t swivelcrane_velocity_step(const int64_t *grid, size_t grid_length, const int64_t *nodes, size_t nodes_length,
-                                  int64_t latitude, int64_t longitude, int64_t datum, int64_t epoch_before, int64_t epoch_after,
-                                  int64_t *out, size_t out_length);
-
 /* The whole number nearest to the exact value of x times ten to the places (0 to 5), a half away from zero. out has 1
  * element. Refusals: 2 (places), 14 (x not finite, or 10,000,000 or more in size). */
 int64_t swivelcrane_round(double x, uint32_t places, int64_t *out, size_t out_length);
@@ -161,6 +149,21 @@ int64_t swivelcrane_later_fault(const uint8_t *first, size_t first_length, const
  * names, `E`, tab, 2009 or 2021, and under 2021 where there is no such line. */
 int64_t swivelcrane_sheet(const uint8_t *input, size_t input_length, uint8_t *out, size_t out_length);
 int64_t swivelcrane_plan(const uint8_t *input, size_t input_length, uint8_t *out, size_t out_length);
+
+/* A velocity grid is a text of lines: the header G, latitude, longitude of the south-west corner, rows, columns (2 or more each, 4,000
+ * nodes at most), mesh in minutes (5 or 10); then a line a node, eastward, rows going north: east, north, up in hundredths of a millimetre a
+ * year (each within 2,500), or a single - for a node with no value. Numbers to a velocity: east, north and up at the point, then the 13
+ * numbers of the step 'V' as swivelcrane_forward takes it. */
+#define SWIVELCRANE_VELOCITY_NUMBERS 16
+
+/* The velocity of a grid at a point, bilinear over the four nodes of its cell, for a datum and two epochs. out has 16 elements. Refusals: the
+ * grid's own (of its first refused line 18, 19 for the header alone, 20, 22, then 2; then 30 where lines are missing or anything is left
+ * over); the point's 12, then 24; then 2, 3, 4 for the datum and the epochs. */
+int64_t swivelcrane_grid_velocity(const uint8_t *grid, size_t grid_length, int64_t latitude, int64_t longitude, int64_t datum,
+                                  int64_t epoch_before, int64_t epoch_after, int64_t *out, size_t out_length);
+/* What is wrong with a grid: out has 3 elements and becomes its own refusal number (0 for none), the line from 1 (0 for 30 and for none), and
+ * the byte in that line where the first offending field begins, as in swivelcrane_later_fault. Answers 0. */
+int64_t swivelcrane_grid_fault(const uint8_t *grid, size_t grid_length, int64_t *out, size_t out_length);
 
 #ifdef __cplusplus
 }

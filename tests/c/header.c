@@ -261,38 +261,6 @@ static void oblique_mercator(void) {
     refused(swivelcrane_rso_reverse(projection, 8, metres[0], metres[1], out, 1), SWIVELCRANE_WRONG_LENGTH, "rso_reverse, room for one");
 }
 
-/* corner's latitude and longitude, two rows, three columns, a mesh of 10 minutes; east, north and up of six nodes, all different */
-static const int64_t grid_numbers[5] = {1440000000, 36720000000, 2, 3, 10};
-static const int64_t grid_nodes[18] = {101, -202, 303, -404, 505, -606, 707, -808, 909, -1010, 1111, -1212, 1313, -1414, 1515, -1616, 1717, -1818};
-
-/* Worked out apart from the library, in exact fractions and then in the order of docs/ORDERS.md: the parts are 67, -64, 61. */
-static const int64_t stored_velocity_step[STEP] = {'V', 0, 10, 2010000, 10, 2020500, -79, 50, -60, 0, 0, 0, 0};
-
-/* The grid with one number changed, or one of its nodes, at a point: the number it is refused with. */
-static void changed_grid(size_t place, int64_t number, size_t node, int64_t part, int64_t latitude, int64_t refusal, const char *what) {
-    int64_t header[5], nodes[18];
-    memcpy(header, grid_numbers, sizeof header);
-    memcpy(nodes, grid_nodes, sizeof nodes);
-    header[place] = number;
-    nodes[node] = part;
-    refused(swivelcrane_velocity_step(header, 5, nodes, 18, latitude, 36807654321, 10, 2010000, 2020500, out, STEP), refusal, what);
-}
-
-static void velocities(void) {
-    wrote(swivelcrane_velocity_step(grid_numbers, 5, grid_nodes, 18, 1456789012, 36807654321, 10, 2010000, 2020500, out, STEP), stored_velocity_step, STEP, "velocity_step");
-    changed_grid(0, -1, 0, 101, 1456789012, SWIVELCRANE_REFUSAL_RANGE, "a grid's corner south of the equator: 2");
-    changed_grid(4, 15, 0, 101, 1456789012, SWIVELCRANE_REFUSAL_RANGE, "a mesh of 15 minutes: 2");
-    changed_grid(3, 4, 0, 101, 1456789012, SWIVELCRANE_REFUSAL_LINES, "four columns of three: 30");
-    changed_grid(4, 10, 0, 101, -1, SWIVELCRANE_REFUSAL_GEODETIC, "a point south of the equator: 12");
-    changed_grid(4, 10, 0, 101, 1500000001, SWIVELCRANE_REFUSAL_OFF_GRID, "a unit north of the grid: 24");
-    changed_grid(4, 10, 17, 2501, 1456789012, SWIVELCRANE_REFUSAL_OFF_GRID, "a node without a value: 24");
-    refused(swivelcrane_velocity_step(grid_numbers, 5, grid_nodes, 18, 1456789012, 36807654321, 11, 2010000, 2020500, out, STEP), SWIVELCRANE_REFUSAL_RANGE, "a velocity on datum 11: 2");
-    refused(swivelcrane_velocity_step(grid_numbers, 5, grid_nodes, 18, 1456789012, 36807654321, 10, 0, 2020500, out, STEP), SWIVELCRANE_REFUSAL_EPOCH, "a velocity from no epoch: 3");
-    refused(swivelcrane_velocity_step(grid_numbers, 5, grid_nodes, 18, 1456789012, 36807654321, 2, 0, 0, out, STEP), SWIVELCRANE_REFUSAL_KIND, "a velocity of BT68: 4");
-    refused(swivelcrane_velocity_step(grid_numbers, 4, grid_nodes, 18, 1456789012, 36807654321, 10, 2010000, 2020500, out, STEP), SWIVELCRANE_WRONG_LENGTH, "a grid of four numbers");
-    refused(swivelcrane_velocity_step(grid_numbers, 5, grid_nodes, 18, 1456789012, 36807654321, 10, 2010000, 2020500, out, 3), SWIVELCRANE_WRONG_LENGTH, "velocity_step, room for three");
-}
-
 static void rounding(void) {
     wrote(swivelcrane_round(-1234.567895, 3, out, 1), stored_rounded, 1, "round");
     refused(swivelcrane_round(1.0, 6, out, 1), SWIVELCRANE_REFUSAL_RANGE, "six places: 2");
@@ -366,11 +334,32 @@ static void programs(void) {
     prints(swivelcrane_plan, TEXT("O\t1\t1440000000\t036720000000\t50000\t-25000\nG\tb1\t1\t2\n"), "R\t1\t22\t15\nR\t2\t21\t2\n", "places in a plan");
 }
 
+#define GRID "G\t2310000000\t36090000000\t2\t3\t5\n-1800\t200\t30\n1400\t-500\t60\n7\t8\t-9\n1000\t-110\t1200\n13\t14\t-1500\n-\n"
+
+static void grids(void) {
+    wrote(swivelcrane_grid_velocity(TEXT(GRID), 2322056909, 36100705076, 7, 2010000, 2020000, out, 16), stored_grid_velocity, 16, "grid_velocity");
+    refused(swivelcrane_grid_velocity(TEXT(GRID "\n"), -1, 36100705076, 7, 2010000, 2020000, out, 16), SWIVELCRANE_REFUSAL_LINES, "a line left over: 30");
+    refused(swivelcrane_grid_velocity(TEXT(""), -1, 36100705076, 7, 2010000, 2020000, out, 16), SWIVELCRANE_REFUSAL_LINES, "no grid: 30");
+    refused(swivelcrane_grid_velocity(TEXT("x\n"), -1, 36100705076, 7, 2010000, 2020000, out, 16), SWIVELCRANE_REFUSAL_LETTER, "no header: 19");
+    refused(swivelcrane_grid_velocity(TEXT(GRID), -1, 36100705076, 11, 0, 0, out, 16), SWIVELCRANE_REFUSAL_GEODETIC, "grid_velocity: 12");
+    refused(swivelcrane_grid_velocity(TEXT(GRID), 2322056909, 36120000000, 11, 0, 0, out, 16), SWIVELCRANE_REFUSAL_OFF_GRID, "a node without a value, of the cell to the east: 24");
+    refused(swivelcrane_grid_velocity(TEXT(GRID), 2340000001, 36100705076, 11, 0, 0, out, 16), SWIVELCRANE_REFUSAL_OFF_GRID, "north of the grid: 24");
+    refused(swivelcrane_grid_velocity(TEXT(GRID), 2322056909, 36100705076, 11, 0, 0, out, 16), SWIVELCRANE_REFUSAL_RANGE, "datum 11: 2");
+    refused(swivelcrane_grid_velocity(TEXT(GRID), 2322056909, 36100705076, 7, 2010000, 0, out, 16), SWIVELCRANE_REFUSAL_EPOCH, "grid_velocity: 3");
+    refused(swivelcrane_grid_velocity(TEXT(GRID), 2322056909, 36100705076, 2, 0, 0, out, 16), SWIVELCRANE_REFUSAL_KIND, "grid_velocity: 4");
+    refused(swivelcrane_grid_velocity(TEXT(GRID), 2322056909, 36100705076, 7, 2010000, 2020000, out, 15), SWIVELCRANE_WRONG_LENGTH, "grid_velocity, room for 15");
+    refused(swivelcrane_grid_velocity(TEXT(""), 2322056909, 36100705076, 7, 2010000, 2020000, out, 17), SWIVELCRANE_WRONG_LENGTH, "grid_velocity, room for 17");
+    wrote(swivelcrane_grid_fault(TEXT(GRID), out, 3), stored_grid_fault_none, 3, "grid_fault, none");
+    wrote(swivelcrane_grid_fault(TEXT(GRID "-\n"), out, 3), stored_grid_fault_over, 3, "grid_fault, a line left over");
+    wrote(swivelcrane_grid_fault(TEXT("G\t2310000000\t36090000000\t2\t3\t5\n1\t2\t3\n1\t2501\t03\n"), out, 3), stored_grid_fault, 3, "grid_fault, the third line");
+    refused(swivelcrane_grid_fault(TEXT(GRID), out, 2), SWIVELCRANE_WRONG_LENGTH, "grid_fault, room for two");
+}
+
 static void numbers(void) {
     hold(SWIVELCRANE_ROOM(0) == 9 && SWIVELCRANE_ROOM(1 + 1) == 35 && SWIVELCRANE_ROOM(65535) == 851964, "the room");
     hold(SWIVELCRANE_ROOM(65536) == 851977 && SWIVELCRANE_ROOM(65537) == 851977, "the most room");
     hold(STEP == 13 && POINT == 7 && SWIVELCRANE_WRONG_LENGTH == 255, "numbers to a step, to a point, a wrong length");
-    hold(SWIVELCRANE_VERSION_MAJOR == 4 && SWIVELCRANE_VERSION_MINOR == 1, "the version");
+    hold(SWIVELCRANE_VERSION_MAJOR == 4 && SWIVELCRANE_VERSION_MINOR == 2, "the version");
     hold(SWIVELCRANE_REFUSAL_PLACE == 7 && SWIVELCRANE_REFUSAL_EARLIER == 8 && SWIVELCRANE_REFUSAL_LONG == 15, "the numbers that only a text has");
 }
 
@@ -386,11 +375,11 @@ int main(void) {
     to_angles();
     grid();
     oblique_mercator();
-    velocities();
     rounding();
     later();
     faults_of_the_later();
     programs();
+    grids();
     if (faults == 0)
         printf("tests/c: every function of the header answers as stored\n");
     return faults != 0;

@@ -49,13 +49,20 @@ impl<'a> Fields<'a> {
     }
 }
 
-/// For a line that is of none of the forms which these letters begin.
-pub fn fault(line: &[u8], letters: &[u8]) -> Fault {
+/// 18 at the length without a line feed, for a line that is too long or has none.
+fn length(line: &[u8]) -> Option<Fault> {
     let ended = line.last() == Some(&b'\n');
     let length = line.len() - usize::from(ended);
-    if !ended || line.len() > 200 {
-        return Fault { number: LENGTH, place: length.min(200) as u8 };
+    let place = length.min(200) as u8;
+    (!ended || line.len() > 200).then_some(Fault { number: LENGTH, place })
+}
+
+/// For a line that is of none of the forms which these letters begin.
+pub fn fault(line: &[u8], letters: &[u8]) -> Fault {
+    if let Some(fault) = length(line) {
+        return fault;
     }
+    let length = line.len() - 1;
     let fields = Fields::new(&line[..length]);
     let Some(letter) = fields.letter(0, letters) else { return fields.fault(LETTER, 0) };
     let (count, id, convention) = match letter {
@@ -83,6 +90,35 @@ pub fn fault(line: &[u8], letters: &[u8]) -> Fault {
     let first = if id || letter == b'S' { 2 } else { 1 };
     let bad = |i: &usize| !(convention && *i == 6) && !is_plain(fields.bytes(*i));
     let place = (first..count).find(bad).unwrap_or(0);
+    fields.fault(PLAIN, place)
+}
+
+/// For the header of a grid that is not of its form.
+pub fn grid_header(line: &[u8]) -> Fault {
+    if let Some(fault) = length(line) {
+        return fault;
+    }
+    let fields = Fields::new(&line[..line.len() - 1]);
+    if fields.letter(0, b"G").is_none() {
+        return fields.fault(LETTER, 0);
+    }
+    numbers(&fields, 1, 6)
+}
+
+/// For a node's line that is not of its form.
+pub fn node(line: &[u8]) -> Fault {
+    match length(line) {
+        Some(fault) => fault,
+        None => numbers(&Fields::new(&line[..line.len() - 1]), 0, 3),
+    }
+}
+
+/// So many fields, all from the first on numbers.
+fn numbers(fields: &Fields, first: usize, count: usize) -> Fault {
+    if fields.count != count {
+        return Fault { number: COUNT, place: fields.body.len() as u8 };
+    }
+    let place = (first..count).find(|i| !is_plain(fields.bytes(*i))).unwrap_or(0);
     fields.fault(PLAIN, place)
 }
 

@@ -16,6 +16,7 @@ pub enum Function {
     RsoReverse,
     Round,
     Later,
+    Grid,
     Sheet,
     Plan,
 }
@@ -39,6 +40,7 @@ const REACHABLE: [(Function, &str, &[u8]); FUNCTIONS] = [
     (RsoReverse, "RSO reverse", &[0, 2, 12, 23]),
     (Round, "round", &[0, 2, 14]),
     (Later, "later of two", &[0, 2, 3, 16, 17, 18, 19, 20, 21, 22]),
+    (Grid, "velocity of a grid", &[0, 2, 3, 4, 12, 18, 19, 20, 22, 24, 30]),
     (Sheet, "sheet, lines", &[0, 2, 3, 4, 5, 6, 7, 8, 9, 10, 11, 15, 18, 19, 20, 21, 22, 25]),
     (Plan, "plan, lines", &[0, 2, 7, 8, 12, 13, 15, 18, 19, 20, 21, 22]),
 ];

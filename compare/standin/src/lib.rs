@@ -214,6 +214,38 @@ pub unsafe extern "C" fn swivelcrane_later_fault(
     give(Ok(baseline::later::later(first, second).err().unwrap_or_default()), out, out_len)
 }
 
+/// # Safety
+/// Each pointer and length are a live slice.
+#[no_mangle]
+pub unsafe extern "C" fn swivelcrane_grid_velocity(
+    grid: *const u8,
+    grid_len: usize,
+    latitude: i64,
+    longitude: i64,
+    datum: i64,
+    epoch_before: i64,
+    epoch_after: i64,
+    out: *mut i64,
+    out_len: usize,
+) -> i64 {
+    let grid = slice::from_raw_parts(grid, grid_len);
+    let epochs = [epoch_before, epoch_after];
+    give(baseline::grid::velocity(grid, [latitude, longitude], datum, epochs), out, out_len)
+}
+
+/// # Safety
+/// Each pointer and length are a live slice.
+#[no_mangle]
+pub unsafe extern "C" fn swivelcrane_grid_fault(
+    grid: *const u8,
+    grid_len: usize,
+    out: *mut i64,
+    out_len: usize,
+) -> i64 {
+    let grid = slice::from_raw_parts(grid, grid_len);
+    give(Ok(baseline::grid::read(grid).err().unwrap_or_default()), out, out_len)
+}
+
 macro_rules! text {
     ($name:ident, $call:path) => {
         /// # Safety

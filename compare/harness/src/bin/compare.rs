@@ -5,7 +5,7 @@
 
 use harness::arguments;
 use harness::checks::{
-    angles, conversions, geodetic, joins, later, roundings, rso, rso_causes, texts, trips,
+    angles, conversions, geodetic, grids, joins, later, roundings, rso, rso_causes, texts, trips,
 };
 use harness::compare::{Comparison, Outcome};
 use harness::programs::Programs;
@@ -17,6 +17,7 @@ struct Sizes {
     conversions: u64,
     trips: u64,
     joins: u64,
+    grids: u64,
     roundings: u64,
     angles: u64,
     geodetic: u64,
@@ -30,6 +31,7 @@ const SHORT: Sizes = Sizes {
     conversions: 300_000,
     trips: 200_000,
     joins: 40_000,
+    grids: 60_000,
     roundings: 1_000_000,
     angles: 200_000,
     geodetic: 200_000,
@@ -43,6 +45,7 @@ const LONG: Sizes = Sizes {
     conversions: 10_000_000,
     trips: 10_000_000,
     joins: 3_000_000,
+    grids: 2_000_000,
     roundings: 20_000_000,
     angles: 2_000_000,
     geodetic: 5_000_000,
@@ -97,6 +100,7 @@ fn run(c: &mut Comparison, sizes: &Sizes) -> Outcome {
     timed(&format!("{} conversions each way", sizes.conversions), || conversions::run(c, sizes.conversions))?;
     timed(&format!("{} round trips that came home", sizes.trips), || round_trips(c, sizes.trips))?;
     timed(&format!("{} pairs and triples of chains", sizes.joins), || joined(c, sizes.joins))?;
+    timed(&format!("{} points of velocity grids", sizes.grids), || grids::run(c, sizes.grids))?;
     timed(&format!("{} roundings", sizes.roundings), || roundings::run(c, sizes.roundings))?;
     timed(&format!("{} geodetic and as many Cassini points", sizes.angles), || angles::run(c, sizes.angles))?;
     timed(&format!("{} positions to angles", sizes.geodetic), || from_cartesian(c, sizes.geodetic))?;

@@ -5,6 +5,7 @@ pub mod chains;
 pub mod floats;
 pub mod full;
 pub mod geodetic;
+pub mod grids;
 pub mod halves;
 pub mod lines;
 pub mod numbers;

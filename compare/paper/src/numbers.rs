@@ -60,6 +60,23 @@ fn step(row: &[i64]) -> Step {
     }
 }
 
+/// A step as 13 numbers, 0 where its kind has none.
+pub fn step_row(step: &Step) -> [i64; STEP] {
+    let (letter, convention, numbers) = match step.kind {
+        Kind::Shift([x, y, z]) => (b'T', 0, [x, y, z, 0, 0, 0, 0]),
+        Kind::Velocity([x, y, z]) => (b'V', 0, [x, y, z, 0, 0, 0, 0]),
+        Kind::BursaWolf { convention, shift: [x, y, z], rotation: [rx, ry, rz], scale } => {
+            let convention = if convention == Convention::PositionVector { b'P' } else { b'C' };
+            (b'B', convention, [x, y, z, rx, ry, rz, scale])
+        }
+        Kind::Frame => (b'F', 0, [0; 7]),
+        Kind::Unknown => (0, 0, [0; 7]),
+    };
+    let (before, after) = (step.before, step.after);
+    let head = [letter.into(), convention.into(), before.datum, before.epoch, after.datum, after.epoch];
+    std::array::from_fn(|i| if i < 6 { head[i] } else { numbers[i - 6] })
+}
+
 fn kind(row: &[i64]) -> Kind {
     let letter = |place: usize| u8::try_from(row[place]).unwrap_or(0);
     let three = |from: usize| [row[from], row[from + 1], row[from + 2]];

@@ -8,6 +8,7 @@ ghost use Rattle.line.specs.SecondLook.{classOf, stepRest, letteredOf, g
 
 // The mark of a velocity grid's header, which begins with G as a position does, and of its nodes, which begin with no letter.
 pub const GRID: u8 = b'g';
+
 pub const NODE: u8 = b'-';
 
 // This one letter; the kind of a step; the convention of a Bursa-Wolf step; an id; a number; or no field at all.

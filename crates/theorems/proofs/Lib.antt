@@ -11,4 +11,5 @@ pub mod MarksMeet
 pub mod Orders
 pub mod Joins
 pub mod LineOrders
+pub mod GridLines
 pub mod Velocities

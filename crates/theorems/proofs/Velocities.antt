@@ -2,7 +2,17 @@
 use Rattle.velocity_grid.proofs.Bilinear.{at-south-west, at-south-east, at-north-west, at-north-east, at-least, at-most}
 use Rattle.velocity_grid.proofs.AtPoint.{shared-east, shared-north}
 use Rattle.velocity_grid.proofs.TurnFinite.{bounded}
+use mathlib.Core.Path.{_≡_, refl}
+use mathlib.Core.Bool.{false}
+use Rattle.ranges.specs.Ranges.{within}
+use Rattle.velocity_grid.specs.AtPoint.{partRange}
+use Rattle.velocity_grid.specs.Text.{noValue}
 use Rattle.theorems.specs.Velocities.{Velocities}
+use Rattle.theorems.proofs.GridLines.{header-judged, node-judged}
+
+no-value : partRange noValue ≡ false
+unfolding within
+no-value = refl
 
 pub velocities : Velocities
 velocities = record {
@@ -17,4 +27,7 @@ velocities = record {
   east = shared-east;
   north = shared-north;
   small = bounded;
+  headers = header-judged;
+  nodes = node-judged;
+  none = no-value;
 }

@@ -26,7 +26,7 @@ pub type Nodes = [i64; 12000];
 // What is wrong with a grid's text: a number of the refusal table; the line, from 1, or 0 where no line is; and the place in it, 0 but for a line of bad form.
 pub struct GridFault {
     pub number: u8,
-    pub line: usize,
+    pub line: u16,
     pub place: u8,
 }
 

@@ -50,8 +50,8 @@ fn motion_on(
 }
 
 // The motion at a point (units of 0.00001") of a grid in our own lines, for a datum and two epochs (thousandths of a year): the parts in hundredths of a
-// millimetre a year, the velocity in units of 0.00001 m a year. Refused as check_grid refuses, by the number alone; then GEODETIC for the point's angles, OFF_GRID
-// off the grid or where a node of its cell has no value; then RANGE, EPOCH, KIND for the datum and the epochs.
+// millimetre a year, the velocity in units of 0.00001 m a year. Refused as check_grid refuses, by the number alone; then GEODETIC for the point's angles,
+// OFF_GRID off the grid or where a node of its cell has no value; then RANGE, EPOCH, KIND for the datum and the epochs.
 pub fn motion_at(
     text: &[u8],
     latitude: i64,
@@ -67,7 +67,15 @@ pub fn motion_at(
         GridAnswer::Refused(fault) => MotionAnswer::Refused(fault.number),
         GridAnswer::Grid(g) => {
             let count = header::count(g.rows, g.columns);
-            motion_on(g, &nodes[..count], latitude, longitude, datum, before, after)
+            motion_on(
+                g,
+                &nodes[..count],
+                latitude,
+                longitude,
+                datum,
+                before,
+                after,
+            )
         }
     }
 }

@@ -43,7 +43,7 @@ fn faultless() -> GridFault
     }
 }
 
-fn on_line(line: usize, fault: Fault) -> GridFault
+fn on_line(line: u16, fault: Fault) -> GridFault
     ensures { λ r. ⌜ r ≡ onLine line fault ⌝ }
 {
     GridFault {
@@ -54,7 +54,7 @@ fn on_line(line: usize, fault: Fault) -> GridFault
 }
 
 // What is wrong with the parts of a node on this line, if anything is.
-fn parts_fault(line: usize, p: Parts) -> GridFault
+fn parts_fault(line: u16, p: Parts) -> GridFault
     ensures { λ r. ⌜ r ≡ nodeFault line (node-line.Parts p) ⌝ }
 {
     if ranges::three_within(-2500, p.east, p.north, p.up, 2500) {
@@ -68,7 +68,7 @@ fn parts_fault(line: usize, p: Parts) -> GridFault
 }
 
 // What is wrong with a node's line, if anything is; an empty one is missing.
-fn awaited_fault(text: &[u8], line: usize) -> GridFault
+fn awaited_fault(text: &[u8], line: u16) -> GridFault
     ensures { λ r. ⌜ r ≡ awaitedFault line (now (text .entry)) ⌝ }
 {
     if text.len() == 0 {
@@ -88,7 +88,7 @@ fn nodes_fault(text: &[u8], start: usize, count: usize) -> GridFault
 {
     let mut from = start;
     let mut left = count;
-    let mut number: usize = 2;
+    let mut number: u16 = 2;
     while 0 < left {
         let end = line::line_end(text, from);
         let fault = awaited_fault(&text[from..end], number);
@@ -125,8 +125,8 @@ fn with_header(text: &[u8], start: usize, g: GridHeader) -> GridAnswer
 }
 
 // A grid's text, examined whole: its header; or why it is none. Refused is the first line with a fault, with its number from 1 and the place in it: LENGTH,
-// LETTER (of the header alone), COUNT, PLAIN, then RANGE, which has place 0; then LINES, which has line and place 0, where lines are missing or anything is left
-// over.
+// LETTER (of the header alone), COUNT, PLAIN, then RANGE, which has place 0; then LINES, which has line and place 0, where lines are missing or anything is
+// left over.
 pub fn check_grid(text: &[u8]) -> GridAnswer
     ensures { λ r. ⌜ r ≡ gridOf (now (text .entry)) ⌝ }
 {

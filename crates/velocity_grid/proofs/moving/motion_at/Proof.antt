@@ -72,7 +72,7 @@ module _ (c : tie.After-count) where
   fresh = c .before .before .before .before .before .before .before .before .node-space .result
 
   abbrev held : List ℤ
-  held = c .before .before .before .before .before .before .read-grid .last .0
+  held = c .before .before .before .before .before .before .read-grid .last .1 .0
 
   held-is : held ≡ sets fresh 0 (numbersOf (text before-count))
   held-is = c .before .before .before .before .before .before .read-grid .ensures .1 ∙ ap (λ (w : GridAnswer). laid w (numbersOf (text before-count)) fresh) (is-grid before-count)
@@ -87,7 +87,7 @@ module _ (c : tie.After-count) where
       (omega (arith, few, c .before .before .before .before .before .before .before .before .node-space .ensures))
 
 array-share-prefix-nodes : tie.Need-array-share-prefix-nodes
-array-share-prefix-nodes c = few c
+array-share-prefix-nodes c = roomy c
 
 slice-aggregate-motion-on : tie.Need-slice-aggregate-motion-on
 slice-aggregate-motion-on c = sym (length-take-le _ _ (roomy (c .before)))

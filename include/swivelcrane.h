@@ -158,7 +158,7 @@ int64_t swivelcrane_plan(const uint8_t *input, size_t input_length, uint8_t *out
 
 /* The velocity of a grid at a point, bilinear over the four nodes of its cell, for a datum and two epochs. out has 16 elements. Refusals: the
  * grid's own (of its first refused line 18, 19 for the header alone, 20, 22, then 2; then 30 where lines are missing or anything is left
- * over); the point's 12, then 24; then 2, 3, 4 for the datum and the epochs. */
+ * over); the point's 12, then 24; then 2, 3, 4 for the datum and the epochs. The call takes some 100,000 bytes of stack. */
 int64_t swivelcrane_grid_velocity(const uint8_t *grid, size_t grid_length, int64_t latitude, int64_t longitude, int64_t datum,
                                   int64_t epoch_before, int64_t epoch_after, int64_t *out, size_t out_length);
 /* What is wrong with a grid: out has 3 elements and becomes its own refusal number (0 for none), the line from 1 (0 for 30 and for none), and

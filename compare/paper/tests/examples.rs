@@ -2,6 +2,7 @@
 
 use paper::decimal::round;
 use paper::geodetic::geodetic;
+use paper::numbers;
 use paper::rso::{self, Parameters};
 
 /// The text stands among what the examples in C print.

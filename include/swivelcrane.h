@@ -25,7 +25,7 @@ extern "C" {
 
 /* The version of this interface: a function or a number that is added raises the minor, any other change the major. */
 #define SWIVELCRANE_VERSION_MAJOR 4
-#define SWIVELCRANE_VERSION_MINOR 4
+#define SWIVELCRANE_VERSION_MINOR 5
 
 /* The refusal numbers by name; README.md says of each what to do. 1 is not given. */
 enum swivelcrane_refusal {
@@ -51,11 +51,13 @@ enum swivelcrane_refusal {
     SWIVELCRANE_REFUSAL_ID = 21,       /* an id that is not 1 to 16 of A-Z, 0-9 and hyphen */
     SWIVELCRANE_REFUSAL_PLAIN = 22,    /* a number that is not in plain form */
     SWIVELCRANE_REFUSAL_PLANE = 23,    /* an easting or northing not finite, or 10,000,000 m or more in size */
+    SWIVELCRANE_REFUSAL_OFF_GRID = 24, /* a point off the velocity grid, or in a cell with a node that has no value */
     SWIVELCRANE_REFUSAL_PROFILE = 25,  /* a step or a point that the chain's profile doesn't have */
     SWIVELCRANE_REFUSAL_ROW = 26,      /* a row of answers that is shorter than the row of points */
     SWIVELCRANE_REFUSAL_BUFFER = 27,   /* a buffer of fewer than 200 bytes: only of the lot plan (swivelcrane_lot_plan.h) */
     SWIVELCRANE_REFUSAL_LIMIT = 28,    /* a line past the first million: only in the text of a sheet in fragments */
-    SWIVELCRANE_REFUSAL_STATE = 29     /* a call after the finish, or with a state that is none */
+    SWIVELCRANE_REFUSAL_STATE = 29,    /* a call after the finish, or with a state that is none */
+    SWIVELCRANE_REFUSAL_LINES = 30     /* lines of a velocity grid missing, or anything left over */
 };
 
 /* An array has not the number of elements that its call asks for. It comes before every refusal. */
@@ -186,6 +188,21 @@ int64_t swivelcrane_feed(int64_t *state, size_t state_length, uint8_t *line, siz
 /* Ends the sheet: a line left open is refused with 18 (28 past the limit), and the answer is the length of its R line; with none open it is
  * 0. All bytes of line become 0, and every later call on this state is 29. Refusals as of swivelcrane_feed. */
 int64_t swivelcrane_finish(int64_t *state, size_t state_length, uint8_t *line, size_t line_length, uint8_t *out, size_t out_length);
+
+/* A velocity grid is a text of lines: the header G, latitude, longitude of the south-west corner, rows, columns (2 or more each, 4,000
+ * nodes at most), mesh in minutes (5 or 10); then a line a node, eastward, rows going north: east, north, up in hundredths of a millimetre a
+ * year (each within 2,500), or a single - for a node with no value. Numbers to a velocity: east, north and up at the point, then the 13
+ * numbers of the step 'V' as swivelcrane_forward takes it. */
+#define SWIVELCRANE_VELOCITY_NUMBERS 16
+
+/* The velocity of a grid at a point, bilinear over the four nodes of its cell, for a datum and two epochs. out has 16 elements. Refusals: the
+ * grid's own (of its first refused line 18, 19 for the header alone, 20, 22, then 2; then 30 where lines are missing or anything is left
+ * over); the point's 12, then 24; then 2, 3, 4 for the datum and the epochs. The call takes some 100,000 bytes of stack. */
+int64_t swivelcrane_grid_velocity(const uint8_t *grid, size_t grid_length, int64_t latitude, int64_t longitude, int64_t datum,
+                                  int64_t epoch_before, int64_t epoch_after, int64_t *out, size_t out_length);
+/* What is wrong with a grid: out has 3 elements and becomes its own refusal number (0 for none), the line from 1 (0 for 30 and for none), and
+ * the byte in that line where the first offending field begins, as in swivelcrane_later_fault. Answers 0. */
+int64_t swivelcrane_grid_fault(const uint8_t *grid, size_t grid_length, int64_t *out, size_t out_length);
 
 #ifdef __cplusplus
 }

@@ -413,11 +413,32 @@ static void streams(void) {
     hold(told[0] == 1 && told[1] == 1 && line[0] == 0 && state[0] == 1000000 && state[1] == 0 && state[2] == 0, "feed, past the limit: nothing moves");
 }
 
+#define GRID "G\t2310000000\t36090000000\t2\t3\t5\n-1800\t200\t30\n1400\t-500\t60\n7\t8\t-9\n1000\t-110\t1200\n13\t14\t-1500\n-\n"
+
+static void grids(void) {
+    wrote(swivelcrane_grid_velocity(TEXT(GRID), 2322056909, 36100705076, 7, 2010000, 2020000, out, 16), stored_grid_velocity, 16, "grid_velocity");
+    refused(swivelcrane_grid_velocity(TEXT(GRID "\n"), -1, 36100705076, 7, 2010000, 2020000, out, 16), SWIVELCRANE_REFUSAL_LINES, "a line left over: 30");
+    refused(swivelcrane_grid_velocity(TEXT(""), -1, 36100705076, 7, 2010000, 2020000, out, 16), SWIVELCRANE_REFUSAL_LINES, "no grid: 30");
+    refused(swivelcrane_grid_velocity(TEXT("x\n"), -1, 36100705076, 7, 2010000, 2020000, out, 16), SWIVELCRANE_REFUSAL_LETTER, "no header: 19");
+    refused(swivelcrane_grid_velocity(TEXT(GRID), -1, 36100705076, 11, 0, 0, out, 16), SWIVELCRANE_REFUSAL_GEODETIC, "grid_velocity: 12");
+    refused(swivelcrane_grid_velocity(TEXT(GRID), 2322056909, 36120000000, 11, 0, 0, out, 16), SWIVELCRANE_REFUSAL_OFF_GRID, "a node without a value, of the cell to the east: 24");
+    refused(swivelcrane_grid_velocity(TEXT(GRID), 2340000001, 36100705076, 11, 0, 0, out, 16), SWIVELCRANE_REFUSAL_OFF_GRID, "north of the grid: 24");
+    refused(swivelcrane_grid_velocity(TEXT(GRID), 2322056909, 36100705076, 11, 0, 0, out, 16), SWIVELCRANE_REFUSAL_RANGE, "datum 11: 2");
+    refused(swivelcrane_grid_velocity(TEXT(GRID), 2322056909, 36100705076, 7, 2010000, 0, out, 16), SWIVELCRANE_REFUSAL_EPOCH, "grid_velocity: 3");
+    refused(swivelcrane_grid_velocity(TEXT(GRID), 2322056909, 36100705076, 2, 0, 0, out, 16), SWIVELCRANE_REFUSAL_KIND, "grid_velocity: 4");
+    refused(swivelcrane_grid_velocity(TEXT(GRID), 2322056909, 36100705076, 7, 2010000, 2020000, out, 15), SWIVELCRANE_WRONG_LENGTH, "grid_velocity, room for 15");
+    refused(swivelcrane_grid_velocity(TEXT(""), 2322056909, 36100705076, 7, 2010000, 2020000, out, 17), SWIVELCRANE_WRONG_LENGTH, "grid_velocity, room for 17");
+    wrote(swivelcrane_grid_fault(TEXT(GRID), out, 3), stored_grid_fault_none, 3, "grid_fault, none");
+    wrote(swivelcrane_grid_fault(TEXT(GRID "-\n"), out, 3), stored_grid_fault_over, 3, "grid_fault, a line left over");
+    wrote(swivelcrane_grid_fault(TEXT("G\t2310000000\t36090000000\t2\t3\t5\n1\t2\t3\n1\t2501\t03\n"), out, 3), stored_grid_fault, 3, "grid_fault, the third line");
+    refused(swivelcrane_grid_fault(TEXT(GRID), out, 2), SWIVELCRANE_WRONG_LENGTH, "grid_fault, room for two");
+}
+
 static void numbers(void) {
     hold(SWIVELCRANE_ROOM(0) == 9 && SWIVELCRANE_ROOM(1 + 1) == 35 && SWIVELCRANE_ROOM(65535) == 851964, "the room");
     hold(SWIVELCRANE_ROOM(65536) == 851977 && SWIVELCRANE_ROOM(65537) == 851977, "the most room");
     hold(STEP == 13 && POINT == 7 && SWIVELCRANE_WRONG_LENGTH == 255, "numbers to a step, to a point, a wrong length");
-    hold(SWIVELCRANE_VERSION_MAJOR == 4 && SWIVELCRANE_VERSION_MINOR == 4, "the version");
+    hold(SWIVELCRANE_VERSION_MAJOR == 4 && SWIVELCRANE_VERSION_MINOR == 5, "the version");
     hold(SWIVELCRANE_REFUSAL_PLACE == 7 && SWIVELCRANE_REFUSAL_EARLIER == 8 && SWIVELCRANE_REFUSAL_LONG == 15, "the numbers that only a text has");
 }
 
@@ -439,6 +460,7 @@ int main(void) {
     faults_of_the_later();
     programs();
     streams();
+    grids();
     if (faults == 0)
         printf("tests/c: every function of the header answers as stored\n");
     return faults != 0;

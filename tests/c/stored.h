@@ -11,6 +11,10 @@ static const int64_t stored_join[26] = {66, 67, 1, 0, 5, 2000000, -1100000, 8510
 #define stored_lot_plan "C\tARAU\t7\t3\t-43673705\t53017498\n"
 #define stored_lot_plan_no_step "C\tARAU\t7\t3\t-43673869\t53017593\n"
 static const int64_t stored_lot_plan_millimetres[2] = {-43673705, 53017498};
+static const int64_t stored_grid_velocity[16] = {-133, -56, 119, 86, 0, 7, 2010000, 7, 2020000, 109, 146, -42, 0, 0, 0, 0};
+static const int64_t stored_grid_fault_none[3] = {0, 0, 0};
+static const int64_t stored_grid_fault_over[3] = {30, 0, 0};
+static const int64_t stored_grid_fault[3] = {22, 3, 7};
 static const uint64_t stored_cartesian[3] = {UINT64_C(0xc1341b3c564d721e), UINT64_C(0x4157c2f4d78bcff2), UINT64_C(0x41172183aa5b1cab)};
 static const int64_t stored_cartesian_units[3] = {-131769233712, 622894736791, 37897691636};
 static const int64_t stored_geodetic[3] = {1234567890, 36700000123, 456789};

@@ -20,11 +20,13 @@ pub const COUNT: u8 = 20;
 pub const ID: u8 = 21;
 pub const PLAIN: u8 = 22;
 pub const PROJECTED: u8 = 23;
+pub const NODES: u8 = 24;
 pub const PROFILE: u8 = 25;
 pub const ROW: u8 = 26;
 pub const BUFFER: u8 = 27;
 pub const LIMIT: u8 = 28;
 pub const ENDED: u8 = 29;
+pub const LINES: u8 = 30;
 
 /// A refused line: the number and, for its form, the byte where the offending field begins.
 #[derive(Clone, Copy, PartialEq, Eq, Debug)]

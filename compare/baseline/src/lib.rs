@@ -5,6 +5,7 @@ pub mod angle;
 pub mod check;
 mod elementary;
 pub mod geodetic;
+pub mod grid;
 pub mod later;
 pub mod lot_plan;
 mod malformed;

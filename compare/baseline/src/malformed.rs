@@ -93,6 +93,35 @@ pub fn fault(line: &[u8], letters: &[u8]) -> Fault {
     fields.fault(PLAIN, place)
 }
 
+/// For the header of a grid that is not of its form.
+pub fn grid_header(line: &[u8]) -> Fault {
+    if let Some(fault) = length(line) {
+        return fault;
+    }
+    let fields = Fields::new(&line[..line.len() - 1]);
+    if fields.letter(0, b"G").is_none() {
+        return fields.fault(LETTER, 0);
+    }
+    numbers(&fields, 1, 6)
+}
+
+/// For a node's line that is not of its form.
+pub fn node(line: &[u8]) -> Fault {
+    match length(line) {
+        Some(fault) => fault,
+        None => numbers(&Fields::new(&line[..line.len() - 1]), 0, 3),
+    }
+}
+
+/// So many fields, all from the first on numbers.
+fn numbers(fields: &Fields, first: usize, count: usize) -> Fault {
+    if fields.count != count {
+        return Fault { number: COUNT, place: fields.body.len() as u8 };
+    }
+    let place = (first..count).find(|i| !is_plain(fields.bytes(*i))).unwrap_or(0);
+    fields.fault(PLAIN, place)
+}
+
 fn is_id(field: &[u8]) -> bool {
     (1..=16).contains(&field.len()) && field.iter().all(|b| matches!(b, b'A'..=b'Z' | b'0'..=b'9' | b'-'))
 }

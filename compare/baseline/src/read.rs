@@ -72,6 +72,37 @@ impl<'a> Reader<'a> {
         }
     }
 
+    /// A line of a grid; the whole line's bytes where it is not of its form.
+    #[inline]
+    pub(crate) fn by<T>(&mut self, fields: impl FnOnce(&mut Self) -> Option<T>) -> Result<T, &'a [u8]> {
+        let start = self.at;
+        match fields(self) {
+            Some(value) if self.at - start <= 200 => Ok(value),
+            Some(_) => Err(&self.bytes[start..self.at]),
+            None => {
+                // A field may have been read past a line feed's place: the line is looked for from its start.
+                self.at = start;
+                self.skip();
+                Err(&self.bytes[start..self.at])
+            }
+        }
+    }
+
+    pub(crate) fn grid_header(&mut self) -> Option<[i64; 5]> {
+        self.known(b'G')?;
+        self.numbers(FEED)
+    }
+
+    pub(crate) fn lone_hyphen(&mut self) -> bool {
+        let alone = self.bytes[self.at..].starts_with(b"-\n");
+        self.at += if alone { 2 } else { 0 };
+        alone
+    }
+
+    pub(crate) fn three(&mut self) -> Option<[i64; 3]> {
+        self.numbers(FEED)
+    }
+
     /// A line that begins with none of the letters: too long, or 19 at its first byte.
     pub fn unknown(&mut self) -> Fault {
         let start = self.at;

@@ -25,6 +25,17 @@ pub fn whole_and_quotient(w: i64, n: i64, d: i64) -> i64 {
     floor + i64::from(up)
 }
 
+/// n / d with a half away from zero; d is above zero.
+#[inline]
+pub fn away(n: i64, d: i64) -> i64 {
+    let (whole, rest) = (n / d, (n % d).abs());
+    if rest >= d - rest {
+        whole + n.signum()
+    } else {
+        whole
+    }
+}
+
 const POWERS: [u64; 6] = [1, 10, 100, 1_000, 10_000, 100_000];
 
 /// An f64 to 0..=5 decimals; Err is 2 or 14.

@@ -1,7 +1,7 @@
 //! The product through its C interface. Each call watches the bytes around and in what it lends: on a
 //! refusal nothing may be written, and never anything past the lent slice.
 
-use crate::subject::{Answer, Day, Fed, Lot, State, Subject, STRANGE, UNWRITTEN, WROTE};
+use crate::subject::{Answer, Asked, Day, Fed, Lot, State, Subject, STRANGE, UNWRITTEN, WROTE};
 use paper::numbers::PointRow;
 #[cfg(feature = "standin")]
 use standin as _;
@@ -158,6 +158,19 @@ mod c {
             out: *mut u8,
             out_len: usize,
         ) -> i64;
+        pub fn swivelcrane_grid_velocity(
+            grid: *const u8,
+            grid_len: usize,
+            latitude: i64,
+            longitude: i64,
+            datum: i64,
+            epoch_before: i64,
+            epoch_after: i64,
+            out: *mut i64,
+            out_len: usize,
+        ) -> i64;
+        pub fn swivelcrane_grid_fault(grid: *const u8, grid_len: usize, out: *mut i64, out_len: usize)
+            -> i64;
         pub fn swivelcrane_sheet(input: *const u8, input_len: usize, out: *mut u8, out_len: usize) -> i64;
         pub fn swivelcrane_plan(input: *const u8, input_len: usize, out: *mut u8, out_len: usize) -> i64;
     }
@@ -284,6 +297,22 @@ pub fn later_fault(first: &[u8], second: &[u8], out: &mut [i64]) -> i64 {
     }
 }
 
+pub fn grid_velocity(grid: &[u8], a: &Asked, out: &mut [i64]) -> i64 {
+    unsafe {
+        c::swivelcrane_grid_velocity(
+            grid.as_ptr(),
+            grid.len(),
+            a.latitude,
+            a.longitude,
+            a.datum,
+            a.before,
+            a.after,
+            out.as_mut_ptr(),
+            out.len(),
+        )
+    }
+}
+
 pub fn feed(numbers: &mut [i64], line: &mut [u8], fragment: &[u8], out: &mut [u8], told: &mut [i64]) -> i64 {
     unsafe {
         c::swivelcrane_feed(
@@ -312,6 +341,10 @@ pub fn finish(numbers: &mut [i64], line: &mut [u8], out: &mut [u8]) -> i64 {
             out.len(),
         )
     }
+}
+
+pub fn grid_fault(grid: &[u8], out: &mut [i64]) -> i64 {
+    unsafe { c::swivelcrane_grid_fault(grid.as_ptr(), grid.len(), out.as_mut_ptr(), out.len()) }
 }
 
 pub fn lot_plan(lot: &Lot, out: &mut [u8]) -> i64 {
@@ -355,9 +388,9 @@ pub const ANSWER: usize = 200;
 pub const MARK: i64 = 0x5a5a_a5a5_1234_4321;
 pub const FLOAT_MARK: f64 = -1.25e300;
 
-/// Lends N places in the midst of sixteen marked ones.
+/// Lends N places in the midst of twenty marked ones.
 fn lend<T: Copy + PartialEq, const N: usize>(mark: T, call: impl FnOnce(&mut [T]) -> i64) -> Answer<[T; N]> {
-    let mut places = [mark; 16];
+    let mut places = [mark; 20];
     let number = call(&mut places[1..=N]);
     let touched = |part: &[T]| part.iter().any(|place| *place != mark);
     if touched(&places[..1]) || touched(&places[N + 1..]) {
@@ -366,7 +399,7 @@ fn lend<T: Copy + PartialEq, const N: usize>(mark: T, call: impl FnOnce(&mut [T]
     match number {
         0 => Ok(std::array::from_fn(|i| places[1 + i])),
         _ if touched(&places) => Err(WROTE),
-        2..=25 | 255 => Err(number as u8),
+        2..=30 | 255 => Err(number as u8),
         _ => Err(STRANGE),
     }
 }
@@ -452,6 +485,12 @@ impl Subject for Product {
     }
     fn later_fault(&self, first: &[u8], second: &[u8]) -> Answer<[i64; 3]> {
         lend(MARK, |out| later_fault(first, second, out))
+    }
+    fn grid_velocity(&self, grid: &[u8], asked: &Asked) -> Answer<[i64; 16]> {
+        lend(MARK, |out| grid_velocity(grid, asked, out))
+    }
+    fn grid_fault(&self, grid: &[u8]) -> Answer<[i64; 3]> {
+        lend(MARK, |out| grid_fault(grid, out))
     }
     fn fed(&self, state: &mut State, fragment: Option<&[u8]>) -> Fed {
         let (mut out, mut told) = ([0xa5; ANSWER + 1], [MARK; 2]);

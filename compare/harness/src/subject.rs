@@ -46,6 +46,16 @@ pub struct State {
 /// The bytes taken and the text of a line answered; or the number.
 pub type Fed = Answer<(usize, Option<Vec<u8>>)>;
 
+/// A point, a datum and two epochs, for which a grid gives a velocity step.
+#[derive(Clone, Debug)]
+pub struct Asked {
+    pub latitude: i64,
+    pub longitude: i64,
+    pub datum: i64,
+    pub before: i64,
+    pub after: i64,
+}
+
 pub trait Subject {
     fn name(&self) -> &'static str;
     fn forward(&self, profile: i64, chain: &[i64], point: &PointRow) -> Answer<PointRow>;
@@ -71,6 +81,10 @@ pub trait Subject {
     fn lot_plan(&self, lot: &Lot) -> Answer<Vec<u8>>;
     /// One call with a fragment, or the finish where there is none, on a state that the caller keeps.
     fn fed(&self, state: &mut State, fragment: Option<&[u8]>) -> Fed;
+    /// East, north and up at a point of a grid, then the 13 numbers of the V step.
+    fn grid_velocity(&self, grid: &[u8], asked: &Asked) -> Answer<[i64; 16]>;
+    /// The number, the line from 1 and the place of a grid's refusal; zeros for none.
+    fn grid_fault(&self, grid: &[u8]) -> Answer<[i64; 3]>;
     fn sheet(&self, input: &[u8]) -> Vec<u8>;
     fn plan(&self, input: &[u8]) -> Vec<u8>;
 }
@@ -131,6 +145,16 @@ impl Subject for Paper {
     fn later_fault(&self, first: &[u8], second: &[u8]) -> Answer<[i64; 3]> {
         let refused = paper::later::later(first, second).err();
         Ok(refused.map_or([0; 3], |r| [i64::from(r.number), r.line, r.place as i64]))
+    }
+    fn grid_velocity(&self, grid: &[u8], a: &Asked) -> Answer<[i64; 16]> {
+        let ([e, n, u], step) =
+            paper::grid::velocity(grid, [a.latitude, a.longitude], a.datum, [a.before, a.after])?;
+        let row = paper::numbers::step_row(&step);
+        Ok(std::array::from_fn(|i| if i < 3 { [e, n, u][i] } else { row[i - 3] }))
+    }
+    fn grid_fault(&self, grid: &[u8]) -> Answer<[i64; 3]> {
+        let refused = paper::grid::read(grid).err();
+        Ok(refused.map_or([0; 3], |r| [i64::from(r.number), r.line as i64, r.place as i64]))
     }
     fn fed(&self, state: &mut State, fragment: Option<&[u8]>) -> Fed {
         let State { numbers, line } = state;
@@ -210,6 +234,12 @@ impl Subject for Baseline {
     }
     fn later_fault(&self, first: &[u8], second: &[u8]) -> Answer<[i64; 3]> {
         Ok(baseline::later::later(first, second).err().unwrap_or_default())
+    }
+    fn grid_velocity(&self, grid: &[u8], a: &Asked) -> Answer<[i64; 16]> {
+        baseline::grid::velocity(grid, [a.latitude, a.longitude], a.datum, [a.before, a.after])
+    }
+    fn grid_fault(&self, grid: &[u8]) -> Answer<[i64; 3]> {
+        Ok(baseline::grid::read(grid).err().unwrap_or_default())
     }
     fn fed(&self, state: &mut State, fragment: Option<&[u8]>) -> Fed {
         let mut state = baseline::stream::State { numbers: &mut state.numbers, line: &mut state.line };

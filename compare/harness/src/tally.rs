@@ -21,6 +21,7 @@ pub enum Function {
     Fed,
     Stream,
     LotPlan,
+    Grid,
     Sheet,
     Plan,
 }
@@ -49,6 +50,7 @@ const REACHABLE: [(Function, &str, &[u8]); FUNCTIONS] = [
     (Fed, "fragments, calls", &[0, 29]),
     (Stream, "fragments, lines", &[0, 2, 3, 4, 5, 6, 7, 8, 9, 10, 11, 18, 19, 20, 21, 22, 25, 28]),
     (LotPlan, "lot plan", &[0, 2, 3, 4, 5, 6, 7, 9, 10, 11, 12, 13, 18, 19, 20, 21, 22, 25, 27]),
+    (Grid, "velocity of a grid", &[0, 2, 3, 4, 12, 18, 19, 20, 22, 24, 30]),
     (Sheet, "sheet, lines", &[0, 2, 3, 4, 5, 6, 7, 8, 9, 10, 11, 15, 18, 19, 20, 21, 22, 25]),
     (Plan, "plan, lines", &[0, 2, 7, 8, 12, 13, 15, 18, 19, 20, 21, 22]),
 ];

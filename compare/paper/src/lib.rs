@@ -11,6 +11,7 @@ pub mod ellipsoid;
 pub mod fraction;
 pub mod functions;
 pub mod geodetic;
+pub mod grid;
 pub mod join;
 pub mod later;
 pub mod library;

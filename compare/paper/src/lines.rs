@@ -1,4 +1,4 @@
-//! Document 01, "Lines", and request A2: the forms of the five lines. What is not of its form is refused with 18 to
+//! Document 01, "Lines", and request A2: the forms of the lines. What is not of its form is refused with 18 to
 //! 22, and that order goes over the whole line: a later field's 19 comes before an earlier field's 21.
 
 use crate::angle::Origin;
@@ -177,6 +177,24 @@ pub fn geodetic(line: &[u8]) -> Result<Named<'_, [i64; 2]>, Fault> {
     line.letter(0, b"G")?;
     line.count(4)?;
     Ok(Named { id: line.id(1)?, value: line.numbers(2)? })
+}
+
+/// G, latitude, longitude, rows, columns, mesh: the header of a velocity grid (request A9).
+pub fn grid(line: &[u8]) -> Result<[i64; 5], Fault> {
+    let line = Line::cut(line)?;
+    line.letter(0, b"G")?;
+    line.count(6)?;
+    line.numbers(1)
+}
+
+/// A node of a grid: east, north, up, or a single `-`.
+pub fn node(line: &[u8]) -> Result<Option<[i64; 3]>, Fault> {
+    let line = Line::cut(line)?;
+    if matches!(line.fields.as_slice(), [Field { bytes: b"-", .. }]) {
+        return Ok(None);
+    }
+    line.count(3)?;
+    line.numbers(0).map(Some)
 }
 
 /// A line whose first letter no reader of its program knows: 18, then 19 at its first byte.

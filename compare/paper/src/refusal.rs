@@ -29,6 +29,8 @@ pub const ID: Refusal = 21;
 pub const PLAIN: Refusal = 22;
 /// An easting or northing handed in that is not finite, or is 10,000,000 m or more in size.
 pub const PROJECTED: Refusal = 23;
+/// A point off the grid, or a node of its cell without a value.
+pub const NODES: Refusal = 24;
 /// A step or a point that the chain's edition of the circular doesn't have.
 pub const PROFILE: Refusal = 25;
 /// An answer row shorter than the points.
@@ -39,6 +41,8 @@ pub const BUFFER: Refusal = 27;
 pub const LIMIT: Refusal = 28;
 /// A call after the finish, or with a state that is none.
 pub const ENDED: Refusal = 29;
+/// Lines of a grid missing or left over.
+pub const LINES: Refusal = 30;
 
 /// A refusal of a line, and the byte where the first offending field begins: 0 for all but 18 to 22.
 #[derive(Clone, Copy, Debug, PartialEq, Eq)]

@@ -74,6 +74,28 @@ fn onto_rso_and_back() {
 }
 
 #[test]
+fn between_the_nodes_of_a_grid() {
+    let grid = "G|2310000000|36090000000|2|3|5\n1790|-540|-10\n1802|-538|-12\n1811|-533|-9\n\
+        1795|-546|-11\n1808|-541|-10\n-\n"
+        .replace('|', "\t");
+    let ask = |text: &str, at: [i64; 2]| paper::grid::velocity(text.as_bytes(), at, 7, [2010000, 2020000]);
+    let ([e, n, u], step) = ask(&grid, [2322056909, 36100705076]).expect("a step");
+    let row = numbers::step_row(&step);
+    let arau = [1, 1, 7, 2010000, -113105187354, 623631174081, 71174801667];
+    let there = numbers::forward(2021, &row, &arau).expect("accepted");
+    let refused = |text: &str, at: [i64; 2]| ask(text, at).expect_err("refused");
+    let text = [
+        format!("ARAU\teast {e}\tnorth {n}\tup {u}\n"),
+        format!("S\tV\t{}\n", row[2..9].iter().map(i64::to_string).collect::<Vec<_>>().join("\t")),
+        format!("ARAU, 2020.0\t{}\t{}\t{}\n", there[4], there[5], there[6]),
+        format!("no value\trefused: {}\n", refused(&grid, [2322056909, 36130000000])),
+        format!("off the grid\trefused: {}\n", refused(&grid, [2350000000, 36100705076])),
+        format!("a line missing\trefused: {}\n", refused(&grid[..grid.len() - 2], [0, 0])),
+    ];
+    stored(&text.concat());
+}
+
+#[test]
 fn over_the_radio() {
     let sheet = include_bytes!("../../../examples/radio.sheet");
     let answers = paper::sheet::sheet(sheet);

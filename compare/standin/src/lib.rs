@@ -234,6 +234,25 @@ pub unsafe extern "C" fn swivelcrane_later_fault(
     give(Ok(baseline::later::later(first, second).err().unwrap_or_default()), out, out_len)
 }
 
+/// # Safety
+/// Each pointer and length are a live slice.
+#[no_mangle]
+pub unsafe extern "C" fn swivelcrane_grid_velocity(
+    grid: *const u8,
+    grid_len: usize,
+    latitude: i64,
+    longitude: i64,
+    datum: i64,
+    epoch_before: i64,
+    epoch_after: i64,
+    out: *mut i64,
+    out_len: usize,
+) -> i64 {
+    let grid = slice::from_raw_parts(grid, grid_len);
+    let epochs = [epoch_before, epoch_after];
+    give(baseline::grid::velocity(grid, [latitude, longitude], datum, epochs), out, out_len)
+}
+
 /// The caller's state, where it has its lengths.
 ///
 /// # Safety
@@ -247,6 +266,19 @@ unsafe fn state<'a>(
     let numbers = slice::from_raw_parts_mut(numbers, numbers_len).try_into().ok()?;
     let line = slice::from_raw_parts_mut(line, line_len).try_into().ok()?;
     Some(State { numbers, line })
+}
+
+/// # Safety
+/// Each pointer and length are a live slice.
+#[no_mangle]
+pub unsafe extern "C" fn swivelcrane_grid_fault(
+    grid: *const u8,
+    grid_len: usize,
+    out: *mut i64,
+    out_len: usize,
+) -> i64 {
+    let grid = slice::from_raw_parts(grid, grid_len);
+    give(Ok(baseline::grid::read(grid).err().unwrap_or_default()), out, out_len)
 }
 
 /// # Safety

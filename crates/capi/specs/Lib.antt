@@ -6,3 +6,4 @@ pub mod Rso
 pub mod Joining
 pub mod PointRow
 pub mod Fragments
+pub mod Grids

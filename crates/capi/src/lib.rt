@@ -5,6 +5,7 @@ mod decode;
 pub mod fragments;
 pub mod from_xyz;
 pub mod geodetic;
+pub mod grid;
 pub mod joining;
 pub mod later;
 pub mod printing;

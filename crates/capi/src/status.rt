@@ -8,3 +8,10 @@ pub(crate) fn status(number: u8) -> i64
 {
     number as i64
 }
+
+// The number of a line likewise.
+pub(crate) fn line_number(line: u16) -> i64
+    ensures { λ r. ⌜ r ≡ pos line ⌝ }
+{
+    line as i64
+}

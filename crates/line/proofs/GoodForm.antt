@@ -1,4 +1,4 @@
--- Something is found wrong with a line exactly where the line is not of its form. The form's fields and their classes are held side by side, once for all five.
+-- Something is found wrong with a line exactly where the line is not of its form. The form's fields and their classes are held side by side, once for all seven.
 -- Assumes nothing.
 use Prim.Native.Nat.{ℕ, suc, _+_, _<_}
 use mathlib.Core.Path.{_≡_, refl, sym, ap, _∙_}
@@ -17,8 +17,8 @@ use Rattle.line.specs.Bytes.{letterT, letterV, letterB, letterF, letterP
 use Rattle.line.specs.Fields.{body, fields, Form, ends, field, either, into, taken, onward, filled, inBody, said, single, oneOf, letterOf}
 use Rattle.line.specs.Name.{nameOf}
 use Rattle.line.specs.Number.{numberOf}
-use Rattle.line.specs.Forms.{pointForm, stepOf, threeForm, shift, velocity, bursaWolfForm, frameForm, kindForm, stepForm, originForm, geodeticForm, editionForm}
-use Rattle.line.specs.Malformed.{Class, letters, identifier, number, Shape, numbers, pointShape, originShape, geodeticShape, editionShape, byteOf, kindShape, stepShape, unread, fieldFault, offending, endOf, miscounted, orNext, fieldsFault, bodyFault, faultOf}
+use Rattle.line.specs.Forms.{pointForm, stepOf, threeForm, shift, velocity, bursaWolfForm, frameForm, kindForm, stepForm, originForm, geodeticForm, editionForm, gridForm, nodeForm}
+use Rattle.line.specs.Malformed.{Class, letters, identifier, number, Shape, numbers, pointShape, originShape, geodeticShape, editionShape, gridShape, nodeShape, byteOf, kindShape, stepShape, unread, fieldFault, offending, endOf, miscounted, orNext, fieldsFault, bodyFault, faultOf}
 use Rattle.line.proofs.Malformed.{nothing}
 
 -- ---- a field is good, and all of them are
@@ -161,7 +161,7 @@ filled-good (field read k) (c ∷ cs) (f ∷ fs) h = go (read f) (h .0) (λ b e.
     go none e on = rw (← e)
     go (some b) e on = rw (← e) (on b refl)
 
--- ---- the five forms
+-- ---- the seven forms
 read-good : {A : Type 0} (n : ℕ) (o : Option A) → 0 < n → isSome o ≡ eqb (unread n o) 0
 read-good n none h = sym (ne-eqb n 0 (λ e. omega arith))
 read-good n (some a) h = refl
@@ -190,6 +190,14 @@ geodetic-like fs = (a-letter _, λ _. (an-id, λ _. (a-number, λ _. (a-number, 
 edition-like : (fs : List (List ℕ)) → Like editionForm (editionShape fs)
 unfolding Like editionForm
 edition-like fs = (a-letter _, λ _. (a-number, λ _. tt))
+
+grid-like : (fs : List (List ℕ)) → Like gridForm (gridShape fs)
+unfolding Like gridForm
+grid-like fs = (a-letter _, λ _. (a-number, λ _. (a-number, λ _. (a-number, λ _. (a-number, λ _. (a-number, λ _. tt))))))
+
+node-like : (fs : List (List ℕ)) → Like nodeForm (nodeShape fs)
+unfolding Like nodeForm
+node-like fs = (a-number, λ _. (a-number, λ _. (a-number, λ _. tt)))
 
 kind-like : (t v b : Bool)
     → Like (either t (threeForm shift) (either v (threeForm velocity) (either b bursaWolfForm frameForm))) (pick t (numbers 3) (pick v (numbers 3) (pick b (letters (letterP ∷ letterC ∷ []) ∷ numbers 7) [])))
@@ -280,3 +288,9 @@ geodetic-exactly = law geodeticForm geodeticShape (λ fs. like-on geodeticForm (
 
 pub edition-exactly : (line : List ℕ) → Exactly (said editionForm line) (faultOf editionShape line)
 edition-exactly = law editionForm editionShape (λ fs. like-on editionForm (editionShape fs) fs (edition-like fs))
+
+pub grid-exactly : (line : List ℕ) → Exactly (said gridForm line) (faultOf gridShape line)
+grid-exactly = law gridForm gridShape (λ fs. like-on gridForm (gridShape fs) fs (grid-like fs))
+
+pub node-exactly : (line : List ℕ) → Exactly (said nodeForm line) (faultOf nodeShape line)
+node-exactly = law nodeForm nodeShape (λ fs. like-on nodeForm (nodeShape fs) fs (node-like fs))

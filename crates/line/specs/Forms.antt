@@ -13,6 +13,8 @@ use Rattle.chain.specs.declared.Kind.the-variants.{Shift, Velocity, BursaWolf, 
 use Rattle.chain.specs.declared.Step.{Step}
 use Rattle.angle.specs.declared.OriginNumbers.{OriginNumbers}
 use Rattle.line.specs.declared.Geodetic.{Geodetic}
+use Rattle.line.specs.declared.GridHeader.{GridHeader}
+use Rattle.line.specs.declared.Parts.{Parts}
 use Rattle.line.specs.Bytes.{letterP, letterS, letterT, letterV, letterB, letterF, letterC, letterO, letterG, letterE}
 use Rattle.line.specs.Fields.{Form, ends, field, either, into, letter, letterOf}
 use Rattle.line.specs.Name.{nameOf}
@@ -111,3 +113,22 @@ editionForm =
     field (letter letterE) λ _.
     field numberOf λ year.
     ends year
+
+-- G, latitude, longitude, rows, columns, mesh: the header of a velocity grid
+unfoldable pub gridForm : Form GridHeader
+gridForm =
+    field (letter letterG) λ _.
+    field numberOf λ latitude.
+    field numberOf λ longitude.
+    field numberOf λ rows.
+    field numberOf λ columns.
+    field numberOf λ mesh.
+    ends (record { latitude = latitude; longitude = longitude; rows = rows; columns = columns; mesh = mesh })
+
+-- a node of one: east, north, up
+unfoldable pub nodeForm : Form Parts
+nodeForm =
+    field numberOf λ east.
+    field numberOf λ north.
+    field numberOf λ up.
+    ends (record { east = east; north = north; up = up })

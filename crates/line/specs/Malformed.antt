@@ -43,6 +43,14 @@ geodeticShape fs = letters (letterG ∷ []) ∷ identifier ∷ numbers 2
 abbrev pub editionShape : Shape
 editionShape fs = letters (letterE ∷ []) ∷ numbers 1
 
+-- G, latitude, longitude, rows, columns, mesh
+abbrev pub gridShape : Shape
+gridShape fs = letters (letterG ∷ []) ∷ numbers 5
+
+-- east, north, up
+abbrev pub nodeShape : Shape
+nodeShape fs = numbers 3
+
 -- a line that begins with no letter which its program reads
 abbrev pub unknownShape : Shape
 unknownShape fs = letters [] ∷ []

@@ -2,9 +2,11 @@
 -- its fields says.
 use Prim.Native.Nat.{ℕ}
 use mathlib.Core.List.{List}
+use mathlib.Core.Bool.{Bool, _&&_}
 use mathlib.Core.Option.{Option, none, some}
 use lib.Dec.{eqb}
 use lib.IntN.{ℤ}
+use lib.ListN.{length, getD}
 use Rattle.refusal.specs.Order.{pick}
 use Rattle.chain.specs.Faults.{pointFault, stepFault}
 use Rattle.angle.specs.Ranges.{originFault, anglesFault}
@@ -20,10 +22,17 @@ use Rattle.line.specs.declared.GeodeticLine.{GeodeticLine}
 use Rattle.line.specs.declared.GeodeticLine.the-variants as G
 use Rattle.line.specs.declared.EditionLine.{EditionLine}
 use Rattle.line.specs.declared.EditionLine.the-variants as E
+use Rattle.line.specs.declared.GridHeader.{GridHeader}
+use Rattle.line.specs.declared.GridLine.{GridLine}
+use Rattle.line.specs.declared.GridLine.the-variants as H
+use Rattle.line.specs.declared.Parts.{Parts}
+use Rattle.line.specs.declared.NodeLine.{NodeLine}
+use Rattle.line.specs.declared.NodeLine.the-variants as N
+use Rattle.line.specs.Bytes.{minus, lineFeed}
 use Rattle.line.specs.Fields.{said}
-use Rattle.line.specs.Forms.{pointForm, stepForm, originForm, geodeticForm, editionForm}
-use Rattle.line.specs.Malformed.{pointShape, stepShape, originShape, geodeticShape, editionShape, unknownShape, faultOf}
-use Rattle.line.specs.Reading.{cappedZ}
+use Rattle.line.specs.Forms.{pointForm, stepForm, originForm, geodeticForm, editionForm, gridForm, nodeForm}
+use Rattle.line.specs.Malformed.{pointShape, stepShape, originShape, geodeticShape, editionShape, gridShape, nodeShape, unknownShape, faultOf}
+use Rattle.line.specs.Reading.{cappedZ, cappedHeader, cappedParts}
 
 -- a line whose first letter its program does not know
 abbrev pub strangeFault : List ℕ → Fault
@@ -64,3 +73,27 @@ editionAs malformed (some year) = E.Edition (cappedZ year)
 
 unfoldable pub readEdition : List ℕ → EditionLine
 readEdition line = editionAs (E.Malformed (faultOf editionShape line)) (said editionForm line)
+
+-- 18, 19, 20, 22. The ranges are the grid's; numbers are carried up to the cap, which no range reaches
+abbrev pub gridAs : GridLine → Option GridHeader → GridLine
+gridAs malformed none = malformed
+gridAs malformed (some header) = H.Header (cappedHeader header)
+
+unfoldable pub readGridHeader : List ℕ → GridLine
+readGridHeader line = gridAs (H.Malformed (faultOf gridShape line)) (said gridForm line)
+
+-- a node without a value: a hyphen and the line feed
+unfoldable pub hyphenLine : List ℕ → Bool
+hyphenLine line = eqb (length line) 2 && eqb (getD line 0 0) minus && eqb (getD line 1 0) lineFeed
+
+-- three numbers, carried likewise: 18, 20, 22
+abbrev pub partsAs : NodeLine → Option Parts → NodeLine
+partsAs malformed none = malformed
+partsAs malformed (some parts) = N.Parts (cappedParts parts)
+
+unfoldable pub numbersNode : List ℕ → NodeLine
+numbersNode line = partsAs (N.Malformed (faultOf nodeShape line)) (said nodeForm line)
+
+unfoldable pub readNode : List ℕ → NodeLine
+unfolding numbersNode
+readNode line = pick (hyphenLine line) N.NoValue (numbersNode line)

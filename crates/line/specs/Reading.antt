@@ -17,6 +17,8 @@ use Rattle.chain.specs.declared.Kind.the-variants.{Shift, Velocity, BursaWolf, 
 use Rattle.chain.specs.declared.Step.{Step}
 use Rattle.angle.specs.declared.OriginNumbers.{OriginNumbers}
 use Rattle.line.specs.declared.Geodetic.{Geodetic}
+use Rattle.line.specs.declared.GridHeader.{GridHeader}
+use Rattle.line.specs.declared.Parts.{Parts}
 use Rattle.line.specs.Fields.{fields, front, head, Form, filled}
 use Rattle.line.specs.Name.{word, allNameBytes, isNameByte}
 use Rattle.line.specs.Bytes.{zeroByte, nineByte}
@@ -182,3 +184,16 @@ cappedOrigin o =
 
 abbrev pub cappedGeodetic : Geodetic → Geodetic
 cappedGeodetic g = record { id = g .id; latitude = cappedZ (g .latitude); longitude = cappedZ (g .longitude) }
+
+abbrev pub cappedHeader : GridHeader → GridHeader
+cappedHeader g =
+    record {
+      latitude = cappedZ (g .latitude);
+      longitude = cappedZ (g .longitude);
+      rows = cappedZ (g .rows);
+      columns = cappedZ (g .columns);
+      mesh = cappedZ (g .mesh);
+    }
+
+abbrev pub cappedParts : Parts → Parts
+cappedParts p = record { east = cappedZ (p .east); north = cappedZ (p .north); up = cappedZ (p .up) }

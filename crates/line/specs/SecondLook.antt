@@ -9,12 +9,12 @@ use Rattle.refusal.specs.Numbers as refusal
 use Rattle.refusal.specs.Order.{pick}
 use Rattle.line.specs.declared.awaited.Awaited.{Awaited}
 use Rattle.line.specs.declared.awaited.Awaited.the-variants.{Letter, Kind, Convention, Identifier, Number, Nothing}
-use Rattle.line.specs.Bytes.{letterP, letterS, letterT, letterV, letterB, letterF, letterC, letterO, letterG, letterE}
+use Rattle.line.specs.Bytes.{minus, letterP, letterS, letterT, letterV, letterB, letterF, letterC, letterO, letterG, letterE}
 use Rattle.line.specs.Fields.{fields}
 use Rattle.line.specs.Malformed.{Class, letters, identifier, number, Shape, numbers, kindOf, kindShape, fieldFault, offending}
 use Rattle.line.specs.Reading.{from}
 
--- ---- the shapes by the line's first letter and the step's kind
+-- ---- the shapes by the line's mark, which is its first letter but for the lines of a velocity grid, and the step's kind
 abbrev pub stepRest : ℕ → List Class
 stepRest kind = letters (letterT ∷ letterV ∷ letterB ∷ letterF ∷ []) ∷ (numbers 4 ++ kindShape kind)
 
@@ -26,11 +26,18 @@ restOf first kind =
     (pick (eqb first letterG) (identifier ∷ numbers 2)
     (pick (eqb first letterE) (numbers 1) []))))
 
+abbrev pub letteredOf : ℕ → ℕ → List Class
+letteredOf first kind = letters (first ∷ []) ∷ restOf first kind
+
+-- a velocity grid's header begins with G as a position does; its mark is a small g, and a node's a hyphen
+abbrev pub gridClasses : List Class
+gridClasses = letters (letterG ∷ []) ∷ numbers 5
+
 abbrev pub classesOf : ℕ → ℕ → List Class
-classesOf first kind = letters (first ∷ []) ∷ restOf first kind
+classesOf mark kind = pick (eqb mark minus) (numbers 3) (pick (eqb mark 103) gridClasses (letteredOf mark kind))
 
 abbrev pub shapeOf : ℕ → Shape
-shapeOf first fs = classesOf first (kindOf fs)
+shapeOf mark fs = classesOf mark (kindOf fs)
 
 abbrev pub classOf : Awaited → Option Class
 classOf (Letter l) = some (letters (l ∷ []))

@@ -1,10 +1,15 @@
-// What each field of a line is to be, by the line's first letter and, of a step, by its kind.
+// What each field of a line is to be, by the line's mark and, of a step, by its kind. The mark is the first letter, but for the lines of a velocity grid.
 ghost use mathlib.Core.Path.{_≡_};
 ghost use mathlib.Core.List.{_∷_};
 ghost use Prim.Native.Nat.{_+_};
 ghost use lib.ListN.{length, getElem?};
 ghost use Rattle.line.specs.Malformed.{identifier, numbers, kindShape};
-ghost use Rattle.line.specs.SecondLook.{classOf, stepRest, classesOf};
+ghost use Rattle.line.specs.SecondLook.{classOf, stepRest, letteredOf, gridClasses, classesOf};
+
+// The mark of a velocity grid's header, which begins with G as a position does, and of its nodes, which begin with no letter.
+pub const GRID: u8 = b'g';
+
+pub const NODE: u8 = b'-';
 
 // This one letter; the kind of a step; the convention of a Bursa-Wolf step; an id; a number; or no field at all.
 pub enum Awaited {
@@ -70,9 +75,9 @@ fn step_at(kind: u8, index: usize) -> Awaited
     by_kind_at(kind, index - 5)
 }
 
-// Of a whole line.
-pub fn class_at(first: u8, kind: u8, index: usize) -> Awaited
-    ensures { λ r. ⌜ classOf r ≡ getElem? (classesOf first kind) index ⌝ }
+// Of a whole line that begins with a letter of its own.
+fn lettered_at(first: u8, kind: u8, index: usize) -> Awaited
+    ensures { λ r. ⌜ classOf r ≡ getElem? (letteredOf first kind) index ⌝ }
 {
     if index == 0 {
         return Awaited::Letter(first);
@@ -96,6 +101,29 @@ pub fn class_at(first: u8, kind: u8, index: usize) -> Awaited
     Awaited::Nothing
 }
 
+// Of the header of a velocity grid.
+fn grid_at(index: usize) -> Awaited
+    ensures { λ r. ⌜ classOf r ≡ getElem? gridClasses index ⌝ }
+{
+    if index == 0 {
+        return Awaited::Letter(b'G');
+    }
+    number_at(index - 1, 5)
+}
+
+// Of a whole line.
+pub fn class_at(mark: u8, kind: u8, index: usize) -> Awaited
+    ensures { λ r. ⌜ classOf r ≡ getElem? (classesOf mark kind) index ⌝ }
+{
+    if mark == NODE {
+        return number_at(index, 3);
+    }
+    if mark == GRID {
+        return grid_at(index);
+    }
+    lettered_at(mark, kind, index)
+}
+
 // How many fields a step line is to have, by its kind.
 fn step_count(kind: u8) -> usize
     ensures { λ r. ⌜ r ≡ length (stepRest kind) + 1 ⌝ }
@@ -109,9 +137,9 @@ fn step_count(kind: u8) -> usize
     if kind == b'B' { 14 } else { 6 }
 }
 
-// How many fields a line is to have.
-pub fn count_of(first: u8, kind: u8) -> usize
-    ensures { λ r. ⌜ r ≡ length (classesOf first kind) ⌝ }
+// How many fields a line is to have that begins with a letter of its own.
+fn lettered_count(first: u8, kind: u8) -> usize
+    ensures { λ r. ⌜ r ≡ length (letteredOf first kind) ⌝ }
 {
     if first == b'P' {
         return 9;
@@ -126,4 +154,17 @@ pub fn count_of(first: u8, kind: u8) -> usize
         return 4;
     }
     if first == b'E' { 2 } else { 1 }
+}
+
+// How many fields a line is to have.
+pub fn count_of(mark: u8, kind: u8) -> usize
+    ensures { λ r. ⌜ r ≡ length (classesOf mark kind) ⌝ }
+{
+    if mark == NODE {
+        return 3;
+    }
+    if mark == GRID {
+        return 6;
+    }
+    lettered_count(mark, kind)
 }

@@ -8,7 +8,9 @@ mod edition_line;
 mod ends;
 mod field;
 mod geodetic_line;
+mod grid_line;
 mod name;
+mod node_line;
 mod number;
 mod origin_line;
 mod other_line;
@@ -23,6 +25,8 @@ pub use compare::later_verdict;
 pub use edition_line::read_edition;
 pub use ends::line_end;
 pub use geodetic_line::read_geodetic;
+pub use grid_line::read_grid_header;
+pub use node_line::read_node;
 pub use origin_line::read_origin;
 pub use other_line::strange;
 pub use point_line::read_point;
@@ -80,6 +84,35 @@ pub enum GeodeticLine {
 // to 10^13 in size, and a larger one as 10^13.
 pub enum EditionLine {
     Edition(i64),
+    Malformed(Fault),
+}
+
+// G, of a velocity grid: the latitude and longitude of its south-west corner in 0.00001", rows, columns, and the mesh in minutes.
+pub struct GridHeader {
+    pub latitude: i64,
+    pub longitude: i64,
+    pub rows: i64,
+    pub columns: i64,
+    pub mesh: i64,
+}
+
+// The numbers are not examined, and are carried up to 10^13 in size, a larger one as 10^13: their ranges are for the grid.
+pub enum GridLine {
+    Header(GridHeader),
+    Malformed(Fault),
+}
+
+// East, north and up, in hundredths of a millimetre a year.
+pub struct Parts {
+    pub east: i64,
+    pub north: i64,
+    pub up: i64,
+}
+
+// A node of a velocity grid: its parts, carried likewise, or no value.
+pub enum NodeLine {
+    Parts(Parts),
+    NoValue,
     Malformed(Fault),
 }
 

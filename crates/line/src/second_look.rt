@@ -176,7 +176,7 @@ pub fn end_of(line: &[u8]) -> usize
     if line[e] == LINE_FEED { e } else { n }
 }
 
-// A line that the reader of lines with this first letter (P, S, O, G, E) has found bad: LENGTH, LETTER, COUNT, ID, PLAIN, and the place.
+// A line that the reader of lines with this mark (P, S, O, G, E, or that of a velocity grid's header or node) has found bad: LENGTH, LETTER, COUNT, ID, PLAIN, and the place.
 pub fn fault_of(line: &[u8], first: u8) -> Fault
     ensures { λ r. ⌜ r ≡ faultOf (shapeOf first) (now (line .entry)) ⌝ }
 {

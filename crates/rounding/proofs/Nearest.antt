@@ -39,6 +39,19 @@ near-size {d} {z} {r} m h p l =
     let b = unabs (m * d) l (v z) in
     abs (v r) (cancel d (P r) (N r + m) (omega arith)) (cancel d (N r) (P r + m) (omega arith))
 
+-- a value of at least lo is rounded to a number of at least lo, and one of at most hi to one of at most hi
+pub near-least : {d : ℕ} {z r : ℤ} (lo : ℤ) → 0 < d → Near z d r → (lo *ℤ pos d) ≤ℤ z → lo ≤ℤ r
+near-least {d} {z} {r} lo h p l =
+    let a = unabs d (p .near) (k 2 ⊗ (k d ⊗ v r ⊖ v z)) in
+    let b = unle l (v lo ⊗ k d) (v z) in
+    le (v lo) (v r) (cancel d (P lo + N r) (N lo + P r) (omega arith))
+
+pub near-most : {d : ℕ} {z r : ℤ} (hi : ℤ) → 0 < d → Near z d r → z ≤ℤ (hi *ℤ pos d) → r ≤ℤ hi
+near-most {d} {z} {r} hi h p l =
+    let a = unabs d (p .near) (k 2 ⊗ (k d ⊗ v r ⊖ v z)) in
+    let b = unle l (v z) (v hi ⊗ k d) in
+    le (v r) (v hi) (cancel d (P r + N hi) (N r + P hi) (omega arith))
+
 -- the opposite is nearest to the opposite
 pub near-opposite : {d : ℕ} {z r : ℤ} → Near z d r → Near (negℤ z) d (negℤ r)
 near-opposite {d} {z} {r} p = record {

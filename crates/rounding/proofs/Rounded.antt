@@ -12,7 +12,7 @@ use Rattle.refusal.specs.Order.{pick}
 use Rattle.rounding.specs.Nearest.{Near, Ties, away, toEven, Symmetric, Rounds, floor, rest, goesUp, rounded}
 use Rattle.rounding.proofs.Zn.{P, N, v, k, k-, neg, _⊕_, _⊖_, _⊗_, le, unle, lt, unlt, eq, uneq, abs, unabs, pos-abs, abs-neg}
 use Rattle.rounding.proofs.Machine.{le-true, le-false, yes-le, not-le}
-use Rattle.rounding.proofs.Nearest.{near-apart, near-mono, near-size, unique, opposite}
+use Rattle.rounding.proofs.Nearest.{near-apart, near-mono, near-size, near-least, near-most, unique, opposite}
 
 -- ---- z = t·d + r
 module _ (d : ℕ) (d>0 : 0 < d) where
@@ -104,6 +104,21 @@ module _ (ties : Ties) {d : ℕ} (d>0 : 0 < d) where
   -- a value of at most m is rounded to a number of at most m
   pub rounded-size : (m : ℕ) (z : ℤ) → natAbs z ≤ m * d → natAbs (rounded ties z d) ≤ m
   rounded-size m z l = near-size m d>0 (rounded-near z) l
+
+  -- between two whole numbers, a value is rounded to a number between them
+  pub rounded-least : (lo z : ℤ) → (lo *ℤ pos d) ≤ℤ z → lo ≤ℤ rounded ties z d
+  rounded-least lo z l = near-least lo d>0 (rounded-near z) l
+
+  pub rounded-most : (hi z : ℤ) → z ≤ℤ (hi *ℤ pos d) → rounded ties z d ≤ℤ hi
+  rounded-most hi z l = near-most hi d>0 (rounded-near z) l
+
+  -- and a whole number to itself
+  pub rounded-exact : (z : ℤ) → rounded ties (z *ℤ pos d) d ≡ z
+  rounded-exact z =
+      let h = le (v (z *ℤ pos d)) (v (z *ℤ pos d)) (omega arith) in
+      let a = unle (rounded-least z (z *ℤ pos d) h) (v z) (v (rounded ties (z *ℤ pos d) d)) in
+      let b = unle (rounded-most z (z *ℤ pos d) h) (v (rounded ties (z *ℤ pos d) d)) (v z) in
+      eq (v (rounded ties (z *ℤ pos d) d)) (v z) (omega arith)
 
   -- by a symmetric rule the opposite is rounded to the opposite
   pub rounded-opposite : Symmetric ties → (z : ℤ) → rounded ties (negℤ z) d ≡ negℤ (rounded ties z d)

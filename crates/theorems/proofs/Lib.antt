@@ -12,3 +12,5 @@ pub mod Orders
 pub mod Joins
 pub mod LineOrders
 pub mod MalformedCases
+pub mod GridLines
+pub mod Velocities

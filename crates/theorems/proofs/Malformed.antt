@@ -5,7 +5,7 @@ use Rattle.ranges.specs.Ranges.{profileRange}
 use Rattle.line.specs.Reading.{cappedZ}
 use Rattle.line.specs.Readers.{readEdition}
 use Rattle.line.proofs.Capped.{Sure, sure-within, sure-either}
-use Rattle.line.proofs.GoodForm.{point-exactly, step-exactly, origin-exactly, geodetic-exactly, edition-exactly}
+use Rattle.line.proofs.GoodForm.{point-exactly, step-exactly, origin-exactly, geodetic-exactly, edition-exactly, grid-exactly, node-exactly}
 use Rattle.theorems.specs.Malformed.{YearJudged, Malformed}
 
 sure-profile : Sure cappedZ profileRange
@@ -16,4 +16,4 @@ unfolding readEdition
 judged line year e = record { carried = cappedZ year; read = rw e; same = sure-profile .same year; kept = sure-profile .kept year }
 
 pub malformed : Malformed
-malformed = record { point = point-exactly; step = step-exactly; origin = origin-exactly; geodetic = geodetic-exactly; edition = edition-exactly; year = judged }
+malformed = record { point = point-exactly; step = step-exactly; origin = origin-exactly; geodetic = geodetic-exactly; edition = edition-exactly; grid = grid-exactly; node = node-exactly; year = judged }

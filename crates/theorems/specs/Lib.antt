@@ -11,3 +11,4 @@ pub mod Orders
 pub mod Joins
 pub mod LineOrders
 pub mod MalformedCases
+pub mod Velocities

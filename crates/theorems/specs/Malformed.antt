@@ -9,8 +9,8 @@ use lib.IntN.{ℤ}
 use Rattle.ranges.specs.Ranges.{profileRange}
 use Rattle.line.specs.declared.EditionLine.the-variants.{Edition}
 use Rattle.line.specs.Fields.{Form, said}
-use Rattle.line.specs.Forms.{pointForm, stepForm, originForm, geodeticForm, editionForm}
-use Rattle.line.specs.Malformed.{Shape, pointShape, stepShape, originShape, geodeticShape, editionShape, faultOf}
+use Rattle.line.specs.Forms.{pointForm, stepForm, originForm, geodeticForm, editionForm, gridForm, nodeForm}
+use Rattle.line.specs.Malformed.{Shape, pointShape, stepShape, originShape, geodeticShape, editionShape, gridShape, nodeShape, faultOf}
 use Rattle.line.specs.Readers.{readEdition}
 
 -- a fault with a number, and nothing that the line says as its form has it: the one where the other is
@@ -33,4 +33,6 @@ pub record Malformed : Type 0 where
   pub origin : Found originForm originShape
   pub geodetic : Found geodeticForm geodeticShape
   pub edition : Found editionForm editionShape
+  pub grid : Found gridForm gridShape
+  pub node : Found nodeForm nodeShape
   pub year : YearJudged

@@ -7,6 +7,7 @@ use harness::gen::{chains::Chains, full, lots};
 use harness::measure::{both, Pair};
 use harness::programs::Programs;
 use harness::rng::Rng;
+use harness::subject::Asked;
 use harness::{arguments, product};
 use paper::library::radians;
 use paper::numbers::PointRow;
@@ -61,6 +62,7 @@ fn main() -> ExitCode {
     conversions(&mut report, &mut rng, &chains);
     rows(&mut report, &mut rng, &chains);
     joins(&mut report, &mut rng, &chains);
+    grids(&mut report, &mut rng);
     lot_plans(&mut report, &mut rng, &chains);
     angles(&mut report, &mut rng);
     from_cartesian(&mut report, &mut rng);
@@ -230,6 +232,37 @@ fn conversions(report: &mut Report, rng: &mut Rng, chains: &Chains) {
         |point| _ = black_box(product::inverse(2021, &chain, point, &mut out)),
         |point| _ = black_box(baseline::numbers::inverse(2021, &chain, point)),
     );
+}
+
+/// Grids are read anew at each call.
+fn grids(report: &mut Report, rng: &mut Rng) {
+    for (rows, columns, count) in [(2, 2, 200), (20, 20, 100), (50, 80, 20)] {
+        let asked: Vec<(Vec<u8>, Asked)> = (0..count)
+            .map(|_| {
+                let grid = full::grid(rng, rows, columns);
+                let [latitude, longitude] = grid.corner;
+                let asked = Asked {
+                    latitude: latitude + rng.between(0, (rows - 1) * grid.units()),
+                    longitude: longitude + rng.between(0, (columns - 1) * grid.units()),
+                    datum: 7,
+                    before: 2_010_000,
+                    after: 2_020_000,
+                };
+                (grid.text(), asked)
+            })
+            .collect();
+        let mut out = [0; 16];
+        calls(
+            report,
+            &format!("velocity from a grid of {} nodes", rows * columns),
+            &asked,
+            |(text, a)| _ = black_box(product::grid_velocity(text, a, &mut out)),
+            |(text, a)| {
+                let at = [a.latitude, a.longitude];
+                _ = black_box(baseline::grid::velocity(text, at, a.datum, [a.before, a.after]));
+            },
+        );
+    }
 }
 
 /// Two thousand marks in one call, and the same by single calls of the product.

@@ -5,7 +5,7 @@
 
 use harness::arguments;
 use harness::checks::{
-    angles, conversions, geodetic, joins, later, lots, roundings, rows, rso, rso_causes, streams, texts, trips,
+    angles, conversions, geodetic, grids, joins, later, lots, roundings, rows, rso, rso_causes, streams, texts, trips,
 };
 use harness::compare::{Comparison, Outcome};
 use harness::programs::Programs;
@@ -20,6 +20,7 @@ struct Sizes {
     rows: u64,
     lots: u64,
     streams: u64,
+    grids: u64,
     roundings: u64,
     angles: u64,
     geodetic: u64,
@@ -36,6 +37,7 @@ const SHORT: Sizes = Sizes {
     rows: 20_000,
     lots: 30_000,
     streams: 2_500,
+    grids: 60_000,
     roundings: 1_000_000,
     angles: 200_000,
     geodetic: 200_000,
@@ -52,6 +54,7 @@ const LONG: Sizes = Sizes {
     rows: 1_000_000,
     lots: 2_000_000,
     streams: 100_000,
+    grids: 2_000_000,
     roundings: 20_000_000,
     angles: 2_000_000,
     geodetic: 5_000_000,
@@ -109,6 +112,7 @@ fn run(c: &mut Comparison, sizes: &Sizes) -> Outcome {
     timed(&format!("{} pairs and triples of chains", sizes.joins), || joined(c, sizes.joins))?;
     timed(&format!("{} rows of points", sizes.rows), || rows::run(c, sizes.rows))?;
     timed(&format!("{} lot plans", sizes.lots), || lots::run(c, sizes.lots))?;
+    timed(&format!("{} points of velocity grids", sizes.grids), || grids::run(c, sizes.grids))?;
     timed(&format!("{} roundings", sizes.roundings), || roundings::run(c, sizes.roundings))?;
     timed(&format!("{} geodetic and as many Cassini points", sizes.angles), || angles::run(c, sizes.angles))?;
     timed(&format!("{} positions to angles", sizes.geodetic), || from_cartesian(c, sizes.geodetic))?;

@@ -3,6 +3,7 @@
 
 use crate::compare::{Comparison, Mismatch, Outcome};
 use crate::product::{self, FLOAT_MARK, MARK};
+use crate::subject::Asked;
 
 pub fn run(c: &mut Comparison, count: u64) -> Outcome {
     for _ in 0..count {
@@ -96,7 +97,16 @@ fn others(c: &mut Comparison) -> Outcome {
     decide(&what("later"), number, length != 1, &whole, MARK)?;
     let mut whole = vec![MARK; length];
     let number = product::later_fault(line, line, &mut whole);
-    decide(&what("fault of the later"), number, length != 3, &whole, MARK)
+    decide(&what("fault of the later"), number, length != 3, &whole, MARK)?;
+    let mut whole = vec![MARK; length];
+    let number = product::grid_fault(line, &mut whole);
+    decide(&what("fault of a grid"), number, length != 3, &whole, MARK)?;
+    let length = c.rng.pick(&[15, 16, 16, 17, 3, 0]);
+    let what = |name: &str| format!("{name} with room for {length}");
+    let mut whole = vec![MARK; length];
+    let asked = Asked { latitude: -1, longitude: 0, datum: 7, before: 0, after: 0 };
+    let number = product::grid_velocity(line, &asked, &mut whole);
+    decide(&what("velocity of a grid"), number, length != 16, &whole, MARK)
 }
 
 /// Parameters and room of any length; the length comes before what the call itself would refuse.

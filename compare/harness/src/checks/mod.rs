@@ -3,6 +3,7 @@
 pub mod angles;
 pub mod conversions;
 pub mod geodetic;
+pub mod grids;
 pub mod joins;
 pub mod later;
 #[cfg(feature = "product")]

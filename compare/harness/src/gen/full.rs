@@ -1,6 +1,7 @@
 //! Full inputs for measuring: every line of one sort.
 
 use super::chains::{Chains, Row};
+use super::grids::Grid;
 use super::{angles, geodetic, lines, numbers, points, rso};
 use crate::rng::Rng;
 
@@ -123,6 +124,14 @@ pub fn position(rng: &mut Rng) -> [i64; 4] {
             return [code, x, y, z];
         }
     }
+}
+
+/// A grid of the Peninsula whose nodes all have values.
+pub fn grid(rng: &mut Rng, rows: i64, columns: i64) -> Grid {
+    let corner = [rng.between(360_000_000, 400_000_000), rng.between(36_000_000_000, 36_100_000_000)];
+    let mut node = || Some(std::array::from_fn(|_| rng.between(-2500, 2500)));
+    let nodes = (0..rows * columns).map(|_| node()).collect();
+    Grid { corner, rows, columns, mesh: 5, nodes }
 }
 
 /// The Peninsula's projection and a point of the Peninsula.

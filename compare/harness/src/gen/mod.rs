@@ -6,6 +6,7 @@ pub mod clashes;
 pub mod floats;
 pub mod full;
 pub mod geodetic;
+pub mod grids;
 pub mod halves;
 pub mod lines;
 pub mod lots;

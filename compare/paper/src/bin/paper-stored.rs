@@ -5,7 +5,7 @@ use paper::angle::{self, Origin};
 use paper::geodetic::geodetic;
 use paper::lot_plan::lot_plan;
 use paper::rso::{self, Parameters};
-use paper::{decimal, later, numbers};
+use paper::{decimal, grid, later, numbers};
 
 const CHAIN: [i64; 26] = [
     66, 67, 1, 0, 5, 2000000, -1100000, 85100000, 500000, 12500, -8300, 40250, -1350, //
@@ -30,6 +30,8 @@ const FIRST: &[u8] = b"P\tARAU\t10\t2\t6\t2000000\t-113105165410\t623631179950\t
 const SECOND: &[u8] = b"P\tARAU\t9\t1\t6\t2000000\t-113105165411\t623631179950\t71174811140\n";
 const BAD: &[u8] = b"P\tARAU\t9\t1\t6\t2000000\t-113105165411\t+623631179950\t71174811140\n";
 const OTHER: &[u8] = b"P\tARAV\t9\t1\t6\t2000000\t-113105165411\t623631179950\t71174811140\n";
+const GRID: &[u8] = b"G\t2310000000\t36090000000\t2\t3\t5\n-1800\t200\t30\n1400\t-500\t60\n7\t8\t-9\n\
+    1000\t-110\t1200\n13\t14\t-1500\n-\n";
 
 fn main() {
     let there = numbers::forward(2021, &CHAIN, &POINT).unwrap_or_default();
@@ -49,6 +51,12 @@ fn main() {
     whole("row", &row(0, &points));
     whole("row_back", &row(1, &arau));
     whole("join", &numbers::join(2009, &CHAIN_2009[..13], 2009, &CHAIN_2009[13..]).unwrap_or_default());
+    let (parts, step) =
+        grid::velocity(GRID, [2322056909, 36100705076], 7, [2010000, 2020000]).expect("a step");
+    whole("grid_velocity", &[&parts[..], &numbers::step_row(&step)].concat());
+    whole("grid_fault_none", &grid_fault(GRID));
+    whole("grid_fault_over", &grid_fault(&[GRID, b"-\n"].concat()));
+    whole("grid_fault", &grid_fault(b"G\t2310000000\t36090000000\t2\t3\t5\n1\t2\t3\n1\t2501\t03\n"));
     lot_plans();
     bits("cartesian", &angle::cartesian(2, 1234567890, 36700000123, 456789).unwrap_or_default());
     whole("cartesian_units", &angle::cartesian_units(2, 1234567890, 36700000123, 456789).unwrap_or_default());
@@ -80,6 +88,11 @@ fn main() {
     whole("later_fault_first", &fault(BAD, b""));
     whole("later_fault_ids", &fault(FIRST, OTHER));
     whole("later_fault_none", &fault(FIRST, SECOND));
+}
+
+fn grid_fault(text: &[u8]) -> [i64; 3] {
+    let refused = grid::read(text).err();
+    refused.map_or([0; 3], |r| [i64::from(r.number), r.line as i64, r.place as i64])
 }
 
 fn row(direction: i64, points: &[i64]) -> Vec<i64> {

@@ -1,85 +1,27 @@
 -- `line::awaited::class_at` meets its contract. Assumes nothing.
-use Prim.Native.Nat.{ℕ, _-_, _<_}
-use mathlib.Core.Path.{_≡_, sym, _∙_}
-use mathlib.Core.List.{List, [], _∷_}
-use lib.ListN.{getElem?}
-use native.Mathlib.Omega.{arith}
+use mathlib.Core.Path.{_∙_}
 use borrow.Author.Tests.{eq-eqb, ne-eqb}
-use Rattle.line.specs.Malformed.{Class, letters, identifier, numbers}
-use Rattle.line.specs.SecondLook.{stepRest, restOf, classesOf}
-use Rattle.line.proofs.SecondLook as L
 use borrow.Author.Needs.{needs}
 use Rattle.line.proofs.awaited.class_at.Statement.{statement}
 use Rattle.line.proofs.awaited.class_at.Tie as tie
 
-rest : (first kind i : ℕ) (cs : List Class) → restOf first kind ≡ cs → 0 < i → getElem? cs (i - 1) ≡ getElem? (classesOf first kind) i
-rest first kind i cs e h = rw (← e) (sym (L.later (letters (first ∷ [])) (restOf first kind) i (i - 1) (omega arith)))
-
-returns : tie.Need-returns
-returns c = rw (c .if1 .taken)
-
-sub-i : tie.Need-sub-i
-sub-i c = search needs
-
-named-at-requires : tie.Need-named-at-requires
-named-at-requires c κs = search needs
-
-returns-2 : tie.Need-returns-2
-returns-2 c =
-    let g = c .before .before .before .args in
-    c .named-at .ensures ∙ rest (g .first) (g .kind) (g .index) (identifier ∷ numbers 7)
-    (rw (eq-eqb _ _ (c .before .if2 .taken))) (omega arith)
-
-step-at-requires : tie.Need-step-at-requires
-step-at-requires c κs = search needs
-
-returns-3 : tie.Need-returns-3
-returns-3 c =
-    let g = c .before .before .before .before .args in
-    c .step-at .ensures ∙ rest (g .first) (g .kind) (g .index) (stepRest (g .kind))
-    (rw (ne-eqb _ _ (c .before .before .if2 .left), eq-eqb _ _ (c .before .if3 .taken))) (omega arith)
-
 number-at-requires : tie.Need-number-at-requires
 number-at-requires c κs = search needs
 
-returns-4 : tie.Need-returns-4
-returns-4 c =
-    let g = c .before .before .before .before .before .args in
-    c .number-at .ensures ∙ rest (g .first) (g .kind) (g .index) (numbers 5)
-    (rw (ne-eqb _ _ (c .before .before .before .if2 .left), ne-eqb _ _ (c .before .before .if3 .left), eq-eqb _ _ (c .before .if4 .taken))) (omega arith)
+returns : tie.Need-returns
+returns c = c .number-at .ensures ∙ rw (eq-eqb _ _ (c .before .if1 .taken))
 
-named-at-requires-2 : tie.Need-named-at-requires-2
-named-at-requires-2 c κs = search needs
+grid-at-requires : tie.Need-grid-at-requires
+grid-at-requires c κs = search needs
 
-returns-5 : tie.Need-returns-5
-returns-5 c =
-    let g = c .before .before .before .before .before .before .args in
-    c .named-at2 .ensures ∙ rest (g .first) (g .kind) (g .index) (identifier ∷ numbers 2)
-    (rw (ne-eqb _ _ (c .before .before .before .before .if2 .left), ne-eqb _ _ (c .before .before .before .if3 .left), ne-eqb _ _ (c .before .before .if4 .left), eq-eqb _ _ (c .before .if5 .taken))) (omega arith)
+returns-2 : tie.Need-returns-2
+returns-2 c = c .grid-at .ensures ∙ rw (ne-eqb _ _ (c .before .before .if1 .left), eq-eqb _ _ (c .before .if2 .taken))
 
-number-at-requires-2 : tie.Need-number-at-requires-2
-number-at-requires-2 c κs = search needs
+lettered-at-requires : tie.Need-lettered-at-requires
+lettered-at-requires c κs = search needs
 
-returns-6 : tie.Need-returns-6
-returns-6 c = let g = c .before .before .before .before .before .before .before .args in c .number-at2 .ensures ∙ rest (g .first) (g .kind) (g .index) (numbers 1) (rw (ne-eqb _ _ (c .before .before .before .before .before .if2 .left), ne-eqb _ _ (c .before .before .before .before .if3 .left), ne-eqb _ _ (c .before .before .before .if4 .left), ne-eqb _ _ (c .before .before .if5 .left), eq-eqb _ _ (c .before .if6 .taken))) (omega arith)
-
-returns-7 : tie.Need-returns-7
-returns-7 c = let g = c .before .before .before .before .before .before .args in rest (g .first) (g .kind) (g .index) [] (rw (ne-eqb _ _ (c .before .before .before .before .if2 .left), ne-eqb _ _ (c .before .before .before .if3 .left), ne-eqb _ _ (c .before .before .if4 .left), ne-eqb _ _ (c .before .if5 .left), ne-eqb _ _ (c .if6 .left))) (omega arith)
+returns-3 : tie.Need-returns-3
+returns-3 c = c .lettered-at .ensures ∙ rw (ne-eqb _ _ (c .before .before .if1 .left), ne-eqb _ _ (c .before .if2 .left))
 
 pub class-at-spec : {M : Type 1} → statement M
-class-at-spec =
-    tie.close
-    (tie.spec
-    returns
-    sub-i
-    named-at-requires
-    returns-2
-    step-at-requires
-    returns-3
-    number-at-requires
-    returns-4
-    named-at-requires-2
-    returns-5
-    number-at-requires-2
-    returns-6
-    returns-7)
+class-at-spec = tie.close (tie.spec number-at-requires returns grid-at-requires returns-2 lettered-at-requires returns-3)

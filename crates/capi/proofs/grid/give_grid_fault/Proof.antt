@@ -1,0 +1,47 @@
+-- `capi::grid::give_grid_fault` meets its contract: what is given is stored from the first element on. Assumes nothing.
+use borrow.Author.Needs.{needs}
+use mathlib.Core.Path.{refl}
+use mathlib.Core.List.{[], _∷_}
+use Rattle.capi.proofs.Laws.{numbers}
+use Rattle.capi.proofs.grid.give_grid_fault.Statement.{statement}
+use Rattle.capi.proofs.grid.give_grid_fault.Tie as tie
+
+status-requires : tie.Need-status-requires
+status-requires c κs = search needs
+
+line-number-requires : tie.Need-line-number-requires
+line-number-requires c κs = search needs
+
+status-requires-2 : tie.Need-status-requires-2
+status-requires-2 c κs = search needs
+
+slice-set-from-number : tie.Need-slice-set-from-number
+slice-set-from-number c = search needs
+
+slice-set-from-line : tie.Need-slice-set-from-line
+slice-set-from-line c = search needs
+
+slice-set-from-place : tie.Need-slice-set-from-place
+slice-set-from-place c = search needs
+
+same-length : tie.Need-same-length
+same-length c = search needs
+
+returns : tie.Need-returns
+returns c =
+    let c2 = c .before in
+    let c3 = c2 .before in
+    numbers {vs = c3 .status .result ∷ c2 .line-number .result ∷ c .status2 .result ∷ []} (rw (c3 .status .ensures, c2 .line-number .ensures, c .status2 .ensures) refl) (c3 .status .ok, (c2 .line-number .ok, (c .status2 .ok, tt))) (c3 .before .pre)
+
+pub give-grid-fault-spec : {M : Type 1} → statement M
+give-grid-fault-spec =
+    tie.close
+    (tie.spec
+    status-requires
+    line-number-requires
+    status-requires-2
+    slice-set-from-number
+    slice-set-from-line
+    slice-set-from-place
+    same-length
+    returns)

@@ -1,0 +1,57 @@
+-- `line::node_line::numbers_node` meets its contract. Assumes nothing.
+use mathlib.Core.Path.{sym, _∙_, ap}
+use mathlib.Core.Logic.{⊎-elim}
+use native.Mathlib.Omega.{arith}
+use lib.Seq.{length-take-le}
+use Rattle.line.proofs.Answers as A
+use Rattle.line.specs.declared.NodeLine.the-variants.{Parts, Malformed}
+use Rattle.line.specs.Forms.{nodeForm}
+use Rattle.line.specs.Malformed.{nodeShape, faultOf}
+use Rattle.line.specs.Readers.{partsAs, numbersNode}
+use borrow.Author.Needs.{needs}
+use Rattle.line.proofs.node_line.numbers_node.Statement.{statement}
+use Rattle.line.proofs.node_line.numbers_node.Tie as tie
+
+body-end-requires : tie.Need-body-end-requires
+body-end-requires c κs = search needs
+
+slice-aggregate-s : tie.Need-slice-aggregate-s
+slice-aggregate-s c = sym (length-take-le _ _ (omega arith))
+
+node-fields-requires : tie.Need-node-fields-requires
+node-fields-requires c κs = search needs
+
+add-if2 : tie.Need-add-if2
+add-if2 c = search needs
+
+returns : tie.Need-returns
+unfolding numbersNode
+returns c =
+    let c3 = c .before .before .before in
+    let c6 = c3 .before .before .before in
+    let line = c6 .before .before .args .line .now in
+    A.of-form (partsAs (Malformed (faultOf nodeShape line))) nodeForm _ _ (c6 .body-end .ensures) (omega arith) (c3 .node-fields .ensures) _ (c .before .if2 .taken) (λ h q. ap Parts q)
+
+fault-of-requires : tie.Need-fault-of-requires
+fault-of-requires c κs = search needs
+
+returns-2 : tie.Need-returns-2
+unfolding numbersNode
+returns-2 c =
+    let framed = c .before .before .body-end .ensures in
+    let line = c .before .before .before .before .args .line .now in
+    ap Malformed (c .fault-of .ensures)
+    ∙ ⊎-elim (λ w. A.no-form (partsAs (Malformed (faultOf nodeShape line))) nodeForm _ _ framed (omega arith) (w .2 .ensures) (w .4 .left))
+    (λ w. A.no-frame (partsAs (Malformed (faultOf nodeShape line))) nodeForm _ _ framed (omega arith)) (c .before .if1 .came)
+
+pub numbers-node-spec : {M : Type 1} → statement M
+numbers-node-spec =
+    tie.close
+    (tie.spec
+    body-end-requires
+    slice-aggregate-s
+    node-fields-requires
+    add-if2
+    returns
+    fault-of-requires
+    returns-2)

@@ -1,0 +1,31 @@
+-- `velocity_grid::moving::motion_on` meets its contract. Assumes nothing.
+use borrow.Author.Needs.{needs}
+use mathlib.Core.Path.{_≡_, _∙_, ap₂}
+use denote.Ref.{now}
+use Rattle.rounding.proofs.Machine.{rd}
+use Rattle.velocity_grid.specs.AtPoint.{partsOf}
+use Rattle.velocity_grid.specs.Motion.{moved, motionOn}
+use Rattle.velocity_grid.proofs.Motions.{same-velocity}
+use Rattle.velocity_grid.proofs.moving.motion_on.Statement.{statement}
+use Rattle.velocity_grid.proofs.moving.motion_on.Tie as tie
+
+velocity-at-requires : tie.Need-velocity-at-requires
+velocity-at-requires c κs = search needs
+
+parts-at-requires : tie.Need-parts-at-requires
+parts-at-requires c κs = search needs
+
+both-requires : tie.Need-both-requires
+both-requires c κs = search needs
+
+returns : tie.Need-returns
+unfolding motionOn
+returns c =
+    let s = c .before .before .before in
+    c .both .ensures
+    ∙ ap₂ moved
+    (c .before .before .velocity-at .ensures ∙ same-velocity (s .args .g) (now (s .args .nodes)) (rd (s .fits .latitude)) (rd (s .fits .longitude)) (rd (s .fits .datum)) (rd (s .fits .before)) (rd (s .fits .after)))
+    (c .before .parts-at .ensures ∙ ap₂ (partsOf (s .args .g) (now (s .args .nodes))) (rd (s .fits .latitude)) (rd (s .fits .longitude)))
+
+pub motion-on-spec : {M : Type 1} → statement M
+motion-on-spec = tie.close (tie.spec velocity-at-requires parts-at-requires both-requires returns)

@@ -1,0 +1,71 @@
+-- `velocity_grid::text::put_node` meets its contract. Assumes nothing.
+use borrow.Author.Needs.{needs}
+use native.Mathlib.Omega.{arith}
+use mathlib.Core.Path.{_≡_}
+use mathlib.Core.List.{List}
+use Prim.Native.Nat.{ℕ, suc, _+_}
+use lib.IntN.{ℤ}
+use lib.ListN.{set}
+use lib.Seq.{sets}
+use Rattle.rounding.proofs.Machine.{told}
+use Rattle.line.specs.Readers.{readNode}
+use Rattle.line.specs.declared.Parts.{Parts}
+use Rattle.velocity_grid.specs.Text.{valuesOf, three}
+use Rattle.velocity_grid.proofs.text.put_node.Statement.{statement}
+use Rattle.velocity_grid.proofs.text.put_node.Tie as tie
+
+-- three stores, one after the other
+put : (l : List ℤ) (i : ℕ) (p q : Parts) {x y z : ℤ} → x ≡ p .east → y ≡ p .north → z ≡ p .up → p ≡ q → set (set (set l i x) (i + 1) y) (i + 2) z ≡ sets l i (three q)
+put l i p q ex ey ez e =
+    let one : i + 1 ≡ suc i = omega arith in
+    let two : i + 2 ≡ suc (suc i) = omega arith in
+    rw (ex, ey, ez, e, one, two)
+
+values-requires : tie.Need-values-requires
+values-requires c κs = search needs
+
+mul-east : tie.Need-mul-east
+mul-east c = search needs
+
+element-set-from-east : tie.Need-element-set-from-east
+element-set-from-east c = search needs
+
+add-north : tie.Need-add-north
+add-north c = search needs
+
+mul-north : tie.Need-mul-north
+mul-north c = search needs
+
+element-set-from-north : tie.Need-element-set-from-north
+element-set-from-north c = search needs
+
+add-up : tie.Need-add-up
+add-up c = search needs
+
+mul-up : tie.Need-mul-up
+mul-up c = search needs
+
+element-set-from-up : tie.Need-element-set-from-up
+element-set-from-up c = search needs
+
+returns : tie.Need-returns
+returns c =
+    let t = c .struct-told3 .given in
+    let v = c .before .before .before .values in
+    let g = c .before .before .before .before .before .args in
+    put (g .nodes .now) (g .at) (v .result) (valuesOf (readNode (g .text .now))) (told (t .0 .1)) (told (t .1 .0 .1)) (told (t .1 .1 .0 .1)) (v .ensures)
+
+pub put-node-spec : {M : Type 1} → statement M
+put-node-spec =
+    tie.close
+    (tie.spec
+    values-requires
+    mul-east
+    element-set-from-east
+    add-north
+    mul-north
+    element-set-from-north
+    add-up
+    mul-up
+    element-set-from-up
+    returns)

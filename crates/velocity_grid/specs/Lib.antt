@@ -1,0 +1,9 @@
+pub mod Bilinear
+pub mod OnGrid
+pub mod AtPoint
+pub mod Turn
+pub mod Step
+pub mod Bounded
+pub mod Text
+pub mod Motion
+pub mod Reading

@@ -1,4 +1,5 @@
 pub mod Rounding
+pub mod AxisLaws
 pub mod StepLaws
 pub mod Within
 pub mod Sizes
@@ -11,6 +12,9 @@ pub mod Places
 pub mod Cases
 pub mod Keeping
 pub mod Joins
+pub mod Meeting
+pub mod JoinedLaws
+pub mod Legs
 pub mod Lifting
 pub mod Readying
 pub mod RowLaws

@@ -7,7 +7,7 @@ use native.Mathlib.Nat as NatL
 use native.Mathlib.Omega.{arith}
 use borrow.Author.Tests.{ltb-false, le-ltb, eq-eqb, ne-eqb}
 use lib.Dec.{T, ltb}
-use lib.ListN.{length, getD, take, drop, length-take, length-append, length-drop}
+use lib.ListN.{length, getD, drop, length-take, length-append, length-drop}
 use lib.Seq.{getD-append-add, getD-take, getD-drop}
 use Rattle.refusal.specs.Order.{first}
 use Rattle.refusal.proofs.Orders.{numbered, passed, stop, on, first-append, both-pass, head-holds, step-passed}
@@ -20,7 +20,7 @@ use Rattle.chain.specs.declared.Joined.{Joined}
 use Rattle.chain.specs.Faults.{sameRealization, chainTests, stepsOf}
 use Rattle.chain.specs.Convert.{startOf, endOf}
 use Rattle.chain.specs.Join.{noStep, meet, together, pairTests, joinTests, joinedSteps, joinedOf, noneOf, joinFault, joinOf}
-use Rattle.chain.proofs.Keeping.{same-self}
+use Rattle.chain.proofs.Within.{same-self}
 use Rattle.chain.proofs.Accepted.{numbered-steps, chain-passed}
 
 -- ---- whether they meet, as the code finds it

@@ -7,8 +7,7 @@ use native.Mathlib.Omega.{arith}
 use lib.IntN.{ℤ}
 use Rattle.refusal.specs.Numbers as refusal
 use Rattle.refusal.specs.Order.{first}
-use Rattle.refusal.proofs.Orders.{first-append, both-pass, head-holds}
-use Rattle.ranges.proofs.Ranges.{all}
+use Rattle.refusal.proofs.Orders.{first-append, both-pass}
 use Rattle.chain.specs.declared.Position.{Position}
 use Rattle.chain.specs.declared.Realization.{Realization}
 use Rattle.chain.specs.declared.Point.{Point}
@@ -16,13 +15,14 @@ use Rattle.chain.specs.declared.Step.{Step}
 use Rattle.chain.specs.declared.Chain.{Chain}
 use Rattle.chain.specs.declared.Answer.{Answer}
 use Rattle.chain.specs.declared.Answer.the-variants.{Converted, Refused}
-use Rattle.chain.specs.Faults.{inArea, sameRealization, hasDatum, labelRange, realizationRange, givenPosition, agrees, pointRange, pointTests, pointFault, chainTests, stepsOf}
+use Rattle.chain.specs.Faults.{inArea, sameRealization, pointTests, pointFault, chainTests, stepsOf}
 use Rattle.chain.specs.Convert.{Walk, at, left, onward, walk, forwardStep, inverseStep, startOf, endOf, placeTests, movedTo, answerOf, convert, forwardOf, inverseOf}
 use Rattle.chain.specs.Join.{joinedOf}
+use Rattle.chain.proofs.Within.{same-self}
 use Rattle.chain.proofs.Walk.{walk-append, walk-area}
 use Rattle.chain.proofs.Accepted.{sound-steps, held-steps, chain-passed, entry, entry-area, by-point, by-walk}
-use Rattle.chain.proofs.Outcomes.{Dated, end-dated, area-given, faultless}
-use Rattle.chain.proofs.Keeping.{same-self}
+use Rattle.chain.proofs.PointLaws.{Dated, PointOk, point-ok, faultless}
+use Rattle.chain.proofs.Outcomes.{end-dated, area-given}
 use Rattle.chain.proofs.Joins.{Joinable}
 use Rattle.chain.proofs.Meeting.{end-in, start-in, start-some, start-dated, meeting}
 use Rattle.chain.proofs.JoinedLaws.{joined-steps, joined-good}
@@ -48,25 +48,9 @@ module _ (c : Chain) (good : first (chainTests c) ≡ 0) (p : Point) (wanted rea
   walked-at e = sym (by-walk c p wanted reached w good e)
 
 -- what a point that is let in keeps
-module _ (y : ℤ) (p : Point) (wanted : Realization) (e : entry y p wanted ≡ 0) where
-  own : pointFault y p ≡ 0
-  unfolding pointFault
-  own = both-pass (pointTests y p) (placeTests p wanted) tt e .0
-
-  labelled : labelRange (p .label) ≡ true
-  unfolding pointFault pointRange
-  labelled = all (labelRange (p .label)) (realizationRange (p .realization)) (givenPosition (p .position)) (head-holds (pointRange p) _ _ own .0) .0
-
-  dated : Dated y (p .realization)
-  unfolding pointFault pointRange
-  dated =
-      let f = head-holds (pointRange p) _ _ own in
-      let g = head-holds (agrees (p .realization)) _ _ (f .1) in
-      record {
-        range = all (labelRange (p .label)) (realizationRange (p .realization)) (givenPosition (p .position)) (f .0) .1;
-        agree = g .0;
-        had = head-holds (hasDatum y (p .realization)) _ 0 (g .1) .0;
-      }
+let-in-ok : (y : ℤ) (p : Point) (wanted : Realization) → entry y p wanted ≡ 0 → PointOk y p
+unfolding pointFault
+let-in-ok y p wanted e = point-ok y p (both-pass (pointTests y p) (placeTests p wanted) tt e .0)
 
 -- ---- one leg after another: by j the way is that by c and then that by d
 moved-answer : (p : Point) (r r' : Realization) (x : Position) (w : Walk) → answerOf (movedTo p r x) r' w ≡ answerOf p r' w
@@ -79,7 +63,7 @@ module _ (f : Step → Position → Position) (c d j : Chain) (gc : first (chain
   let-in : (x : Position) → entry (j .profile) p wanted ≡ 0 → inArea x ≡ true → entry (d .profile) (movedTo p mid x) wanted' ≡ 0
   unfolding pointFault
   let-in x e i =
-      let g = faultless (j .profile) (movedTo p mid x) (labelled (j .profile) p wanted e) (fit e) (area-given x i) in
+      let g = faultless (j .profile) (movedTo p mid x) (record { label = let-in-ok (j .profile) p wanted e .label; dated = fit e; given = area-given x i }) in
       ap (λ (y : ℤ). entry y (movedTo p mid x) wanted') ld
       ∙ first-append (pointTests (j .profile) (movedTo p mid x)) (placeTests (movedTo p mid x) wanted') tt
       ∙ rw (g, there, i)
@@ -130,7 +114,7 @@ module _ (c d : Chain) (two : Joinable c d) (some : stepsOf c ≡ [] → ⊥) (o
       rw (joined-steps c d, start-in r ss ts some)
       (legs forwardStep c d (joinedOf c d) (two .good) (two .other) (joined-good c d two) refl (sym (two .like))
       p (startOf r ss) (endOf r ss) (endOf r (ss ++ ts)) (startOf (endOf r ss) ts) (endOf (endOf r ss) ts)
-      (λ z. end-dated (c .profile) r ss (sound-steps (c .profile) ss (s .1)) (held-steps (c .profile) ss (s .1)) (dated (c .profile) p (startOf r ss) z))
+      (λ z. end-dated (c .profile) r ss (sound-steps (c .profile) ss (s .1)) (held-steps (c .profile) ss (s .1)) (let-in-ok (c .profile) p (startOf r ss) z .dated))
       (ap (sameRealization (endOf r ss)) (sym e) ∙ same-self (endOf r ss)) (sym (end-in r (endOf r ss) ss ts others)) ss ts (forwardOf d) (λ x. refl))
 
   pub inverse-legs : Legs (inverseOf (joinedOf c d) p) (inverseOf d p) (inverseOf c)

@@ -6,13 +6,16 @@ pub mod Sizes
 pub mod Walk
 pub mod Accepted
 pub mod Ends
+pub mod PointLaws
 pub mod Outcomes
 pub mod Prepared
 pub mod Places
 pub mod Cases
+pub mod Meeting
+pub mod KeptRows
+pub mod KeptTurns
 pub mod Keeping
 pub mod Joins
-pub mod Meeting
 pub mod JoinedLaws
 pub mod Legs
 pub mod Lifting

@@ -11,10 +11,9 @@ use Rattle.chain.specs.declared.Step.{Step}
 use Rattle.chain.specs.Faults.{sameRealization, hasKind, hasDatum, hasStep, stepTests, joinTest, laterTests, stepsTests}
 use Rattle.chain.specs.Convert.{startOf, endOf}
 use Rattle.chain.specs.Join.{meet}
-use Rattle.chain.proofs.Within.{same-is}
+use Rattle.chain.proofs.Within.{same-is, same-self}
 use Rattle.chain.proofs.Accepted.{Sound, Held}
-use Rattle.chain.proofs.Outcomes.{Dated}
-use Rattle.chain.proofs.Keeping.{same-self}
+use Rattle.chain.proofs.PointLaws.{Dated}
 
 -- ---- where they start and end
 ends-in : (r : Realization) (ss : List Step) (t : Step) (ts : List Step) → endOf r (ss ++ (t ∷ ts)) ≡ endOf r (t ∷ ts)

@@ -5,11 +5,6 @@ use Prim.Native.Nat.{ℕ}
 use lib.Dec.{lit<}
 use lib.IntN.{pos}
 use lib.ListN.{getD}
-use Rattle.rounding.specs.Nearest.{toEven, floor, rest, goesUp, rounded}
-use Rattle.ranges.specs.Ranges.{within}
-use Rattle.chain.specs.Faults.{realizationRange, agrees, sameRealization, hasDatum, hasKind, hasStep, givenPosition, inArea, labelRange, pointRange, kindRange, stepRange, kindRule}
-use Rattle.chain.specs.Parts.{stepRound, linear, part, gain, rotation11, scaledRotation, bursaWolfParts, kindParts, plus, minus, forwardBy, again, inverseBy}
-use Rattle.chain.specs.Convert.{walk, startOf, endOf, answerOf, convert, forwardOf, inverseOf}
 use Rattle.chain.specs.declared.Answer.{Answer}
 use Rattle.chain.specs.declared.Answer.the-variants.{Refused}
 use Rattle.chain.specs.Axes.{onX}
@@ -18,7 +13,7 @@ use Rattle.chain.specs.Cases.{answer, expected}
 use Rattle.theorems.specs.MarksMeet.{scaling, meeting, MarksMeet, Applies}
 
 pub marks-meet : MarksMeet
-unfolding toEven floor rest goesUp rounded stepRound within realizationRange agrees sameRealization hasDatum hasKind hasStep givenPosition inArea labelRange pointRange kindRange stepRange kindRule linear part gain rotation11 scaledRotation bursaWolfParts kindParts plus minus forwardBy again inverseBy walk startOf endOf answerOf convert forwardOf inverseOf
+unfolding answer
 marks-meet = refl
 
 -- the answers, each by its place in the list
@@ -26,6 +21,7 @@ answers : (n : ℕ) → getD (map answer meeting) n (Refused 0) ≡ getD (map ex
 answers n = ap (λ (l : List Answer). getD l n (Refused 0)) marks-meet
 
 pub applies : Applies
+unfolding answer
 applies = record {
   chain = cases.chain (scaling (cases.less 1999993)) (cases.on 1 0) (cases.on 2 0);
   p = cases.point (cases.on 1 0) (cases.xyz (cases.less 199999975000) (pos 600000000000) (pos 50000000000));

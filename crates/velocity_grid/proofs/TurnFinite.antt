@@ -1,23 +1,19 @@
 -- No NaN and no infinity in the turn: for every accepted point and parts within 2,500 every f64 is finite, X, Y and Z are at most 4,330 in size, and so is
 -- what they are rounded to. Each is one computed test over all the ranges at once. Assumes nothing.
 use mathlib.Core.Path.{_≡_, refl, sym, ap, _∙_, subst}
-use mathlib.Core.Bool.{Bool, true, false}
+use mathlib.Core.Bool.{true, false}
 use mathlib.Core.List.{List, [], _∷_}
-use Prim.Native.Nat.{ℕ, zero, suc, _-_, _*_, _^_, _≤_}
-use native.Mathlib.Nat.{mul-one}
+use Prim.Native.Nat.{ℕ, _-_, _*_, _≤_}
 use native.Mathlib.Omega.{arith}
 use lib.Dec.{T, lit≤, lit<}
 use lib.IntN.{ℤ, pos, natAbs, _-ℤ_}
 use lib.Ieee.{Float, nan, inf, fin, binary64, round, neg, div, up, down}
-use lib.Ieee.Fits.{down-pos}
 use lib.Ieee.Scale.{finite}
 use lib.Ieee.Positive.{num, den}
 use Rattle.ranges.specs.Ranges.{latitudeRange, longitudeRange}
 use Rattle.ranges.proofs.Ranges.{natural}
-use Rattle.rounding.specs.Nearest.{away}
-use Rattle.rounding.specs.Decimals.{withSign, wholeOf, roundedOf}
-use Rattle.rounding.specs.declared.decimals.Rounded.the-variants.{Whole}
-use Rattle.rounding.proofs.Rounded.{rounded-size}
+use Rattle.rounding.specs.Decimals.{wholeOf}
+use Rattle.rounding.proofs.Places.{whole-small}
 use Rattle.bounds.proofs.Among.{Ends, Among, neg-among}
 use Rattle.bounds.proofs.Formula.{Formula, var, lit, opp, plus, minus, times, All, none, also, value, tested, proved, Fine, every}
 use Rattle.bounds.proofs.Size.{Under}
@@ -32,9 +28,7 @@ use Rattle.angle.proofs.Wholes.{natural-upto, sub-pos}
 use Rattle.velocity_grid.specs.AtPoint.{PartsOk}
 use Rattle.velocity_grid.specs.Turn.{turnedBy, turnedAt, inUnits}
 use Rattle.velocity_grid.specs.Bounded as statements
-use Rattle.velocity_grid.specs.Bounded.{Small}
 use Rattle.line.specs.declared.Parts.{Parts}
-use Rattle.velocity_grid.specs.declared.Turned.{Turned}
 use Rattle.velocity_grid.proofs.AtPoint.{sized-upto}
 
 -- ---- the latitude's and the longitude's sine and cosine, and the three parts
@@ -155,18 +149,12 @@ bound : Bound 4330
 unfolding round
 bound = record { is = refl; unit = refl; low = lit< tt }
 
-sign-size : (s : Bool) (n : ℕ) → natAbs (withSign s n) ≡ n
-sign-size true zero = refl
-sign-size true (suc n) = refl
-sign-size false n = refl
-
 whole-size : (x y : Float) → num y ≡ 4330 → den y ≡ 1 → Under x y → natAbs (wholeOf x 0) ≤ 4330
-unfolding wholeOf
-whole-size nan y N D h = omega arith
-whole-size (inf s) y N D h = omega arith
+whole-size nan y N D h = absurd (h .small)
+whole-size (inf s) y N D h = absurd (h .small)
 whole-size (fin s m e) y N D h =
     let c : m * up e * 1 ≤ 4330 * down e = subst (λ (i : ℕ). m * up e * i ≤ 4330 * down e) D (subst (λ (i : ℕ). m * up e * den y ≤ i * down e) N (h .cross)) in
-    rounded-size away (down-pos e) 4330 (withSign s (m * up e * 10 ^ 0)) (subst (λ (i : ℕ). i ≤ 4330 * down e) (sym (sign-size s (m * up e * 10 ^ 0))) c)
+    whole-small s m e 0 4330 c
 
 pub bounded : statements.Bounded
 unfolding inUnits

@@ -237,8 +237,7 @@ unfolding rowsOf startOf endOf
 holds-none y l g e f = record { room = e; count = f; ends = record { starts = refl; ends = refl }; rows = tt; sound = rw g }
 
 pub holds-fresh : Holds latest (replicate 72 (pos 0)) []
-unfolding within
-holds-fresh = holds-none latest (replicate 72 (pos 0)) refl refl refl
+holds-fresh = holds-none latest (replicate 72 (pos 0)) (rw (above (pos 2009) latest (pos 2009) refl, equal-self latest)) refl refl
 
 -- numbers with no step hold no step under any profile that is one
 pub holds-under : (y z : ℤ) (l : List ℤ) → Holds y l [] → profileFault z ≡ 0 → Holds z l []

@@ -10,7 +10,7 @@ use lib.ListN.{length, getD, set, length-set}
 use lib.Seq.{sets, getD-set-same, getD-set-other}
 use Rattle.refusal.specs.Order.{first}
 use Rattle.ranges.specs.Ranges.{within, upTo, shiftRange, scaleRange}
-use Rattle.ranges.proofs.Ranges.{both, all, up-to, up-to-holds}
+use Rattle.ranges.proofs.Ranges.{natural-holds, both, all, up-to, up-to-holds}
 use Rattle.chain.specs.declared.Realization.{Realization}
 use Rattle.chain.specs.declared.Step.{Step}
 use Rattle.chain.specs.declared.steps.Ready.{Ready}
@@ -65,10 +65,9 @@ says (Turned t) = refl
 says (Scaled t) = refl
 
 known : (r : Ready) → formRange (number (numbersOf r) 0 0) ≡ true
-unfolding within
-known (Fixed g) = refl
-known (Turned t) = refl
-known (Scaled t) = refl
+known (Fixed g) = natural-holds 0 0 2 (omega arith) (omega arith)
+known (Turned t) = natural-holds 0 1 2 (omega arith) (omega arith)
+known (Scaled t) = natural-holds 0 2 2 (omega arith) (omega arith)
 
 -- ---- what is ready for a step is in range
 ok-range : (r : Ready) → ReadyOk r → readyRange r ≡ true

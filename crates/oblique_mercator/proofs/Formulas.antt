@@ -9,7 +9,8 @@ use Rattle.elementary.specs.Floats.{whole}
 use Rattle.elementary.specs.Series.{arctanTable}
 use Rattle.elementary.proofs.Formulas.{n, hornerF, sineF, cosineF, sinhF, coshF, artanhSmallF, rootF, arctangentF, artanhF, arcsineF}
 use Rattle.elementary.proofs.Formulas.{sine-is, cosine-is, sinh-is, cosh-is, arctan-series-is, artanh-small-is, root-is, arctangent-is, artanh-is, arcsine-is}
-use Rattle.angle.specs.Units.{k, radians, metres}
+use Rattle.angle.specs.Units.{k}
+use Rattle.angle.proofs.UnitLaws.{radians-is, metres-is}
 use Rattle.angle.specs.Ellipsoids.{ellipsoidOf}
 use Rattle.angle.specs.declared.Projected.the-variants.{Metres}
 use Rattle.oblique_mercator.specs.Parameters.{reduced}
@@ -235,5 +236,5 @@ given p latitude longitude =
 
 pub plane-is : (p : Parameters) (latitude longitude : ℤ)
     → planeAt (projectionMade p) latitude longitude ≡ Metres (value (given p latitude longitude) eastF) (value (given p latitude longitude) northF)
-unfolding value planeAt planeOf projectionMade centreOf naturalOf isometricOf radians metres
-plane-is p latitude longitude = simp (arctangent-is, artanh-is, arcsine-is, artanh-small-is, arctan-series-is, sinh-is, cosh-is, root-is, sine-is, cosine-is)
+unfolding value planeAt planeOf projectionMade centreOf naturalOf isometricOf
+plane-is p latitude longitude = simp (radians-is, metres-is, arctangent-is, artanh-is, arcsine-is, artanh-small-is, arctan-series-is, sinh-is, cosh-is, root-is, sine-is, cosine-is)

@@ -12,7 +12,8 @@ use Rattle.ranges.specs.Ranges.{within}
 use Rattle.refusal.specs.Numbers as refusal
 use Rattle.elementary.specs.Floats.{whole}
 use Rattle.angle.specs.Units.{radians}
-use Rattle.chain.specs.Faults.{realizationRange, agrees, hasDatum, hasKind, hasStep, kindRange, stepRange, kindRule, stepFault}
+use Rattle.chain.specs.Faults.{stepFault}
+use Rattle.chain.specs.Cases.{answer}
 use Rattle.velocity_grid.specs.Bilinear.{blend, weighed, bilinear}
 use Rattle.velocity_grid.specs.OnGrid.{sizeRange, meshRange, gridRange, meshOf, nodesOf, onAxis, placeOf, onGrid, alongOf, cellOf}
 use Rattle.velocity_grid.specs.AtPoint.{known, cellKnown, cornersOf, partOf, partsIn, partsOf}
@@ -74,7 +75,7 @@ answered : answers
     ∷ velocity.Refused refusal.epoch
     ∷ velocity.Refused refusal.kind
     ∷ [])
-unfolding answers inUnits velocityFor stepFault hasDatum hasKind hasStep stepRange kindRange realizationRange agrees kindRule within roundedOf round ofBits
+unfolding answers inUnits velocityFor stepFault answer roundedOf round ofBits
 answered = refl
 
 -- ---- a grid from 4 degrees north and 102 degrees east, a mesh of 5 minutes (30,000,000 units)

@@ -1,14 +1,12 @@
 -- Cartesian to geodetic as data (`Formula`), of a, f, e2 and the whole X, Y, Z as f64s: every step of the definition in its order, each a variable from then on, so that
 -- bounds over the whole area can be computed. `value` of each is the definition itself (`found-is`). Assumes nothing.
-use mathlib.Core.Path.{_≡_, refl}
+use mathlib.Core.Path.{_≡_}
 use mathlib.Core.List.{List, [], _∷_, _++_}
 use lib.IntN.{ℤ}
 use lib.Ieee.{Float}
 use Rattle.bounds.proofs.Formula.{Formula, var, lit, opp, plus, minus, times, over, square, call, steps, value}
 use Rattle.elementary.specs.Floats.{whole}
-use Rattle.elementary.specs.Series.{sineOf, cosineOf, arctanSmallOf}
-use Rattle.elementary.specs.Root.{rootOf}
-use Rattle.elementary.proofs.Formulas.{n, sineF, cosineF, arctanSmallF, rootF}
+use Rattle.elementary.proofs.Formulas.{n, sineF, cosineF, arctanSmallF, rootF, sine-is, cosine-is, arctan-small-is, root-is}
 use Rattle.angle.specs.Ellipsoids.{primeVertical}
 use Rattle.angle.specs.Units.{seconds}
 use Rattle.angle.specs.Geodetic.{tangentOf, heightOf, foundAt}
@@ -107,5 +105,5 @@ given e X Y Z = e .a ∷ e .f ∷ e .e2 ∷ whole X ∷ whole Y ∷ whole Z ∷ 
 
 pub found-is : (e : Ellipsoid) (X Y Z : ℤ)
     → foundAt e X Y Z ≡ record { latitude = value (given e X Y Z) latitudeF; longitude = value (given e X Y Z) longitudeF; height = value (given e X Y Z) heightF }
-unfolding value foundAt tangentOf heightOf primeVertical sineOf cosineOf arctanSmallOf rootOf
-found-is e X Y Z = refl
+unfolding value foundAt tangentOf heightOf primeVertical
+found-is e X Y Z = simp (root-is, arctan-small-is, sine-is, cosine-is)

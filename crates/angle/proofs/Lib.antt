@@ -7,6 +7,7 @@ pub mod GeodeticFormulas
 pub mod GeodeticVectors
 pub mod Made
 pub mod Outcomes
+pub mod UnitLaws
 pub mod Sizes
 pub mod Tests
 pub mod Vectors

@@ -5,7 +5,7 @@ use native.Mathlib.Omega.{arith}
 use lib.IntN.{ℤ}
 use Rattle.refusal.specs.Order.{first, unless}
 use Rattle.angle.specs.Ranges.{originTests, pointTests, originFault}
-use Rattle.angle.specs.Cassini.{originMade, originOf, cassiniAt, cassiniFromOf, cassiniOf}
+use Rattle.angle.specs.Cassini.{originMade, originOf, cassiniAt, cassiniFromOf, cassiniOf, cassiniMillimetresFromOf, cassiniMillimetresOf}
 use Rattle.angle.specs.declared.Origin.{Origin}
 use Rattle.angle.specs.declared.OriginNumbers.{OriginNumbers}
 use Rattle.angle.specs.declared.OriginAnswer.the-variants.{Made}
@@ -37,3 +37,13 @@ module _ (o : OriginNumbers) (lat lon : ℤ) where
       let p = answered (first (originTests o)) (originMade o) x h in
       ap (λ (y : Origin). cassiniFromOf y lat lon) (sym (p .1))
       ∙ ap (λ (f : ℕ). unless f Refused (cassiniAt (originMade o) lat lon)) (sym (on (originTests o) (pointTests (o .longitude) lat lon) (passed (originTests o) tt (p .0))))
+
+  -- the same in whole millimetres
+  pub by-origin-millimetres : (x : Origin) → originOf o ≡ Made x → cassiniMillimetresFromOf x lat lon ≡ cassiniMillimetresOf o lat lon
+  unfolding cassiniMillimetresFromOf cassiniMillimetresOf
+  by-origin-millimetres x h = rw (by-origin x h)
+
+-- an origin with no fault is made
+pub never-refused : (o : OriginNumbers) (n : ℕ) → originFault o ≡ 0 → originOf o ≡ answer.Refused n → ⊥
+unfolding originOf
+never-refused o n e q = let z : _≡_ {A = ℕ} 0 1 = cc (rw e at q) in omega arith

@@ -1,4 +1,5 @@
--- What the Cassini call in whole millimetres can answer: numbers of at most 10,000,000,000 mm, or a number of the refusal table. Assumes nothing.
+-- What the Cassini call in whole millimetres can answer: numbers of at most 10,000,000,000 mm, or a number of the refusal table; and the faults of angles and
+-- origins are such numbers. Assumes nothing.
 use Prim.Native.Nat.{ℕ, zero, suc, _≤_, _<_}
 use lib.IntN.{ℤ, natAbs}
 use lib.Ieee.{Float}
@@ -8,12 +9,21 @@ use Rattle.rounding.specs.Decimals.{roundedOf}
 use Rattle.rounding.specs.declared.decimals.Rounded.{Rounded}
 use Rattle.rounding.specs.declared.decimals.Rounded.the-variants.{Whole}
 use Rattle.rounding.proofs.Places as places
-use Rattle.angle.specs.Ranges.{cassiniTests}
+use Rattle.angle.specs.Ranges.{angleTests, originTests, anglesFault, originFault, cassiniTests}
 use Rattle.angle.specs.Cassini.{originMade, cassiniWith, cassiniAt, cassiniOf, two, inMillimetres, cassiniMillimetresOf}
 use Rattle.angle.specs.declared.OriginNumbers.{OriginNumbers}
 use Rattle.angle.specs.declared.Projected.the-variants as projected
 use Rattle.angle.specs.declared.ProjectedMillimetres.{ProjectedMillimetres}
 use Rattle.angle.specs.declared.ProjectedMillimetres.the-variants.{Millimetres, Refused}
+
+-- no fault has a number of three digits
+pub angles-fault-short : (lat lon : ℤ) → anglesFault lat lon < 100
+unfolding anglesFault
+angles-fault-short lat lon = first-short (angleTests lat lon) tt
+
+pub origin-fault-short : (o : OriginNumbers) → originFault o < 100
+unfolding originFault
+origin-fault-short o = first-short (originTests o) tt
 
 -- whatever holds of both holds of what is answered
 pub outcome : (o : OriginNumbers) (lat lon : ℤ) (P : ProjectedMillimetres → Type 0)

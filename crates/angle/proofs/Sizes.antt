@@ -18,7 +18,7 @@ use Rattle.elementary.specs.Series.{sineOf, cosineOf}
 use Rattle.ranges.specs.Ranges.{ellipsoidRange}
 use Rattle.angle.specs.Ellipsoids.{table, shape, figureOf, ellipsoidOf, primeVertical, arcWith, meridianArc}
 use Rattle.angle.specs.declared.Ellipsoid.{Ellipsoid}
-use Rattle.elementary.proofs.Formulas.{n, sineF, cosineF, sine-among, cosine-among}
+use Rattle.elementary.proofs.Formulas.{n, sineF, cosineF, sine-is, sine-among, cosine-among}
 use Rattle.angle.proofs.Formulas.{primeVerticalF, meridianArcF}
 use Rattle.ranges.proofs.Ranges.{Natural, natural}
 
@@ -145,8 +145,8 @@ module _ (e : Ellipsoid) (z : ℤ) (E : Shaped e) (Z : Upto 2880000000 z) where
   radius-among = proved (also (E .long) (also (E .squared) (also sine-latitude none))) (primeVerticalF (var 0) (var 1) (var 2)) (most 6379000 1) radius-test
 
   pub arc-among : Among (meridianArc e (radians z)) (most 910000 1)
-  unfolding value meridianArc arcWith sineOf
-  arc-among = proved (also (E .long) (also (E .squared) (also latitude-among none))) (meridianArcF (var 0) (var 1) (var 2)) (most 910000 1) arc-test
+  unfolding value meridianArc arcWith
+  arc-among = simp sine-is (proved (also (E .long) (also (E .squared) (also latitude-among none))) (meridianArcF (var 0) (var 1) (var 2)) (most 910000 1) arc-test)
 
 -- ---- a false easting or northing: within 2,000,000 m
 offset-finite : T (finite (round binary64 false 2000000000 1))

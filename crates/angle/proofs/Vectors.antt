@@ -6,12 +6,12 @@ use lib.IntN.{ℤ, pos, negsuc}
 use lib.Ieee.{Float, binary64, add, sub, mul, div, neg, round, ofInt, ofBits}
 use Rattle.refusal.specs.Numbers.{range, geodetic}
 use Rattle.refusal.specs.Numbers as numbers
-use Rattle.angle.specs.Units.{k, radians, metres}
+use Rattle.angle.specs.Units.{radians, metres}
 use Rattle.ranges.specs.Ranges.{within}
 use Rattle.elementary.specs.Series.{sineOf, cosineOf}
-use Rattle.angle.specs.Ellipsoids.{table, shape, figureOf, ellipsoidOf, primeVertical, arcWith, meridianArc}
-use Rattle.angle.specs.Cartesian.{cartesianAt, cartesianOf}
-use Rattle.angle.specs.Cassini.{originMade, cassiniWith, cassiniAt, cassiniOf}
+use Rattle.angle.specs.Ellipsoids.{primeVertical, meridianArc}
+use Rattle.angle.specs.Cartesian.{cartesianOf}
+use Rattle.angle.specs.Cassini.{cassiniOf}
 use Rattle.angle.specs.declared.OriginNumbers.{OriginNumbers}
 use Rattle.angle.specs.declared.Cartesian.{Cartesian}
 use Rattle.angle.specs.declared.Cartesian.the-variants as cartesian
@@ -51,10 +51,6 @@ abbrev answers : List Position → List Cartesian
 answers [] = []
 answers (p ∷ ps) = p .answer ∷ answers ps
 
-all-positions : found positions ≡ answers positions
-unfolding cartesianOf cartesianAt within radians k sineOf cosineOf table shape figureOf ellipsoidOf primeVertical add sub mul div neg round ofInt ofBits
-all-positions = refl
-
 -- ---- origin, latitude, longitude, and the answer. First document 000's two examples (Kedah and Perlis), then an origin itself; at the end exactly 4 degrees and
 -- one unit more
 record Point : Type 0 where
@@ -88,6 +84,11 @@ abbrev laid-points : List Point → List Projected
 laid-points [] = []
 laid-points (p ∷ ps) = p .laid ∷ laid-points ps
 
-all-points : found-points points ≡ laid-points points
-unfolding cassiniOf cassiniAt cassiniWith originMade within radians metres k sineOf cosineOf table shape figureOf ellipsoidOf primeVertical arcWith meridianArc add sub mul div neg round ofInt ofBits
-all-points = refl
+-- ---- each answered as it should be
+record Worked : Type 0 where
+  positions : found positions ≡ answers positions
+  points : found-points points ≡ laid-points points
+
+worked : Worked
+unfolding cartesianOf cassiniOf within radians metres sineOf cosineOf primeVertical meridianArc add sub mul div neg round ofInt ofBits
+worked = record { positions = refl; points = refl }

@@ -5,11 +5,11 @@ use native.Mathlib.Nat.{le-trans, le-of-eq, le-of-lt, not-le-of-lt, mul-comm, mu
 use native.Mathlib.Omega.{arith}
 use mathlib.Core.Bool.{Bool, true, false, not, _&&_, Bool·beq, cond}
 use lib.Dec.{T, leb, ltb, leb→le, ltb→lt, nltb→le, nleb→lt}
-use lib.Ieee.{Float, binary64, round, add, sub}
+use lib.Ieee.{Float, binary64, round, add}
 use lib.Ieee.Scale.{finite}
 use lib.Ieee.Positive.{num, den, den-pos, through}
 use Rattle.bounds.proofs.Size.{Under, under-trans, sign, sign-round, round-size, add-is, sum-elim, sum-like, sum-unlike}
-use Rattle.bounds.proofs.Among.{Side, untold, told, Sided, Ends, Among, negE, is-finite, neg-among}
+use Rattle.bounds.proofs.Among.{Side, untold, told, Sided, Ends, Among, is-finite}
 
 -- ---- the ends' operations
 -- |a| + |b|, |a| - |b| or 0, each rounded
@@ -271,8 +271,3 @@ module _ {x y : Float} {I J : Ends} (p : Among x I) (q : Among y J) where
 pub add-among : {x y : Float} {I J : Ends} → Among x I → Among y J → T (finite (addE I J .hi)) → Among (add binary64 x y) (addE I J)
 unfolding addE
 add-among {x} {y} {I} {J} p q f = by-sides p q (I .side) (J .side) (p .sided) (q .sided) f
-
--- ---- x - y
-pub sub-among : {x y : Float} {I J : Ends} → Among x I → Among y J → T (finite (addE I (negE J) .hi)) → Among (sub binary64 x y) (addE I (negE J))
-unfolding sub
-sub-among p q f = add-among p (neg-among q) f

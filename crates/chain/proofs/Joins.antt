@@ -5,19 +5,22 @@ use mathlib.Core.List.{List, [], _∷_, _++_}
 use Prim.Native.Nat.{ℕ, zero, suc, _+_, _-_, _<_, _≤_}
 use native.Mathlib.Nat as NatL
 use native.Mathlib.Omega.{arith}
-use borrow.Author.Tests.{ltb-false, eq-eqb, ne-eqb}
+use borrow.Author.Tests.{ltb-false, le-ltb, eq-eqb, ne-eqb}
 use lib.Dec.{T, ltb}
-use lib.ListN.{length, getD, take, drop, length-take, length-append, length-drop}
+use lib.ListN.{length, getD, drop, length-take, length-append, length-drop}
 use lib.Seq.{getD-append-add, getD-take, getD-drop}
 use Rattle.refusal.specs.Order.{first}
-use Rattle.refusal.proofs.Orders.{numbered, passed, stop, on, both-pass, head-holds, step-passed}
+use Rattle.refusal.proofs.Orders.{numbered, passed, stop, on, first-append, both-pass, head-holds, step-passed}
+use Rattle.ranges.specs.Ranges.{equal}
+use Rattle.ranges.proofs.Ranges.{equal-is, equal-self}
 use Rattle.chain.specs.declared.Realization.{Realization}
 use Rattle.chain.specs.declared.Step.{Step}
 use Rattle.chain.specs.declared.Chain.{Chain}
+use Rattle.chain.specs.declared.Joined.{Joined}
 use Rattle.chain.specs.Faults.{sameRealization, chainTests, stepsOf}
 use Rattle.chain.specs.Convert.{startOf, endOf}
 use Rattle.chain.specs.Join.{noStep, meet, together, pairTests, joinTests, joinedSteps, joinedOf, noneOf, joinFault, joinOf}
-use Rattle.chain.proofs.Keeping.{same-self}
+use Rattle.chain.proofs.Within.{same-self}
 use Rattle.chain.proofs.Accepted.{numbered-steps, chain-passed}
 
 -- ---- whether they meet, as the code finds it
@@ -27,6 +30,14 @@ met z ss [] = same-self (endOf z ss)
 met z ss (t ∷ ts) = refl
 
 -- ---- what decides
+-- two chains without fault that meet, of at most eight steps together and of one profile
+pub record Joinable (c d : Chain) : Type 0 where
+  pub good : first (chainTests c) ≡ 0
+  pub other : first (chainTests d) ≡ 0
+  pub meets : meet (stepsOf c) (stepsOf d) ≡ true
+  pub few : together c d ≤ 8
+  pub like : c .profile ≡ d .profile
+
 module _ (c d : Chain) where
   all-first : T (numbered (chainTests c))
   all-first = numbered-steps (c .profile) (stepsOf c)
@@ -50,15 +61,40 @@ module _ (c d : Chain) where
     unfolding joinFault
     by-pair other = sym (past-first ∙ on (chainTests d) _ (passed (chainTests d) all-second other))
 
-  -- what two chains keep that are not refused: each at most eight steps, and so the two
-  pub accepted-few : joinFault c d ≡ 0 → (c .length ≤ 8) × (d .length ≤ 8) × (together c d ≤ 8)
+  -- what two chains keep that are not refused
+  pub joinable : joinFault c d ≡ 0 → Joinable c d
   unfolding joinFault
-  accepted-few e =
+  joinable e =
       let p = both-pass (chainTests c) _ all-first e in
       let q = both-pass (chainTests d) _ all-second (p .1) in
       let m = head-holds (meet (stepsOf c) (stepsOf d)) _ _ (q .1) in
       let n = step-passed (ltb 8 (together c d)) _ _ tt (m .1) in
-      (chain-passed c (p .0) .0, chain-passed d (q .0) .0, ltb-false 8 (together c d) (n .0))
+      record {
+        good = p .0;
+        other = q .0;
+        meets = m .0;
+        few = ltb-false 8 (together c d) (n .0);
+        like = equal-is (c .profile) (d .profile) (head-holds (equal (c .profile) (d .profile)) _ 0 (n .1) .0);
+      }
+
+  -- and two that keep it are not refused
+  unrefused : Joinable c d → joinFault c d ≡ 0
+  unfolding joinFault
+  unrefused p =
+      first-append (chainTests c) _ all-first
+      ∙ rw (p .good) (first-append (chainTests d) _ all-second ∙ rw (p .other, p .meets, le-ltb 8 (together c d) (p .few), ← p .like, equal-self (c .profile)))
+
+  pub accepted : joinOf c d .refusal ≡ 0 → Joinable c d
+  unfolding joinOf
+  accepted e = joinable e
+
+  pub accepts : Joinable c d → joinOf c d .refusal ≡ 0
+  unfolding joinOf
+  accepts p = unrefused p
+
+  -- each has at most eight steps, and so have the two
+  pub accepted-few : joinFault c d ≡ 0 → (c .length ≤ 8) × (d .length ≤ 8) × (together c d ≤ 8)
+  accepted-few e = let p = joinable e in (chain-passed c (p .good) .0, chain-passed d (p .other) .0, p .few)
 
   pub accepted-lengths : joinOf c d .refusal ≡ 0 → (c .length ≤ 8) × (d .length ≤ 8) × (together c d ≤ 8)
   unfolding joinOf
@@ -71,6 +107,9 @@ module _ (c d : Chain) where
   pub accepted-is : joinFault c d ≡ 0 → joinOf c d ≡ record { chain = joinedOf c d; refusal = joinFault c d }
   unfolding joinOf
   accepted-is e = rw (eq-eqb (joinFault c d) 0 e)
+
+  pub is-joined : Joinable c d → joinOf c d .chain ≡ joinedOf c d
+  is-joined p = ap (λ (j : Joined). j .chain) (accepted-is (unrefused p))
 
 -- ---- what stands where
 append-below : (xs ys : List Step) (i : ℕ) → i < length xs → getD (xs ++ ys) i noStep ≡ getD xs i noStep

@@ -2,13 +2,12 @@
 use mathlib.Core.Path.{_≡_, refl, _∙_, ap}
 use mathlib.Core.Bool.{true}
 use mathlib.Core.List.{List, [], _∷_, _++_}
-use Prim.Native.Nat.{ℕ, zero, suc, _≤_, _<_}
+use Prim.Native.Nat.{ℕ, zero, suc, _<_}
 use native.Mathlib.Omega.{arith}
-use borrow.Author.Tests.{le-leb}
 use lib.Dec.{T}
-use lib.IntN.{ℤ, pos, negsuc, natAbs}
+use lib.IntN.{ℤ}
 use Rattle.refusal.specs.Order.{first, unless}
-use Rattle.refusal.proofs.Orders.{head-holds, short, first-short, short-append}
+use Rattle.refusal.proofs.Orders.{short, first-short, short-append}
 use Rattle.chain.specs.declared.Position.{Position}
 use Rattle.chain.specs.declared.Realization.{Realization}
 use Rattle.chain.specs.declared.Point.{Point}
@@ -16,21 +15,16 @@ use Rattle.chain.specs.declared.Step.{Step}
 use Rattle.chain.specs.declared.Chain.{Chain}
 use Rattle.chain.specs.declared.Answer.{Answer}
 use Rattle.chain.specs.declared.Answer.the-variants.{Converted, Refused}
-use Rattle.chain.specs.Faults.{realizationRange, agrees, hasDatum, hasKind, hasStep, givenPosition, inArea, labelRange, pointRange, pointTests, pointFault, laterTests, stepsTests, chainTests, stepsOf}
+use Rattle.chain.specs.Faults.{hasDatum, hasKind, hasStep, givenPosition, inArea, pointTests, pointFault, laterTests, stepsTests, chainTests, stepsOf}
 use Rattle.chain.specs.Axes.{onX, onY, onZ}
 use Rattle.chain.specs.Convert.{Walk, at, left, walk, forwardStep, startOf, endOf, placeTests, conversionTests, movedTo, answerOf, convert, forwardOf}
 use Rattle.ranges.proofs.Ranges.{all, up-to-holds}
 use Rattle.chain.proofs.Within.{area-small}
+use Rattle.chain.proofs.PointLaws.{Dated, point-ok, faultless}
 use Rattle.chain.proofs.Walk.{walk-area}
 use Rattle.chain.proofs.Accepted.{Sound, Held, converted}
 
 -- ---- a converted point
--- a datum at an epoch, as a line under a profile may say it
-pub record Dated (y : ℤ) (r : Realization) : Type 0 where
-  pub range : realizationRange r ≡ true
-  pub agree : agrees r ≡ true
-  pub had : hasDatum y r ≡ true
-
 -- where a chain ends
 pub end-dated : (y : ℤ) (r : Realization) (ss : List Step) → Sound ss → Held y ss → Dated y r → Dated y (endOf r ss)
 unfolding endOf hasStep
@@ -45,22 +39,17 @@ pub area-given : (p : Position) → inArea p ≡ true → givenPosition p ≡ tr
 unfolding givenPosition
 area-given p h = let s = area-small p h in rw (up-to-holds 640000000000 (p .x) (s .on onX), up-to-holds 640000000000 (p .y) (s .on onY), up-to-holds 640000000000 (p .z) (s .on onZ))
 
-pub faultless : (y : ℤ) (p : Point) → labelRange (p .label) ≡ true → Dated y (p .realization) → givenPosition (p .position) ≡ true → pointFault y p ≡ 0
-unfolding pointFault pointRange
-faultless y p i d g = rw (i, d .range, g, d .agree, d .had)
-
 module _ (c : Chain) (p : Point) where
   pub converted-faultless : (q : Point) → pointFault (c .profile) p ≡ 0 → forwardOf c p ≡ Converted q → pointFault (c .profile) q ≡ 0
-  unfolding forwardOf pointFault pointRange
+  unfolding forwardOf
   converted-faultless q f e =
       let ss = stepsOf c in
       let a = converted c p (startOf (p .realization) ss) (endOf (p .realization) ss) (walk forwardStep ss (p .position)) q e in
-      let h = head-holds (pointRange p) 1 _ f in
-      let r = all (labelRange (p .label)) (realizationRange (p .realization)) (givenPosition (p .position)) (h .0) in
-      let g = head-holds (agrees (p .realization)) 2 _ (h .1) in
-      let d : Dated (c .profile) (p .realization) = record { range = r .1; agree = g .0; had = head-holds (hasDatum (c .profile) (p .realization)) 24 0 (g .1) .0 } in
+      let o = point-ok (c .profile) p f in
       let i = walk-area forwardStep ss (p .position) (q .position) (a .accept .area) (a .ended) in
-      ap (pointFault (c .profile)) (a .is) ∙ faultless (c .profile) (movedTo p (endOf (p .realization) ss) (q .position)) (r .0) (end-dated (c .profile) (p .realization) ss (a .accept .sound) (a .accept .held) d) (area-given (q .position) i)
+      ap (pointFault (c .profile)) (a .is)
+      ∙ faultless (c .profile) (movedTo p (endOf (p .realization) ss) (q .position))
+      (record { label = o .label; dated = end-dated (c .profile) (p .realization) ss (a .accept .sound) (a .accept .held) (o .dated); given = area-given (q .position) i })
 
   -- ---- a refusal
   short-later : (s : Step) (ss : List Step) → T (short (laterTests (c .profile) s ss))

@@ -9,7 +9,7 @@ use lib.IntN.{ℤ}
 use lib.ListN.{length, length-take, length-append}
 use lib.Seq.{take-length}
 use Rattle.refusal.specs.Order.{first, unless}
-use Rattle.refusal.proofs.Orders.{orElse, first-append, both-pass, head-holds, passed, stop, on, unless-some, unless-none}
+use Rattle.refusal.proofs.Orders.{first-append, both-pass, head-holds, passed, stop, on, unless-some, unless-none}
 use Rattle.ranges.specs.Ranges.{profileRange}
 use Rattle.chain.specs.declared.Realization.{Realization}
 use Rattle.chain.specs.declared.Point.{Point}
@@ -24,8 +24,9 @@ use Rattle.chain.specs.Faults.{stepFault, pointFault, sameRealization, p
 use Rattle.chain.specs.Convert.{Walk, walk, forwardStep, inverseStep, answerOf, startOf, endOf, joins, moreTests, placeTests, convert, forwardOf, inverseOf}
 use Rattle.chain.specs.Prepared.{extendedBy, chainOf, Holds}
 use Rattle.chain.specs.PointRow.{convertOf, noNumbers, extendedAll, readyOf, convertPrepared, convertReady}
+use Rattle.chain.proofs.Within.{same-self}
 use Rattle.chain.proofs.Accepted.{numbered-steps, chain-passed, entry, by-chain, by-point}
-use Rattle.chain.proofs.Keeping.{same-self, extended-holds, holds-none, prepared-forward, prepared-inverse}
+use Rattle.chain.proofs.Keeping.{extended-holds, holds-none, prepared-forward, prepared-inverse}
 
 -- ---- of steps that pass, each passes by itself and begins where those before it end
 module _ (y : ℤ) (t : Step) (ts : List Step) where

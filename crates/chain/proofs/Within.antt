@@ -5,7 +5,7 @@ use Prim.Native.Nat.{_≤_}
 use lib.IntN.{pos, negℤ, natAbs}
 use lib.Dec.{lit≤}
 use Rattle.ranges.specs.Ranges.{equal, areaX, areaY, areaZ}
-use Rattle.ranges.proofs.Ranges.{both, all, sized, equal-is}
+use Rattle.ranges.proofs.Ranges.{both, all, sized, equal-is, equal-self}
 use Rattle.chain.specs.declared.Position.{Position}
 use Rattle.chain.specs.declared.Realization.{Realization}
 use Rattle.chain.specs.Faults.{sameRealization, inArea}
@@ -16,6 +16,10 @@ unfolding sameRealization
 same-is r t e =
     let f = both (equal (r .datum) (t .datum)) (equal (r .epoch) (t .epoch)) e in
     (equal-is (r .datum) (t .datum) (f .0), equal-is (r .epoch) (t .epoch) (f .1))
+
+pub same-self : (r : Realization) → sameRealization r r ≡ true
+unfolding sameRealization
+same-self r = rw (equal-self (r .datum), equal-self (r .epoch))
 
 -- a position in the area is not too large for any step
 pub area-small : (p : Position) → inArea p ≡ true → Small 640000000000 p

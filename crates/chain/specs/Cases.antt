@@ -14,7 +14,12 @@ use Rattle.chain.specs.declared.Kind.the-variants.{Shift, Velocity, Burs
 use Rattle.chain.specs.declared.Chain.{Chain}
 use Rattle.chain.specs.declared.Answer.{Answer}
 use Rattle.chain.specs.declared.Answer.the-variants.{Converted}
-use Rattle.chain.specs.Convert.{forwardOf, inverseOf}
+use Rattle.ranges.specs.Ranges.{within}
+use Rattle.rounding.specs.Nearest.{toEven, rounded}
+use Rattle.chain.specs.Faults.{realizationRange, agrees, sameRealization, hasDatum, hasKind, hasStep, givenPosition, inArea, labelRange, pointRange, kindRange, stepRange, kindRule}
+use Rattle.chain.specs.Rows.{rowIndex, rowOf}
+use Rattle.chain.specs.Parts.{stepRound, linear, part, gain, shiftParts, velocityParts, rotation11, scaledRotation, bursaWolfParts, atEpoch, frameParts, kindParts, plus, minus, forwardBy, again, inverseBy}
+use Rattle.chain.specs.Convert.{walk, startOf, endOf, answerOf, convert, forwardOf, inverseOf}
 
 -- ---- how a case is written
 -- −n
@@ -58,7 +63,9 @@ pub record Case : Type 0 where
   pub given : Position
   pub found : Position
 
-abbrev pub answer : Case → Answer
+-- what is answered. Opened, it computes: the line names all that a conversion is worked out by, so that a proof that works cases out names this alone
+unfoldable pub answer : Case → Answer
+unfolding toEven rounded within realizationRange agrees sameRealization hasDatum hasKind hasStep givenPosition inArea labelRange pointRange kindRange stepRange kindRule rowIndex rowOf stepRound linear part gain shiftParts velocityParts rotation11 scaledRotation bursaWolfParts atEpoch frameParts kindParts plus minus forwardBy again inverseBy walk startOf endOf answerOf convert forwardOf inverseOf
 answer c = over (c .way)
   where
     over : Way → Answer

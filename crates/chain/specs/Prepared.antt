@@ -19,8 +19,8 @@ use Rattle.chain.specs.declared.Step.{Step}
 use Rattle.chain.specs.declared.Chain.{Chain}
 use Rattle.chain.specs.declared.steps.Ready.{Ready}
 use Rattle.chain.specs.declared.steps.Ready.the-variants.{Fixed, Turned, Scaled}
-use Rattle.chain.specs.declared.steps.kept.Row.{Row}
-use Rattle.chain.specs.declared.steps.kept.Moved.{Moved}
+use Rattle.chain.specs.declared.steps.kept.rows.Row.{Row}
+use Rattle.chain.specs.declared.steps.kept.rows.Moved.{Moved}
 use Rattle.chain.specs.declared.Answer.{Answer}
 use Rattle.chain.specs.declared.Answer.the-variants.{Converted, Refused}
 use Rattle.chain.specs.Faults.{inArea, sameRealization, stepTests, chainTests}

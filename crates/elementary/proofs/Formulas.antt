@@ -1,5 +1,6 @@
 -- The functions as data (`Formula`), each of its variable 0, so that bounds of formulas that call them can be computed; and bounds of each by one computed test.
 -- Assumes nothing.
+use mathlib.Core.Path.{_≡_, refl}
 use mathlib.Core.List.{List, [], _∷_}
 use Prim.Native.Nat.{ℕ}
 use lib.Dec.{T}
@@ -7,7 +8,10 @@ use lib.Ieee.{Float}
 use Rattle.bounds.proofs.Among.{Ends, Among}
 use Rattle.bounds.proofs.Formula.{Formula, var, lit, opp, plus, minus, times, over, square, bind, call, steps, none, also, value, tested, proved}
 use Rattle.elementary.specs.Floats.{near, #}
-use Rattle.elementary.specs.Series.{sineTable, cosineTable, arctanTable, sineOf, cosineOf}
+use Rattle.elementary.specs.Series.{sineTable, cosineTable, arctanTable, sineOf, cosineOf, arctanSmallOf}
+use Rattle.elementary.specs.Root.{rootOf}
+use Rattle.elementary.specs.Half.{arctangentOf, arcsineOf}
+use Rattle.elementary.specs.Hyperbolic.{sinhOf, coshOf, arctanSeriesOf, artanhSmallOf, artanhOf}
 
 abbrev pub n : ℕ → Formula
 n i = lit (# i)
@@ -65,11 +69,56 @@ artanhF = halfF (minus (n 1) (square (var 0))) artanhSmallF
 abbrev pub arcsineF : Formula
 arcsineF = halfF (minus (n 1) (square (var 0))) arctanSmallF
 
--- ---- bounds: `value` of each is its function
+-- ---- each function is the value of its formula
+module _ (x : Float) where
+  pub sine-is : sineOf x ≡ value (x ∷ []) sineF
+  unfolding value sineOf
+  sine-is = refl
+
+  pub cosine-is : cosineOf x ≡ value (x ∷ []) cosineF
+  unfolding value cosineOf
+  cosine-is = refl
+
+  pub arctan-small-is : arctanSmallOf x ≡ value (x ∷ []) arctanSmallF
+  unfolding value arctanSmallOf
+  arctan-small-is = refl
+
+  pub root-is : rootOf x ≡ value (x ∷ []) rootF
+  unfolding value rootOf
+  root-is = refl
+
+  pub sinh-is : sinhOf x ≡ value (x ∷ []) sinhF
+  unfolding value sinhOf
+  sinh-is = refl
+
+  pub cosh-is : coshOf x ≡ value (x ∷ []) coshF
+  unfolding value coshOf
+  cosh-is = refl
+
+  -- of the argument's square, or of what stands for it
+  pub arctan-series-is : arctanSeriesOf x ≡ value (x ∷ []) (hornerF (var 0) arctanTable)
+  unfolding value arctanSeriesOf
+  arctan-series-is = refl
+
+  pub artanh-small-is : artanhSmallOf x ≡ value (x ∷ []) artanhSmallF
+  unfolding value artanhSmallOf
+  artanh-small-is = refl
+
+  pub arctangent-is : arctangentOf x ≡ value (x ∷ []) arctangentF
+  unfolding value arctangentOf
+  arctangent-is = refl
+
+  pub artanh-is : artanhOf x ≡ value (x ∷ []) artanhF
+  unfolding value artanhOf
+  artanh-is = refl
+
+  pub arcsine-is : arcsineOf x ≡ value (x ∷ []) arcsineF
+  unfolding value arcsineOf
+  arcsine-is = refl
+
+-- ---- bounds
 pub sine-among : (I J : Ends) {x : Float} → T (tested (I ∷ []) sineF J) → Among x I → Among (sineOf x) J
-unfolding value sineOf
-sine-among I J t h = proved (also h none) sineF J t
+sine-among I J {x} t h = rw (sine-is x) (proved (also h none) sineF J t)
 
 pub cosine-among : (I J : Ends) {x : Float} → T (tested (I ∷ []) cosineF J) → Among x I → Among (cosineOf x) J
-unfolding value cosineOf
-cosine-among I J t h = proved (also h none) cosineF J t
+cosine-among I J {x} t h = rw (cosine-is x) (proved (also h none) cosineF J t)

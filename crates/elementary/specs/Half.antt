@@ -5,7 +5,9 @@ use Rattle.elementary.specs.Series.{arctanSmallOf}
 use Rattle.elementary.specs.Root.{rootOf}
 
 unfoldable pub arctangentOf : Float → Float
+unfolding arctanSmallOf rootOf
 arctangentOf x = # 2 ⊗ arctanSmallOf (x ⊘ (# 1 ⊕ rootOf (# 1 ⊕ x ⊗ x)))
 
 unfoldable pub arcsineOf : Float → Float
+unfolding arctanSmallOf rootOf
 arcsineOf x = # 2 ⊗ arctanSmallOf (x ⊘ (# 1 ⊕ rootOf (# 1 ⊖ x ⊗ x)))

@@ -16,7 +16,9 @@ unfoldable pub arctanSeriesOf : Float → Float
 arctanSeriesOf y = horner y arctanTable
 
 unfoldable pub artanhSmallOf : Float → Float
+unfolding arctanSeriesOf
 artanhSmallOf x = arctanSeriesOf (neg (x ⊗ x)) ⊗ x
 
 unfoldable pub artanhOf : Float → Float
+unfolding artanhSmallOf rootOf
 artanhOf x = # 2 ⊗ artanhSmallOf (x ⊘ (# 1 ⊕ rootOf (# 1 ⊖ x ⊗ x)))

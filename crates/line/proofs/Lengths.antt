@@ -2,22 +2,21 @@
 use Prim.Native.Nat.{ℕ, zero, suc, _+_, _*_, _/_, _%_, _^_, _≤_, _<_}
 use mathlib.Core.Path.{_≡_, refl, sym, ap}
 use mathlib.Core.List.{[], _∷_}
-use mathlib.Core.Bool.{Bool, true, false, not, _&&_, _||_}
+use mathlib.Core.Bool.{Bool, true, false, _||_}
 use lib.Dec.{eqb}
 use lib.IntN.{ℤ, pos, negsuc, natAbs}
 use lib.ListN.{length, length-append}
 use native.Mathlib.Decide.{decLt}
 use native.Mathlib.Nat.{pow-suc}
 use native.Mathlib.Omega.{arith}
-use Rattle.refusal.specs.Order.{pick, first, _gives_}
-use Rattle.refusal.specs.Numbers as refusal
+use Rattle.refusal.specs.Order.{pick}
 use Rattle.chain.specs.declared.Id.{Id}
 use Rattle.chain.specs.declared.Point.{Point}
 use Rattle.ranges.proofs.Ranges.{natural, up-to}
-use Rattle.ranges.specs.Ranges.{within, issueRange, orderRange, datumRange, epochRange, givenRange}
-use Rattle.chain.specs.Faults.{realizationRange, agrees, givenPosition, labelRange, pointRange, pointFault}
+use Rattle.ranges.specs.Ranges.{within, givenRange}
+use Rattle.chain.specs.Faults.{pointFault}
+use Rattle.chain.proofs.PointLaws.{InRanges, in-ranges}
 use Rattle.line.specs.Text.{decimal, integer, highest, letters, nameText, pointText, projectedText, refusalText}
-use Rattle.line.proofs.Capped.{never, halves, passed}
 use Rattle.line.proofs.Texts as T
 
 -- ---- numbers and names
@@ -60,39 +59,11 @@ length-name id = omega (arith, length-append (letters 8 (id .high)) (letters 8 (
 
 -- ---- lines
 module _ (y : ℤ) (p : Point) (none : pointFault y p ≡ 0) where
-  in-range : pointRange p ≡ true
-  unfolding pointFault
-  in-range =
-      go (pointRange p) (passed (not (pointRange p)) refusal.range _ (λ q. omega arith) none .0)
-    where
-      go : (b : Bool) → not b ≡ false → b ≡ true
-      go true e = refl
-      go false e = absurd (never (sym e))
-
-  parts : (labelRange (p .label) ≡ true) × (realizationRange (p .realization) ≡ true) × (givenPosition (p .position) ≡ true)
-  unfolding pointRange
-  parts =
-      let s = halves (labelRange (p .label) && realizationRange (p .realization)) (givenPosition (p .position)) in-range in
-      let t = halves (labelRange (p .label)) (realizationRange (p .realization)) (s .0) in
-      (t .0, t .1, s .1)
-
-  labelled : (issueRange (p .label .issue) ≡ true) × (orderRange (p .label .order) ≡ true)
-  unfolding labelRange
-  labelled = halves (issueRange (p .label .issue)) (orderRange (p .label .order)) (parts .0)
-
-  times : (datumRange (p .realization .datum) ≡ true) × (epochRange (p .realization .epoch) ≡ true)
-  unfolding realizationRange
-  times = halves (datumRange (p .realization .datum)) (epochRange (p .realization .epoch)) (parts .1)
-
-  places : (givenRange (p .position .x) ≡ true) × (givenRange (p .position .y) ≡ true) × (givenRange (p .position .z) ≡ true)
-  unfolding givenPosition
-  places =
-      let s = halves (givenRange (p .position .x) && givenRange (p .position .y)) (givenRange (p .position .z)) (parts .2) in
-      let t = halves (givenRange (p .position .x)) (givenRange (p .position .y)) (s .0) in
-      (t .0, t .1, s .1)
+  numbers : InRanges p
+  numbers = in-ranges y p none
 
   length-epoch : length (integer (p .realization .epoch)) ≤ 7
-  length-epoch = go (within (pos 0) (p .realization .epoch) (pos 0)) refl (times .1)
+  length-epoch = go (within (pos 0) (p .realization .epoch) (pos 0)) refl (numbers .epoch)
     where
       go : (b : Bool) → within (pos 0) (p .realization .epoch) (pos 0) ≡ b → (b || within (pos 1980000) (p .realization .epoch) (pos 2100000)) ≡ true → length (integer (p .realization .epoch)) ≤ 7
       go true q t = omega (arith, length-plus 0 0 0 (p .realization .epoch) (omega arith) q)
@@ -106,7 +77,7 @@ module _ (y : ℤ) (p : Point) (none : pointFault y p ≡ 0) where
   length-point =
       rw (sym (T.point-is p))
       (simp length-append
-      (omega (arith, length-name (p .label .id), length-plus 4 1 65535 (p .label .issue) (omega arith) (labelled .0), length-plus 0 1 4 (p .label .order) (omega arith) (labelled .1), length-plus 1 1 10 (p .realization .datum) (omega arith) (times .0), length-epoch, length-coordinate (p .position .x) (places .0), length-coordinate (p .position .y) (places .1), length-coordinate (p .position .z) (places .2))))
+      (omega (arith, length-name (p .label .id), length-plus 4 1 65535 (p .label .issue) (omega arith) (numbers .issue), length-plus 0 1 4 (p .label .order) (omega arith) (numbers .order), length-plus 1 1 10 (p .realization .datum) (omega arith) (numbers .datum), length-epoch, length-coordinate (p .position .x) (numbers .x), length-coordinate (p .position .y) (numbers .y), length-coordinate (p .position .z) (numbers .z))))
 
 -- a projected line of numbers below 10^18 in size: at most 60 bytes
 pub length-projected : (id : Id) (e n : ℤ) → natAbs e < 10 ^ 18 → natAbs n < 10 ^ 18 → length (projectedText id e n) ≤ 60

@@ -82,10 +82,6 @@ pub all-one : (b : ℕ) → isNameByte b ≡ true → allNameBytes (b ∷ []) �
 unfolding allNameBytes
 all-one b h = rw h
 
-pub all-none : allNameBytes [] ≡ true
-unfolding allNameBytes
-all-none = refl
-
 -- a tab is no byte of a name, and neither is what stands past the end
 not-tab : (b : ℕ) → isNameByte b ≡ true → b ≡ 9 → ⊥
 not-tab b h e = let z : _≡_ {A = Bool} false true = ap isNameByte (sym e) ∙ h in let w : _≡_ {A = ℕ} 0 1 = cc in omega arith

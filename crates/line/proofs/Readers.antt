@@ -11,12 +11,13 @@ use lib.ListN.{length}
 use native.Mathlib.Omega.{arith}
 use borrow.Author.Tests.{eqb-true}
 use Rattle.refusal.specs.Order.{pick}
-use Rattle.refusal.proofs.Orders.{first-short}
 use Rattle.chain.specs.declared.Point.{Point}
 use Rattle.chain.specs.declared.Step.{Step}
-use Rattle.chain.specs.Faults.{pointTests, pointFault, stepTests, stepFault}
+use Rattle.chain.specs.Faults.{pointFault, stepFault}
+use Rattle.chain.proofs.PointLaws.{point-fault-short, step-fault-short}
 use Rattle.angle.specs.declared.OriginNumbers.{OriginNumbers}
-use Rattle.angle.specs.Ranges.{angleTests, originTests, originFault, anglesFault}
+use Rattle.angle.specs.Ranges.{originFault}
+use Rattle.angle.proofs.Outcomes.{angles-fault-short, origin-fault-short}
 use Rattle.line.specs.declared.Fault.{Fault}
 use Rattle.line.specs.declared.Geodetic.{Geodetic}
 use Rattle.line.specs.declared.PointLine.{PointLine}
@@ -29,12 +30,17 @@ use Rattle.line.specs.declared.GeodeticLine.{GeodeticLine}
 use Rattle.line.specs.declared.GeodeticLine.the-variants as geodetic-line
 use Rattle.line.specs.declared.EditionLine.{EditionLine}
 use Rattle.line.specs.declared.EditionLine.the-variants as edition-line
+use Rattle.line.specs.declared.GridHeader.{GridHeader}
+use Rattle.line.specs.declared.GridLine.the-variants as grid-line
+use Rattle.line.specs.declared.Parts.{Parts}
+use Rattle.line.specs.declared.NodeLine.the-variants as node-line
 use Rattle.line.specs.Fields.{longestLine, body, fields, Form, ends, field, taken, onward, filled, inBody, said}
 use Rattle.line.specs.Name.{nameOf}
 use Rattle.line.specs.Number.{numberOf}
-use Rattle.line.specs.Forms.{pointForm, stepForm, originForm, geodeticForm, editionForm}
+use Rattle.line.specs.Forms.{pointForm, stepForm, originForm, geodeticForm, editionForm, gridForm, nodeForm}
+use Rattle.line.specs.Reading.{cappedZ, cappedHeader, cappedParts}
 use Rattle.line.specs.Malformed.{Shape, editionShape, unknownShape, faultOf}
-use Rattle.line.specs.Readers.{strangeFault, readAs, readPoint, readStep, readOrigin, geodeticFault, readGeodetic, editionAs, readEdition}
+use Rattle.line.specs.Readers.{strangeFault, readAs, readPoint, readStep, readOrigin, geodeticFault, readGeodetic, editionAs, readEdition, readGridHeader, hyphenLine, readNode}
 use Rattle.line.proofs.Malformed.{nothing, spread, fields-spread, body-length, fault-short, fault-inside, fault-low}
 
 -- ---- a form of n fields, none of which is read from no bytes
@@ -75,23 +81,6 @@ geodetic-long : (line : List ℕ) (g : Geodetic) → said geodeticForm line ≡ 
 unfolding Asks geodeticForm nameOf numberOf
 geodetic-long line g e = said-long 4 geodeticForm (refl, λ _. (refl, λ _. (refl, λ _. (refl, λ _. tt)))) line g e
 
--- ---- no fault has a number of three digits
-point-fault-short : (y : ℤ) (p : Point) → pointFault y p < 100
-unfolding pointFault
-point-fault-short y p = first-short (pointTests y p) tt
-
-step-fault-short : (y : ℤ) (s : Step) → stepFault y s < 100
-unfolding stepFault
-step-fault-short y s = first-short (stepTests y s) tt
-
-origin-fault-short : (o : OriginNumbers) → originFault o < 100
-unfolding originFault
-origin-fault-short o = first-short (originTests o) tt
-
-geodetic-fault-short : (g : Geodetic) → geodeticFault g < 100
-unfolding anglesFault
-geodetic-fault-short g = first-short (angleTests (g .latitude) (g .longitude)) tt
-
 -- ---- what a reader can answer: a record with no fault from a line of good form; malformed; a number of the refusal table. Whatever holds of the three
 -- holds of what it answers
 module _ {A R : Type 0} (faultOf : A → ℕ) (small : (a : A) → faultOf a < 100) (good : A → R) (refused : ℕ → R) (malformed : R) (P : R → Type 0) where
@@ -130,7 +119,7 @@ origin-outcome P line G M B = outcome originFault origin-fault-short origin-line
 
 pub geodetic-outcome : (P : GeodeticLine → Type 0) (line : List ℕ) → ((g : Geodetic) → 8 ≤ length line → P (geodetic-line.Geodetic g)) → ((f : Fault) → Small line f → P (geodetic-line.Malformed f)) → ((n : ℕ) → n < 100 → P (geodetic-line.Refused n)) → P (readGeodetic line)
 unfolding readGeodetic
-geodetic-outcome P line G M B = outcome geodeticFault geodetic-fault-short geodetic-line.Geodetic geodetic-line.Refused _ P (said geodeticForm line) (λ g e f. G g (geodetic-long line g e)) (M _ (fault-small _ line)) B
+geodetic-outcome P line G M B = outcome geodeticFault (λ g. angles-fault-short (g .latitude) (g .longitude)) geodetic-line.Geodetic geodetic-line.Refused _ P (said geodeticForm line) (λ g e f. G g (geodetic-long line g e)) (M _ (fault-small _ line)) B
 
 pub edition-outcome : (P : EditionLine → Type 0) (line : List ℕ) → ((y : ℤ) → P (edition-line.Edition y)) → ((f : Fault) → Small line f → P (edition-line.Malformed f)) → P (readEdition line)
 unfolding readEdition
@@ -149,3 +138,16 @@ step-sound y line s = step-outcome y (λ (r : StepLine). r ≡ step-line.Step s 
 
 pub origin-sound : (line : List ℕ) (o : OriginNumbers) → readOrigin line ≡ origin-line.Origin o → originFault o ≡ 0
 origin-sound line o = origin-outcome (λ (r : OriginLine). r ≡ origin-line.Origin o → originFault o ≡ 0) line (λ q f e. let z : q ≡ o = cc in ap originFault (sym z) ∙ f) (λ f h e. let z : _≡_ {A = ℕ} 0 1 = cc in absurd (omega arith)) (λ n h e. let z : _≡_ {A = ℕ} 0 1 = cc in absurd (omega arith))
+
+-- ---- a line that says a year, a header or a node's parts as its form has it is read as that, carried up to the cap
+pub edition-read : (line : List ℕ) (year : ℤ) → said editionForm line ≡ some year → readEdition line ≡ edition-line.Edition (cappedZ year)
+unfolding readEdition
+edition-read line year e = rw e
+
+pub header-read : (line : List ℕ) (g : GridHeader) → said gridForm line ≡ some g → readGridHeader line ≡ grid-line.Header (cappedHeader g)
+unfolding readGridHeader
+header-read line g e = rw e
+
+pub node-read : (line : List ℕ) (p : Parts) → hyphenLine line ≡ false → said nodeForm line ≡ some p → readNode line ≡ node-line.Parts (cappedParts p)
+unfolding readNode
+node-read line p h e = rw (h, e)

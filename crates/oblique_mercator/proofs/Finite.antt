@@ -5,8 +5,8 @@ use mathlib.Core.Bool.{Bool, true, false, not}
 use mathlib.Core.List.{List, [], _∷_}
 use Prim.Native.Nat.{ℕ, _*_, _≤_}
 use native.Mathlib.Omega.{arith}
-use lib.Dec.{T, lit≤, lit<}
-use lib.IntN.{ℤ, pos, negsuc, natAbs, _-ℤ_}
+use lib.Dec.{T, lit≤}
+use lib.IntN.{ℤ, pos, negsuc, _-ℤ_}
 use lib.Ieee.{Float, binary64, round, neg, div, ofInt}
 use lib.Ieee.Scale.{finite}
 use lib.Ieee.Positive.{num, den}
@@ -17,9 +17,9 @@ use Rattle.ranges.proofs.Ranges.{Natural, natural}
 use Rattle.bounds.proofs.Among.{untold, told, Ends, Among, is-finite}
 use Rattle.bounds.proofs.Formula.{All, none, also, value, tested, proved, Fine, every}
 use Rattle.bounds.proofs.Zero.{ranged, wholes, told-among, whole-among, ofInt-among}
-use Rattle.elementary.specs.Floats.{near, #, whole}
+use Rattle.elementary.specs.Floats.{near, whole}
 use Rattle.angle.specs.Units.{k}
-use Rattle.angle.specs.declared.Projected.the-variants.{Metres, Refused}
+use Rattle.angle.specs.declared.Projected.the-variants.{Refused}
 use Rattle.angle.proofs.Sizes.{axis, eccentricity, shaped}
 use Rattle.angle.proofs.Wholes.{upto}
 use Rattle.oblique_mercator.specs.Parameters.{parametersRange}
@@ -51,13 +51,9 @@ accepted =
 abbrev planeB : Ends
 planeB = record { lo = near 0 1; hi = near 30000000 1; side = untold }
 
-east-test : T (tested accepted eastF planeB)
+plane-tests : T (tested accepted eastF planeB) × T (tested accepted northF planeB)
 unfolding tested round neg div k
-east-test = tt
-
-north-test : T (tested accepted northF planeB)
-unfolding tested round neg div k
-north-test = tt
+plane-tests = (tt, tt)
 
 -- ---- the whole numbers as f64s
 latitude-finite : T (finite (round binary64 false 2880000000 1))
@@ -107,7 +103,7 @@ module _ (p : Parameters) (lat lon : ℤ) (h : parametersRange p ≡ true) (a : 
 
   -- every f64 on the way is finite
   pub all-finite : Fine (given p lat lon) eastF × Fine (given p lat lon) northF
-  all-finite = (every all eastF planeB east-test, every all northF planeB north-test)
+  all-finite = (every all eastF planeB (plane-tests .0), every all northF planeB (plane-tests .1))
 
   at-most : (x : Float) → Among x planeB → AtMost 30000000 x
   unfolding round
@@ -118,7 +114,7 @@ module _ (p : Parameters) (lat lon : ℤ) (h : parametersRange p ≡ true) (a : 
   pub laid-bounded : PlaneBounded (planeAt (projectionMade p) lat lon)
   laid-bounded =
       subst PlaneBounded (sym (plane-is p lat lon))
-      (at-most (value (given p lat lon) eastF) (proved all eastF planeB east-test), at-most (value (given p lat lon) northF) (proved all northF planeB north-test))
+      (at-most (value (given p lat lon) eastF) (proved all eastF planeB (plane-tests .0)), at-most (value (given p lat lon) northF) (proved all northF planeB (plane-tests .1)))
 
 -- ---- whatever is refused, and whatever is answered
 pub bounded : statements.Bounded

@@ -1,17 +1,16 @@
 -- The way forward as data (`Formula`), of a, e2 and the whole numbers handed in as f64s: every step of the definitions in their order, each a variable from then on.
 -- `value` of both is the definition itself (`plane-is`). Assumes nothing.
-use mathlib.Core.Path.{_≡_, refl}
+use mathlib.Core.Path.{_≡_}
 use mathlib.Core.List.{List, [], _∷_, _++_}
 use lib.IntN.{ℤ, _-ℤ_}
 use lib.Ieee.{Float}
-use Rattle.bounds.proofs.Formula.{Formula, var, lit, opp, plus, minus, times, over, square, bind, call, steps, value}
+use Rattle.bounds.proofs.Formula.{Formula, var, lit, opp, plus, minus, times, over, square, call, steps, value}
 use Rattle.elementary.specs.Floats.{whole}
-use Rattle.elementary.specs.Series.{arctanTable, sineOf, cosineOf, arctanSmallOf}
-use Rattle.elementary.specs.Root.{rootOf}
-use Rattle.elementary.specs.Half.{arctangentOf, arcsineOf}
-use Rattle.elementary.specs.Hyperbolic.{arctanSeriesOf, sinhOf, coshOf, artanhSmallOf, artanhOf}
+use Rattle.elementary.specs.Series.{arctanTable}
 use Rattle.elementary.proofs.Formulas.{n, hornerF, sineF, cosineF, sinhF, coshF, artanhSmallF, rootF, arctangentF, artanhF, arcsineF}
-use Rattle.angle.specs.Units.{k, radians, metres}
+use Rattle.elementary.proofs.Formulas.{sine-is, cosine-is, sinh-is, cosh-is, arctan-series-is, artanh-small-is, root-is, arctangent-is, artanh-is, arcsine-is}
+use Rattle.angle.specs.Units.{k}
+use Rattle.angle.proofs.UnitLaws.{radians-is, metres-is}
 use Rattle.angle.specs.Ellipsoids.{ellipsoidOf}
 use Rattle.angle.specs.declared.Projected.the-variants.{Metres}
 use Rattle.oblique_mercator.specs.Parameters.{reduced}
@@ -237,5 +236,5 @@ given p latitude longitude =
 
 pub plane-is : (p : Parameters) (latitude longitude : ℤ)
     → planeAt (projectionMade p) latitude longitude ≡ Metres (value (given p latitude longitude) eastF) (value (given p latitude longitude) northF)
-unfolding value planeAt planeOf projectionMade centreOf naturalOf isometricOf radians metres sineOf cosineOf sinhOf coshOf arctanSeriesOf arctanSmallOf artanhSmallOf arctangentOf artanhOf arcsineOf rootOf
-plane-is p latitude longitude = refl
+unfolding value planeAt planeOf projectionMade centreOf naturalOf isometricOf
+plane-is p latitude longitude = simp (radians-is, metres-is, arctangent-is, artanh-is, arcsine-is, artanh-small-is, arctan-series-is, sinh-is, cosh-is, root-is, sine-is, cosine-is)

@@ -1,23 +1,21 @@
 -- Worked values, bit for bit (docs/ORDERS.md, section 5): document 004's Borneo example, and a projection whose azimuth and rectified angle lie well apart and past a full turn;
 -- each projection made, a point forward from the projection's bits, and back from easting and northing. Then refusals in their order. Assumes nothing.
 use mathlib.Core.Path.{_≡_, refl}
-use mathlib.Core.List.{List, [], _∷_}
+use mathlib.Core.List.{List, [], _∷_, _++_, map}
 use Prim.Native.Nat.{ℕ}
-use lib.IntN.{pos, negsuc}
+use lib.IntN.{ℤ, pos, negsuc}
 use lib.Ieee.{Float, nan, binary64, round, neg, add, sub, mul, div, lt, le, eq, ofInt, ofBits}
 use Rattle.refusal.specs.Numbers.{range, geodetic}
 use Rattle.refusal.specs.Numbers as numbers
 use Rattle.ranges.specs.Ranges.{within}
-use Rattle.rounding.specs.Nearest.{away, floor, rest, goesUp, rounded}
-use Rattle.rounding.specs.Decimals.{tooLarge, wholeOf, roundedOf}
+use Rattle.rounding.specs.Decimals.{roundedOf}
 use Rattle.elementary.specs.Floats.{#}
-use Rattle.elementary.specs.Series.{sineOf, cosineOf, arctanSmallOf}
-use Rattle.elementary.specs.Root.{rootOf}
+use Rattle.elementary.specs.Series.{sineOf, cosineOf}
 use Rattle.elementary.specs.Half.{arctangentOf, arcsineOf}
-use Rattle.elementary.specs.Hyperbolic.{arctanSeriesOf, sinhOf, coshOf, artanhSmallOf, artanhOf}
+use Rattle.elementary.specs.Hyperbolic.{sinhOf, coshOf, artanhOf}
 use Rattle.elementary.proofs.Same.{sames-are}
-use Rattle.angle.specs.Units.{k, radians, metres, seconds}
-use Rattle.angle.specs.Ellipsoids.{table, shape, figureOf, ellipsoidOf}
+use Rattle.angle.specs.Units.{radians, metres, seconds}
+use Rattle.angle.specs.Ellipsoids.{ellipsoidOf}
 use Rattle.angle.specs.declared.Projected.{Projected}
 use Rattle.angle.specs.declared.Projected.the-variants as projected
 use Rattle.oblique_mercator.specs.Parameters.{reduced, parametersRange}
@@ -56,7 +54,16 @@ abbrev plane : Projected → List Float
 plane (projected.Metres e n) = e ∷ n ∷ []
 plane (projected.Refused n) = []
 
--- ---- document 004's Borneo example
+-- ---- an example: the projection's numbers and its bits, a point's angles, and where it lies
+record Example : Type 0 where
+  given : Parameters
+  made : Projection
+  latitude : ℤ
+  longitude : ℤ
+  easting : Float
+  northing : Float
+
+-- document 004's Borneo example
 abbrev borneo : Parameters
 borneo = record { ellipsoid = pos 4; latitude = pos 1440000000; longitude = pos 41400000000; azimuth = pos 19193695370; rectified = pos 19126836850; scale = pos 99984000000; «false_easting» = pos 0; «false_northing» = pos 0 }
 
@@ -82,19 +89,18 @@ borneo-made =
       k8 = f64 0x3dcc5109ece963fd;
     }
 
-borneo-worked : fields (projectionMade borneo) ≡ fields borneo-made
-unfolding projectionMade centreOf naturalOf seriesOf isometricOf reduced within radians metres k ellipsoidOf figureOf table shape rootOf sineOf cosineOf arctanSmallOf arctanSeriesOf artanhSmallOf arcsineOf round neg add sub mul div ofInt ofBits
-borneo-worked = sames-are (fields (projectionMade borneo)) (fields borneo-made) tt
+abbrev in-borneo : Example
+in-borneo =
+    record {
+      given = borneo;
+      made = borneo-made;
+      latitude = pos 1939411290;
+      longitude = pos 41689981960;
+      easting = f64 0x4124ba9b7790b20e;
+      northing = f64 0x412234a591577e09;
+    }
 
-borneo-laid : plane (planeAt borneo-made (pos 1939411290) (pos 41689981960)) ≡ f64 0x4124ba9b7790b20e ∷ f64 0x412234a591577e09 ∷ []
-unfolding planeAt planeOf isometricOf radians k rootOf sineOf cosineOf sinhOf coshOf arctanSmallOf arctanSeriesOf artanhSmallOf arctangentOf artanhOf round neg add sub mul div ofInt ofBits
-borneo-laid = sames-are (plane (planeAt borneo-made (pos 1939411290) (pos 41689981960))) (f64 0x4124ba9b7790b20e ∷ f64 0x412234a591577e09 ∷ []) tt
-
-borneo-back : reverseAt borneo-made (f64 0x4124ba9b7790b20e) (f64 0x412234a591577e09) ≡ angles.Units (pos 1939411290) (pos 41689981960)
-unfolding reverseAt turnedOf gateOf foundOf latitudeOf inUnits placed inRanges within roundedOf tooLarge wholeOf away floor rest goesUp rounded seconds rootOf sineOf cosineOf sinhOf coshOf arctanSmallOf arctanSeriesOf artanhSmallOf arctangentOf round neg add sub mul div lt le eq ofBits
-borneo-back = refl
-
--- ---- angles well apart, past a full turn
+-- angles well apart, past a full turn
 abbrev apart : Parameters
 apart = record { ellipsoid = pos 1; latitude = pos 360000000; longitude = pos 35640000000; azimuth = pos 118800000000; rectified = pos 10800000000; scale = pos 101000000000; «false_easting» = negsuc 1999999999; «false_northing» = pos 2000000000 }
 
@@ -120,17 +126,37 @@ apart-made =
       k8 = f64 0x3dcd4b2ab87bb2bb;
     }
 
-apart-worked : fields (projectionMade apart) ≡ fields apart-made
-unfolding projectionMade centreOf naturalOf seriesOf isometricOf reduced within radians metres k ellipsoidOf figureOf table shape rootOf sineOf cosineOf arctanSmallOf arctanSeriesOf artanhSmallOf arcsineOf round neg add sub mul div ofInt ofBits
-apart-worked = sames-are (fields (projectionMade apart)) (fields apart-made) tt
+abbrev well-apart : Example
+well-apart =
+    record {
+      given = apart;
+      made = apart-made;
+      latitude = pos 2880000000;
+      longitude = pos 43200000000;
+      easting = f64 0xc0d9d634ff539640;
+      northing = f64 0x411a99c0e80372b8;
+    }
 
-apart-laid : plane (planeAt apart-made (pos 2880000000) (pos 43200000000)) ≡ f64 0xc0d9d634ff539640 ∷ f64 0x411a99c0e80372b8 ∷ []
-unfolding planeAt planeOf isometricOf radians k rootOf sineOf cosineOf sinhOf coshOf arctanSmallOf arctanSeriesOf artanhSmallOf arctangentOf artanhOf round neg add sub mul div ofInt ofBits
-apart-laid = sames-are (plane (planeAt apart-made (pos 2880000000) (pos 43200000000))) (f64 0xc0d9d634ff539640 ∷ f64 0x411a99c0e80372b8 ∷ []) tt
+abbrev examples : List Example
+examples = in-borneo ∷ well-apart ∷ []
 
-apart-back : reverseAt apart-made (f64 0xc0d9d634ff539640) (f64 0x411a99c0e80372b8) ≡ angles.Units (pos 2880000000) (pos 43200000000)
-unfolding reverseAt turnedOf gateOf foundOf latitudeOf inUnits placed inRanges within roundedOf tooLarge wholeOf away floor rest goesUp rounded seconds rootOf sineOf cosineOf sinhOf coshOf arctanSmallOf arctanSeriesOf artanhSmallOf arctangentOf round neg add sub mul div lt le eq ofBits
-apart-back = refl
+abbrev all : (Example → List Float) → List Example → List Float
+all f [] = []
+all f (e ∷ es) = f e ++ all f es
+
+-- each made from its numbers; each point forward from the bits, and back
+record Worked : Type 0 where
+  made : all (λ (e : Example). fields (projectionMade (e .given))) examples ≡ all (λ (e : Example). fields (e .made)) examples
+  laid : all (λ (e : Example). plane (planeAt (e .made) (e .latitude) (e .longitude))) examples ≡ all (λ (e : Example). e .easting ∷ e .northing ∷ []) examples
+  back : map (λ (e : Example). reverseAt (e .made) (e .easting) (e .northing)) examples ≡ map (λ (e : Example). angles.Units (e .latitude) (e .longitude)) examples
+
+worked : Worked
+unfolding projectionMade centreOf naturalOf seriesOf isometricOf reduced planeAt planeOf reverseAt turnedOf gateOf foundOf latitudeOf inUnits placed inRanges within roundedOf radians metres seconds ellipsoidOf sineOf cosineOf sinhOf coshOf arctangentOf artanhOf arcsineOf round neg add sub mul div lt le eq ofInt ofBits
+worked = record {
+  made = sames-are (all (λ (e : Example). fields (projectionMade (e .given))) examples) (all (λ (e : Example). fields (e .made)) examples) tt;
+  laid = sames-are (all (λ (e : Example). plane (planeAt (e .made) (e .latitude) (e .longitude))) examples) (all (λ (e : Example). e .easting ∷ e .northing ∷ []) examples) tt;
+  back = refl;
+}
 
 -- ---- refusals: the parameters first, then the angles; 23 before 12, for a NaN too; the far side of the earth is 12
 abbrev bad : Parameters
@@ -138,10 +164,6 @@ bad = record { ellipsoid = pos 4; latitude = pos 0; longitude = pos 41400000000;
 
 refused : List Projected
 refused = forwardOf bad (negsuc 0) (pos 0) ∷ forwardFromOf borneo-made (negsuc 0) (pos 41400000000) ∷ forwardFromOf borneo-made (pos 0) (pos 43200000001) ∷ []
-
-refused-worked : refused ≡ (projected.Refused range ∷ projected.Refused geodetic ∷ projected.Refused geodetic ∷ [])
-unfolding refused forwardOf projectionOf parametersRange forwardFromOf within
-refused-worked = refl
 
 back-refused : List Angles
 back-refused =
@@ -151,6 +173,10 @@ back-refused =
     ∷ reverseFromOf borneo-made (# 9999999) (# 9999999)
     ∷ []
 
-back-refused-worked : back-refused ≡ (angles.Refused range ∷ angles.Refused numbers.plane ∷ angles.Refused numbers.plane ∷ angles.Refused geodetic ∷ [])
-unfolding back-refused reverseOf projectionOf parametersRange reverseFromOf inPlane reverseAt turnedOf gateOf within round neg add sub mul lt le eq ofBits
-back-refused-worked = refl
+record InOrder : Type 0 where
+  there : refused ≡ (projected.Refused range ∷ projected.Refused geodetic ∷ projected.Refused geodetic ∷ [])
+  back : back-refused ≡ (angles.Refused range ∷ angles.Refused numbers.plane ∷ angles.Refused numbers.plane ∷ angles.Refused geodetic ∷ [])
+
+in-order : InOrder
+unfolding refused back-refused forwardOf reverseOf projectionOf parametersRange forwardFromOf reverseFromOf inPlane reverseAt turnedOf gateOf within round neg add sub mul lt le eq ofBits
+in-order = record { there = refl; back = refl }

@@ -1,18 +1,15 @@
 -- The state after a line holds the plan after it, and a position on the origin made once is the position on the origin's numbers. Assumes nothing.
-use mathlib.Core.Path.{_≡_, refl, sym, _∙_, ap}
-use mathlib.Core.Bool.{true, false}
+use mathlib.Core.Path.{_≡_, refl, ap}
 use mathlib.Core.List.{List}
 use mathlib.Core.Option.{Option, none, some}
 use Prim.Native.Nat.{ℕ, _+_}
-use native.Mathlib.Omega.{arith}
 use lib.IntN.{ℤ}
 use Rattle.angle.specs.declared.Origin.{Origin}
 use Rattle.angle.specs.declared.OriginNumbers.{OriginNumbers}
 use Rattle.angle.specs.declared.OriginAnswer.the-variants as answer
 use Rattle.angle.specs.declared.ProjectedMillimetres.{ProjectedMillimetres}
-use Rattle.angle.specs.Ranges.{originFault}
 use Rattle.angle.specs.Cassini.{originOf, cassiniMillimetresFromOf, cassiniMillimetresOf}
-use Rattle.angle.proofs.Made.{by-origin}
+use Rattle.angle.proofs.Made.{by-origin-millimetres}
 use Rattle.line.specs.declared.Fault.{Fault}
 use Rattle.plan_rules.specs.declared.PlanOrigin.{PlanOrigin}
 use Rattle.plan_rules.specs.declared.PlanOrigin.the-variants.{Missing, Made}
@@ -20,18 +17,12 @@ use Rattle.plan_rules.specs.declared.Reply.{Reply}
 use Rattle.plan_rules.specs.declared.Reply.the-variants as reply
 use Rattle.plan_rules.specs.declared.State.{State}
 use Rattle.plan_rules.specs.declared.Decided.{Decided}
-use Rattle.plan_rules.specs.Plan.{Plan, nextOf, malformed, withOrigin, noOrigin}
+use Rattle.plan_rules.specs.Plan.{Plan, nextOf, malformed, withOrigin}
 use Rattle.plan_rules.specs.State.{Values, Holds, Gave, afterIn, refusedIn}
-
--- ---- an origin with no fault is made
-pub never-refused : (o : OriginNumbers) (n : ℕ) → originFault o ≡ 0 → originOf o ≡ answer.Refused n → ⊥
-unfolding originOf
-never-refused o n e q = let z : _≡_ {A = ℕ} 0 1 = cc (rw e at q) in omega arith
 
 -- what the values made once answer, at angles as the machine reads them, the origin's numbers answer
 pub on-origin : (o : OriginNumbers) (lat lon : ℤ) {m : Origin} {lat' lon' : ℤ} {g : ProjectedMillimetres} → originOf o ≡ answer.Made m → lat' ≡ lat → lon' ≡ lon → cassiniMillimetresFromOf m lat' lon' ≡ g → cassiniMillimetresOf o lat lon ≡ g
-unfolding cassiniMillimetresFromOf cassiniMillimetresOf
-on-origin o lat lon {m} e a b q = rw (← by-origin o lat lon m e, ← a, ← b) q
+on-origin o lat lon {m} e a b q = rw (← by-origin-millimetres o lat lon m e, ← a, ← b) q
 
 -- ---- what the state's origin says of the plan's
 pub missing : {x : PlanOrigin} (y : Option OriginNumbers) → Values x y → x ≡ Missing → y ≡ none

@@ -46,5 +46,7 @@ rest (negsuc a) d = d - suc (a % d)
 unfoldable pub goesUp : Ties → ℤ → ℕ → ℕ → Bool
 goesUp ties t r d = ltb d (r + r) || (eqb (r + r) d && ties t)
 
+-- opened, it computes
 unfoldable pub rounded : Ties → ℤ → ℕ → ℤ
+unfolding floor rest goesUp
 rounded ties z d = pick (goesUp ties (floor z d) (rest z d) d) (floor z d +ℤ pos 1) (floor z d)

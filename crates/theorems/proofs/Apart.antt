@@ -1,27 +1,15 @@
 -- Two positions through one step, over its three affine fractions alone: where the step brings them at most m units apart, they were at most m + 1 apart, and
 -- at most m where no coordinate enters. Forward and inverse alike. Assumes nothing.
-use mathlib.Core.Path.{_≡_, refl}
+use mathlib.Core.Path.{_≡_}
 use Prim.Native.Nat.{ℕ, _+_, _*_, _≤_}
 use native.Mathlib.Omega.{arith}
 use lib.IntN.{ℤ, natAbs, _+ℤ_, _-ℤ_}
 use Rattle.rounding.proofs.Zn.{v, _⊕_, _⊖_, abs, unabs, uneq}
 use Rattle.chain.specs.declared.Position.{Position}
-use Rattle.chain.specs.Parts.{Parts, part, gain, plus, minus, forwardBy, again, inverseBy}
-use Rattle.chain.specs.Axes.{Axis, onX, onY, onZ, coordinate, partOn, Small}
+use Rattle.chain.specs.Parts.{Parts, part, forwardBy, again, inverseBy}
+use Rattle.chain.specs.Axes.{Axis, coordinate, partOn, Small}
+use Rattle.chain.proofs.AxisLaws.{forward-on, again-on, inverse-on}
 use Rattle.chain.proofs.StepLaws.{Off, Milds, Flats, part-apart, same-part}
-
--- ---- a step, by axis
-forward-on : (i : Axis) (t : Parts) (p : Position) → coordinate i (forwardBy t p) ≡ coordinate i p +ℤ part (partOn i t) p
-unfolding forwardBy gain plus
-forward-on onX t p = refl
-forward-on onY t p = refl
-forward-on onZ t p = refl
-
-again-on : (i : Axis) (t : Parts) (q c : Position) → coordinate i (again t q c) ≡ coordinate i q -ℤ part (partOn i t) c
-unfolding again gain minus
-again-on onX t q c = refl
-again-on onY t q c = refl
-again-on onZ t q c = refl
 
 -- ---- distances on one axis
 -- what two sums are apart bounds what their first terms are apart, and so do two differences
@@ -90,14 +78,13 @@ module _ (t : Parts) (mild : Milds t) where
   }
 
   pub inverse-spreads : Spreads (inverseBy t)
-  unfolding inverseBy
   inverse-spreads = record {
     on = λ p q m e L h o l.
         let c = again-apart p q p q e e L o o (omega arith) in
         let d = again-apart p q (again t p p) (again t q q) e (e + (L + 1)) L o c (omega arith) in
         record {
           on = λ i. lost (coordinate i p) (coordinate i q) (part (partOn i t) (again t p (again t p p))) (part (partOn i t) (again t q (again t q q))) m (L + 1)
-              (rw (again-on i t p (again t p (again t p p)), again-on i t q (again t q (again t q q))) at (h .on i))
+              (rw (inverse-on i t p, inverse-on i t q) at (h .on i))
               (parts-apart (again t p (again t p p)) (again t q (again t q q)) (e + (L + 1)) L i d (omega arith));
         };
   }
@@ -111,11 +98,10 @@ module _ (t : Parts) (flat : Flats t) where
   }
 
   pub inverse-keeps : (p q : Position) (m : ℕ) → Off m (inverseBy t p) (inverseBy t q) → Off (m + 0) p q
-  unfolding inverseBy
   inverse-keeps p q m h =
       let c = again t p (again t p p) in
       let d = again t q (again t q q) in
       record {
         on = λ i. lost (coordinate i p) (coordinate i q) (part (partOn i t) c) (part (partOn i t) d) m 0
-            (rw (again-on i t p c, again-on i t q d) at (h .on i)) (none-apart (same-part (partOn i t) c d (flat .on i)));
+            (rw (inverse-on i t p, inverse-on i t q) at (h .on i)) (none-apart (same-part (partOn i t) c d (flat .on i)));
       }

@@ -12,5 +12,4 @@ pub mod Orders
 pub mod Joins
 pub mod LineOrders
 pub mod MalformedCases
-pub mod GridLines
 pub mod Velocities

@@ -1,23 +1,27 @@
 -- The worked positions that meet, by computation, and a pair to which the theorem on two marks applies. Assumes nothing.
-use mathlib.Core.Path.{refl}
+use mathlib.Core.Path.{_≡_, refl, ap}
+use mathlib.Core.List.{List, map}
+use Prim.Native.Nat.{ℕ}
 use lib.Dec.{lit<}
 use lib.IntN.{pos}
-use Rattle.rounding.specs.Nearest.{toEven, floor, rest, goesUp, rounded}
-use Rattle.ranges.specs.Ranges.{within}
-use Rattle.chain.specs.Faults.{realizationRange, agrees, sameRealization, hasDatum, hasKind, hasStep, givenPosition, inArea, labelRange, pointRange, kindRange, stepRange, kindRule}
-use Rattle.chain.specs.Rows.{rowIndex, rowOf}
-use Rattle.chain.specs.Parts.{stepRound, linear, part, gain, rotation11, scaledRotation, bursaWolfParts, kindParts, plus, minus, forwardBy, again, inverseBy}
-use Rattle.chain.specs.Convert.{walk, startOf, endOf, answerOf, convert, forwardOf, inverseOf}
+use lib.ListN.{getD}
+use Rattle.chain.specs.declared.Answer.{Answer}
+use Rattle.chain.specs.declared.Answer.the-variants.{Refused}
 use Rattle.chain.specs.Axes.{onX}
 use Rattle.chain.specs.Cases as cases
-use Rattle.theorems.specs.MarksMeet.{scaling, MarksMeet, Applies}
+use Rattle.chain.specs.Cases.{answer, expected}
+use Rattle.theorems.specs.MarksMeet.{scaling, meeting, MarksMeet, Applies}
 
 pub marks-meet : MarksMeet
-unfolding toEven floor rest goesUp rounded stepRound within realizationRange agrees sameRealization hasDatum hasKind hasStep givenPosition inArea labelRange pointRange kindRange stepRange kindRule linear part gain rotation11 scaledRotation bursaWolfParts kindParts plus minus forwardBy again inverseBy walk startOf endOf answerOf convert forwardOf inverseOf
+unfolding answer
 marks-meet = refl
 
+-- the answers, each by its place in the list
+answers : (n : ℕ) → getD (map answer meeting) n (Refused 0) ≡ getD (map expected meeting) n (Refused 0)
+answers n = ap (λ (l : List Answer). getD l n (Refused 0)) marks-meet
+
 pub applies : Applies
-unfolding toEven floor rest goesUp rounded stepRound within realizationRange agrees sameRealization hasDatum hasKind hasStep givenPosition inArea labelRange pointRange kindRange stepRange kindRule linear part gain rotation11 scaledRotation bursaWolfParts kindParts plus minus forwardBy again inverseBy walk startOf endOf answerOf convert forwardOf inverseOf
+unfolding answer
 applies = record {
   chain = cases.chain (scaling (cases.less 1999993)) (cases.on 1 0) (cases.on 2 0);
   p = cases.point (cases.on 1 0) (cases.xyz (cases.less 199999975000) (pos 600000000000) (pos 50000000000));
@@ -25,6 +29,6 @@ applies = record {
   p′ = cases.point (cases.on 2 0) (cases.xyz (cases.less 199995975014) (pos 599988000042) (pos 49999000004));
   q′ = cases.point (cases.on 2 0) (cases.xyz (cases.less 199995975013) (pos 599988000042) (pos 49999000004));
   beyond = record { axis = onX; far = lit< tt };
-  one = refl;
-  other = refl;
+  one = answers 0;
+  other = answers 2;
 }

@@ -1,7 +1,7 @@
 -- A grid's text, line by line: what the walk over it keeps, and what an accepted text has. Assumes nothing.
 use mathlib.Core.Path.{_≡_, refl, sym, _∙_, ap, ap₂, subst}
 use mathlib.Core.Bool.{Bool, true, false}
-use mathlib.Core.List.{List, [], _∷_, _++_}
+use mathlib.Core.List.{List, [], _∷_}
 use Prim.Native.Nat.{ℕ, zero, suc, _+_, _-_, _*_, _≤_, _<_}
 use native.Mathlib.Decide.{decLt}
 use native.Mathlib.Numerals.{add-one}
@@ -19,13 +19,12 @@ use Rattle.line.specs.Readers.{readGridHeader, readNode}
 use Rattle.line.specs.declared.GridHeader.{GridHeader}
 use Rattle.line.specs.declared.GridLine.{GridLine}
 use Rattle.line.specs.declared.GridLine.the-variants as header
-use Rattle.line.proofs.Lines.{Piece, piece, lines-none, length-none}
+use Rattle.line.proofs.Lines.{at-end, Piece, piece, lines-none}
 use Rattle.velocity_grid.specs.OnGrid.{gridRange, nodesOf}
 use Rattle.velocity_grid.proofs.OnGrid as on-grid
 use Rattle.velocity_grid.specs.Text.{onLine, miscounted, faultless, orElse, nodeFault, nodesFault, unlessFault, headed, gridIn, gridOf, valuesOf, three, nodesIn, afterFirst, numbersOf}
 use Rattle.velocity_grid.specs.Reading.{awaitedFault}
 use Rattle.velocity_grid.specs.declared.GridFault.{GridFault}
-use Rattle.velocity_grid.specs.declared.GridAnswer.{GridAnswer}
 use Rattle.velocity_grid.specs.declared.GridAnswer.the-variants.{Grid, Refused}
 
 -- ---- the line that begins at `from`, which past the end of the text is empty
@@ -34,12 +33,11 @@ pub record Ends (s : List ℕ) (from e : ℕ) : Type 0 where
   pub inside : e ≤ length s
 
 pub ends : (s : List ℕ) (from e : ℕ) → e ≡ lineEnd s from → from ≤ length s → Ends s from e
-unfolding lineEnd
 ends s from e q h = go (decLt from (length s))
   where
     go : Dec (from < length s) → Ends s from e
     go (yes l) = let p = piece s from e q l in record { after = omega (arith, p .some); inside = p .inside }
-    go (no l) = let z = length-none s from (omega arith) in record { after = omega arith; inside = omega (arith, q, z) }
+    go (no l) = let z = at-end s from from (record { ends = refl }) (omega arith) in record { after = omega arith; inside = omega arith }
 
 -- ---- what is wrong with the nodes' lines: the next one decides, or those after it
 pub nodes-on : (s : List ℕ) (from e n left : ℕ) → e ≡ lineEnd s from → from ≤ length s → 0 < left
@@ -156,8 +154,7 @@ no-grid : (f : GridFault) (g : GridHeader) → Refused f ≡ Grid g → ⊥
 no-grid f g h = let z : _≡_ {A = ℕ} 0 1 = cc in omega arith
 
 some-line : (s l : List ℕ) (ls : List (List ℕ)) → lines s ≡ l ∷ ls → 0 < length s
-unfolding lines
-some-line [] l ls e = absurd (omega (arith, ap length e))
+some-line [] l ls e = absurd (omega (arith, ap length (sym (lines-none [] 0 (omega arith)) ∙ e)))
 some-line (x ∷ s) l ls e = omega arith
 
 by-fault : (f : GridFault) (a g : GridHeader) → unlessFault f a ≡ Grid g → (f .number ≡ 0) × (a ≡ g)

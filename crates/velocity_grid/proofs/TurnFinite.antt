@@ -1,23 +1,19 @@
 -- No NaN and no infinity in the turn: for every accepted point and parts within 2,500 every f64 is finite, X, Y and Z are at most 4,330 in size, and so is
 -- what they are rounded to. Each is one computed test over all the ranges at once. Assumes nothing.
 use mathlib.Core.Path.{_≡_, refl, sym, ap, _∙_, subst}
-use mathlib.Core.Bool.{Bool, true, false}
+use mathlib.Core.Bool.{true, false}
 use mathlib.Core.List.{List, [], _∷_}
-use Prim.Native.Nat.{ℕ, zero, suc, _-_, _*_, _^_, _≤_}
-use native.Mathlib.Nat.{mul-one}
+use Prim.Native.Nat.{ℕ, _-_, _*_, _≤_}
 use native.Mathlib.Omega.{arith}
 use lib.Dec.{T, lit≤, lit<}
 use lib.IntN.{ℤ, pos, natAbs, _-ℤ_}
 use lib.Ieee.{Float, nan, inf, fin, binary64, round, neg, div, up, down}
-use lib.Ieee.Fits.{down-pos}
 use lib.Ieee.Scale.{finite}
 use lib.Ieee.Positive.{num, den}
 use Rattle.ranges.specs.Ranges.{latitudeRange, longitudeRange}
 use Rattle.ranges.proofs.Ranges.{natural}
-use Rattle.rounding.specs.Nearest.{away}
-use Rattle.rounding.specs.Decimals.{withSign, wholeOf, roundedOf}
-use Rattle.rounding.specs.declared.decimals.Rounded.the-variants.{Whole}
-use Rattle.rounding.proofs.Rounded.{rounded-size}
+use Rattle.rounding.specs.Decimals.{wholeOf}
+use Rattle.rounding.proofs.Places.{whole-small}
 use Rattle.bounds.proofs.Among.{Ends, Among, neg-among}
 use Rattle.bounds.proofs.Formula.{Formula, var, lit, opp, plus, minus, times, All, none, also, value, tested, proved, Fine, every}
 use Rattle.bounds.proofs.Size.{Under}
@@ -32,9 +28,7 @@ use Rattle.angle.proofs.Wholes.{natural-upto, sub-pos}
 use Rattle.velocity_grid.specs.AtPoint.{PartsOk}
 use Rattle.velocity_grid.specs.Turn.{turnedBy, turnedAt, inUnits}
 use Rattle.velocity_grid.specs.Bounded as statements
-use Rattle.velocity_grid.specs.Bounded.{Small}
 use Rattle.line.specs.declared.Parts.{Parts}
-use Rattle.velocity_grid.specs.declared.Turned.{Turned}
 use Rattle.velocity_grid.proofs.AtPoint.{sized-upto}
 
 -- ---- the latitude's and the longitude's sine and cosine, and the three parts
@@ -53,54 +47,34 @@ part = wholes 0 2500
 abbrev space : List Ends
 space = most 14 100 ∷ most 1 1 ∷ most 1 1 ∷ most 53 100 ∷ part ∷ part ∷ part ∷ []
 
-x-test : T (tested space xF (most 4330 1))
-unfolding tested round
-x-test = tt
-
-y-test : T (tested space yF (most 4330 1))
-unfolding tested round
-y-test = tt
-
-z-test : T (tested space zF (most 4330 1))
-unfolding tested round
-z-test = tt
-
--- ---- an angle's sine and cosine, up to 0.53
+-- ---- the whole numbers as f64s
 latitude-finite : T (finite (round binary64 false 2880000000 1))
 unfolding round
 latitude-finite = tt
-
-latitude-test : T (tested (wholes 0 2880000000 ∷ []) (times (var 0) (lit k)) (most 14 100))
-unfolding tested k
-latitude-test = tt
 
 past-finite : T (finite (round binary64 false 10800000000 1))
 unfolding round
 past-finite = tt
 
-past-test : T (tested (wholes 0 10800000000 ∷ []) (times (var 0) (lit k)) (most 53 100))
-unfolding tested k
-past-test = tt
-
 part-finite : T (finite (round binary64 false 2500 1))
 unfolding round
 part-finite = tt
 
-small-sine : T (tested (most 14 100 ∷ []) sineF (most 14 100))
-unfolding tested neg div
-small-sine = tt
+-- ---- the tests: the angles, up to 0.14 and 0.53, their sines and cosines, and X, Y and Z
+record Tests : Type 0 where
+  latitude : T (tested (wholes 0 2880000000 ∷ []) (times (var 0) (lit k)) (most 14 100))
+  past : T (tested (wholes 0 10800000000 ∷ []) (times (var 0) (lit k)) (most 53 100))
+  small-sine : T (tested (most 14 100 ∷ []) sineF (most 14 100))
+  small-cosine : T (tested (most 14 100 ∷ []) cosineF (most 1 1))
+  large-sine : T (tested (most 53 100 ∷ []) sineF (most 53 100))
+  large-cosine : T (tested (most 53 100 ∷ []) cosineF (most 1 1))
+  x : T (tested space xF (most 4330 1))
+  y : T (tested space yF (most 4330 1))
+  z : T (tested space zF (most 4330 1))
 
-small-cosine : T (tested (most 14 100 ∷ []) cosineF (most 1 1))
-unfolding tested neg div
-small-cosine = tt
-
-large-sine : T (tested (most 53 100 ∷ []) sineF (most 53 100))
-unfolding tested neg div
-large-sine = tt
-
-large-cosine : T (tested (most 53 100 ∷ []) cosineF (most 1 1))
-unfolding tested neg div
-large-cosine = tt
+tests : Tests
+unfolding tested round neg div k
+tests = record { latitude = tt; past = tt; small-sine = tt; small-cosine = tt; large-sine = tt; large-cosine = tt; x = tt; y = tt; z = tt }
 
 module _ (p : Parts) (lat lon : ℤ) (o : PartsOk p) (a : latitudeRange lat ≡ true) (b : longitudeRange lon ≡ true) where
   abbrev φ : Float
@@ -110,7 +84,7 @@ module _ (p : Parts) (lat lon : ℤ) (o : PartsOk p) (a : latitudeRange lat ≡ 
   w = radians (lon -ℤ pos 32400000000)
 
   latitude : Among φ (most 14 100)
-  latitude = radians-among 2880000000 (most 14 100) lat latitude-finite latitude-test (natural-upto (natural 0 lat 2880000000 a))
+  latitude = radians-among 2880000000 (most 14 100) lat latitude-finite (tests .latitude) (natural-upto (natural 0 lat 2880000000 a))
 
   past : Among w (most 53 100)
   past =
@@ -118,7 +92,7 @@ module _ (p : Parts) (lat lon : ℤ) (o : PartsOk p) (a : latitudeRange lat ≡ 
       let low = l .low in
       let high = l .high in
       let d : lon -ℤ pos 32400000000 ≡ pos (l .n - 32400000000) = ap (λ (z : ℤ). z -ℤ pos 32400000000) (l .is) ∙ sub-pos (l .n) 32400000000 (omega arith) in
-      radians-among 10800000000 (most 53 100) (lon -ℤ pos 32400000000) past-finite past-test (subst (λ (z : ℤ). Upto 10800000000 z) (sym d) (omega arith))
+      radians-among 10800000000 (most 53 100) (lon -ℤ pos 32400000000) past-finite (tests .past) (subst (λ (z : ℤ). Upto 10800000000 z) (sym d) (omega arith))
 
   among : (z : ℤ) → natAbs z ≤ 2500 → Among (whole z) part
   among z h = ofInt-among 2500 z (sized-upto 2500 z h) part-finite
@@ -128,45 +102,39 @@ module _ (p : Parts) (lat lon : ℤ) (o : PartsOk p) (a : latitudeRange lat ≡ 
 
   all : All given space
   all =
-      also (sine-among (most 14 100) (most 14 100) small-sine latitude)
-      (also (cosine-among (most 14 100) (most 1 1) small-cosine latitude)
-      (also (cosine-among (most 53 100) (most 1 1) large-cosine past)
-      (also (neg-among (sine-among (most 53 100) (most 53 100) large-sine past))
+      also (sine-among (most 14 100) (most 14 100) (tests .small-sine) latitude)
+      (also (cosine-among (most 14 100) (most 1 1) (tests .small-cosine) latitude)
+      (also (cosine-among (most 53 100) (most 1 1) (tests .large-cosine) past)
+      (also (neg-among (sine-among (most 53 100) (most 53 100) (tests .large-sine) past))
       (also (among (p .east) (o .east)) (also (among (p .north) (o .north)) (also (among (p .up) (o .up)) none))))))
 
   -- every f64 of the three rows is finite
   pub all-finite : Fine given xF × Fine given yF × Fine given zF
-  all-finite = (every all xF (most 4330 1) x-test, every all yF (most 4330 1) y-test, every all zF (most 4330 1) z-test)
+  all-finite = (every all xF (most 4330 1) (tests .x), every all yF (most 4330 1) (tests .y), every all zF (most 4330 1) (tests .z))
 
   bounded-x : Among (turnedAt p lat lon .x) (most 4330 1)
   unfolding value turnedAt turnedBy
-  bounded-x = proved all xF (most 4330 1) x-test
+  bounded-x = proved all xF (most 4330 1) (tests .x)
 
   bounded-y : Among (turnedAt p lat lon .y) (most 4330 1)
   unfolding value turnedAt turnedBy
-  bounded-y = proved all yF (most 4330 1) y-test
+  bounded-y = proved all yF (most 4330 1) (tests .y)
 
   bounded-z : Among (turnedAt p lat lon .z) (most 4330 1)
   unfolding value turnedAt turnedBy
-  bounded-z = proved all zF (most 4330 1) z-test
+  bounded-z = proved all zF (most 4330 1) (tests .z)
 
 -- ---- rounded at 0 places
 bound : Bound 4330
 unfolding round
 bound = record { is = refl; unit = refl; low = lit< tt }
 
-sign-size : (s : Bool) (n : ℕ) → natAbs (withSign s n) ≡ n
-sign-size true zero = refl
-sign-size true (suc n) = refl
-sign-size false n = refl
-
 whole-size : (x y : Float) → num y ≡ 4330 → den y ≡ 1 → Under x y → natAbs (wholeOf x 0) ≤ 4330
-unfolding wholeOf
-whole-size nan y N D h = omega arith
-whole-size (inf s) y N D h = omega arith
+whole-size nan y N D h = absurd (h .small)
+whole-size (inf s) y N D h = absurd (h .small)
 whole-size (fin s m e) y N D h =
     let c : m * up e * 1 ≤ 4330 * down e = subst (λ (i : ℕ). m * up e * i ≤ 4330 * down e) D (subst (λ (i : ℕ). m * up e * den y ≤ i * down e) N (h .cross)) in
-    rounded-size away (down-pos e) 4330 (withSign s (m * up e * 10 ^ 0)) (subst (λ (i : ℕ). i ≤ 4330 * down e) (sym (sign-size s (m * up e * 10 ^ 0))) c)
+    whole-small s m e 0 4330 c
 
 pub bounded : statements.Bounded
 unfolding inUnits

@@ -6,13 +6,14 @@ use Prim.Native.Nat.{ℕ}
 use lib.IntN.{ℤ, pos, negsuc, negℤ}
 use lib.Ieee.{Float, binary64, round, neg, sub, add, mul, div, ofInt, ofBits}
 use Rattle.elementary.specs.Series.{sineOf, cosineOf}
-use Rattle.rounding.specs.Nearest.{away, floor, rest, goesUp, rounded}
-use Rattle.rounding.specs.Decimals.{tooLarge, wholeOf, roundedOf}
+use Rattle.rounding.specs.Nearest.{away, rounded}
+use Rattle.rounding.specs.Decimals.{roundedOf}
 use Rattle.ranges.specs.Ranges.{within}
 use Rattle.refusal.specs.Numbers as refusal
 use Rattle.elementary.specs.Floats.{whole}
-use Rattle.angle.specs.Units.{k, radians}
-use Rattle.chain.specs.Faults.{realizationRange, agrees, hasDatum, hasKind, hasStep, kindRange, stepRange, kindRule, stepFault}
+use Rattle.angle.specs.Units.{radians}
+use Rattle.chain.specs.Faults.{stepFault}
+use Rattle.chain.specs.Cases.{answer}
 use Rattle.velocity_grid.specs.Bilinear.{blend, weighed, bilinear}
 use Rattle.velocity_grid.specs.OnGrid.{sizeRange, meshRange, gridRange, meshOf, nodesOf, onAxis, placeOf, onGrid, alongOf, cellOf}
 use Rattle.velocity_grid.specs.AtPoint.{known, cellKnown, cornersOf, partOf, partsIn, partsOf}
@@ -43,7 +44,7 @@ expected : List Float
 expected = f64 0x3fbcd1d02fac2dde ∷ f64 0x3fc6f71428f7ac12 ∷ f64 0x3fbcc23d4646210c ∷ f64 0x3fefcc24ef6af4b4 ∷ f64 0x3fef7c80f679be33 ∷ f64 0xbfc6d796a06aae4a ∷ []
 
 angles-worked : found ≡ expected
-unfolding found expected radians k sineOf cosineOf round neg add mul div ofInt ofBits
+unfolding found expected radians sineOf cosineOf round neg add mul div ofInt ofBits
 angles-worked = refl
 
 at-arau : Turned
@@ -74,7 +75,7 @@ answered : answers
     ∷ velocity.Refused refusal.epoch
     ∷ velocity.Refused refusal.kind
     ∷ [])
-unfolding answers inUnits velocityFor stepFault hasDatum hasKind hasStep stepRange kindRange realizationRange agrees kindRule within roundedOf tooLarge wholeOf away floor rest goesUp rounded round ofBits
+unfolding answers inUnits velocityFor stepFault answer roundedOf round ofBits
 answered = refl
 
 -- ---- a grid from 4 degrees north and 102 degrees east, a mesh of 5 minutes (30,000,000 units)
@@ -155,5 +156,5 @@ points-worked : points
     ∷ Refused refusal.lines
     ∷ Refused refusal.range
     ∷ [])
-unfolding points header firstEight missing whole-grid partsOf partsIn partOf cornersOf cellKnown known cellOf alongOf placeOf onGrid onAxis meshOf nodesOf gridRange sizeRange meshRange within bilinear weighed blend away floor rest goesUp rounded
+unfolding points header firstEight missing whole-grid partsOf partsIn partOf cornersOf cellKnown known cellOf alongOf placeOf onGrid onAxis meshOf nodesOf gridRange sizeRange meshRange within bilinear weighed blend away rounded
 points-worked = refl

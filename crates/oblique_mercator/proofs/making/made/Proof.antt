@@ -1,6 +1,6 @@
 -- `oblique_mercator::making::made` meets its contract: the numbers are in their ranges, and each value is the written one. Assumes nothing.
 use borrow.Author.Needs.{needs}
-use mathlib.Core.Path.{_≡_, sym, ap, _∙_, subst⁻¹}
+use mathlib.Core.Path.{_≡_, ap, _∙_, subst⁻¹}
 use lib.Dec.{T, lit≤}
 use lib.IntN.{ℤ}
 use lib.Ieee.{binary64, inFloat, ofBits, round}
@@ -9,7 +9,7 @@ use mir.Val.{SFits, toZ, ofZ}
 use mir.ValLaws.{toZ-ofZ}
 use Rattle.rounding.proofs.Machine.{told}
 use Rattle.ranges.proofs.Ranges.{natural}
-use Rattle.angle.specs.Units.{radians, metres}
+use Rattle.angle.proofs.UnitLaws.{radians-is, metres-is}
 use Rattle.angle.proofs.Tests.{read-back}
 use Rattle.angle.proofs.Wholes.{natural-upto, upto, in-float}
 use Rattle.oblique_mercator.specs.Parameters.{reduced}
@@ -112,7 +112,7 @@ int-to-float-t14 c =
     read-back (a .args .p .«false_northing») f (northing a)
 
 returns : tie.Need-returns
-unfolding projectionMade radians metres round ofBits
+unfolding projectionMade round ofBits
 returns c =
     let a = c .before .before .before .before .before .before .before .before .before .before .before .before .before .before .before .before .before .before .before .before .before .before .before .before .before .before .before in
     let o = a .args .p in
@@ -126,7 +126,8 @@ returns c =
     let e6 : toZ w64 (ofZ w64 (o .«false_easting»)) ≡ o .«false_easting» = told (t .1 .1 .1 .1 .1 .1 .0 .1) in
     let e7 : toZ w64 (ofZ w64 (o .«false_northing»)) ≡ o .«false_northing» = told (t .1 .1 .1 .1 .1 .1 .1 .0 .1) in
     rw (c .before .before .before .before .before .before .before .cosine .ensures, c .before .before .before .before .before .before .before .before .sine .ensures, c .before .before .before .before .before .before .before .before .before .series-of .ensures, c .before .before .before .before .before .before .before .before .before .before .radians3 .ensures, c .before .before .before .before .before .before .before .before .before .before .before .before .reduced2 .ensures, c .before .before .before .before .before .before .before .before .before .before .before .before .before .before .natural-at .ensures, c .before .before .before .before .before .before .before .before .before .before .before .before .before .before .before .radians2 .ensures, c .before .before .before .before .before .before .before .before .before .before .before .before .before .before .before .before .before .reduced .ensures, c .before .before .before .before .before .before .before .before .before .before .before .before .before .before .before .before .before .before .before .centre-at .ensures, c .before .before .before .before .before .before .before .before .before .before .before .before .before .before .before .before .before .before .before .before .before .before .radians .ensures, c .before .before .before .before .before .before .before .before .before .before .before .before .before .before .before .before .before .before .before .before .before .before .before .before .before .ellipsoid .ensures)
-    (rw (e0, e1, e2, e3, e4, e5, e6, e7, toZ-ofZ w64 (reduced (o .azimuth)) (reduced-fits (o .azimuth) (all a .azimuth)), toZ-ofZ w64 (reduced (o .rectified)) (reduced-fits (o .rectified) (all a .rectified))))
+    (rw (e0, e1, e2, e3, e4, e5, e6, e7, toZ-ofZ w64 (reduced (o .azimuth)) (reduced-fits (o .azimuth) (all a .azimuth)), toZ-ofZ w64 (reduced (o .rectified)) (reduced-fits (o .rectified) (all a .rectified)))
+    (rw (radians-is (o .latitude), radians-is (reduced (o .azimuth)), radians-is (reduced (o .rectified)), metres-is (o .«false_easting»), metres-is (o .«false_northing»))))
 
 pub made-spec : {M : Type 1} → statement M
 made-spec =

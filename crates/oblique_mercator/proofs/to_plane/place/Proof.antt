@@ -8,7 +8,7 @@ use mir.Syntax.{w64}
 use mir.Val.{SFits, toZ, ofZ}
 use mir.ValLaws.{toZ-ofZ}
 use Rattle.ranges.proofs.Ranges.{natural}
-use Rattle.angle.specs.Units.{radians}
+use Rattle.angle.proofs.UnitLaws.{radians-is}
 use Rattle.angle.proofs.Tests.{read-back}
 use Rattle.angle.proofs.Wholes.{natural-upto, in-float}
 use Rattle.oblique_mercator.specs.Forward.{planeAt}
@@ -58,14 +58,14 @@ plane-requires : tie.Need-plane-requires
 plane-requires c κs = search needs
 
 returns : tie.Need-returns
-unfolding planeAt radians
+unfolding planeAt
 returns c =
     let a = c .before .before .before .before .before .before .before in
     let f : SFits w64 (a .args .p .centre) = search needs in
     let lat : toZ w64 (ofZ w64 (a .args .latitude)) ≡ a .args .latitude = toZ-ofZ w64 (a .args .latitude) (a .fits .latitude) in
     let d : toZ w64 (ofZ w64 (a .args .longitude)) -ℤ toZ w64 (ofZ w64 (a .args .p .centre)) ≡ difference a = same a f in
     let w : toZ w64 (ofZ w64 (difference a)) ≡ difference a = toZ-ofZ w64 (difference a) (difference-fits a) in
-    cc
+    cc (radians-is (a .args .latitude), radians-is (difference a))
 
 pub place-spec : {M : Type 1} → statement M
 place-spec = tie.close (tie.spec int-to-float-radians radians-requires sub-radians int-to-float-radians-2 radians-requires-2 plane-requires returns)

@@ -3,7 +3,8 @@ use mathlib.Core.Path.{_≡_, refl, sym, _∙_}
 use mathlib.Core.Bool.{true, false}
 use lib.Dec.{eqb}
 use borrow.Author.Tests.{eq-eqb, ne-eqb}
-use Rattle.plan_rules.proofs.Laws.{never-refused, gave-refusal, gave-origin}
+use Rattle.angle.proofs.Made.{never-refused}
+use Rattle.plan_rules.proofs.Laws.{gave-refusal, gave-origin}
 use borrow.Author.Needs.{needs}
 use Rattle.plan_rules.proofs.decide.take_origin.Statement.{statement}
 use Rattle.plan_rules.proofs.decide.take_origin.Tie as tie

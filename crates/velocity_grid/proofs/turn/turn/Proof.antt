@@ -13,7 +13,7 @@ use Rattle.ranges.proofs.Ranges.{Natural, natural}
 use Rattle.bounds.proofs.Zero.{Upto}
 use Rattle.angle.proofs.Tests.{read-back}
 use Rattle.angle.proofs.Wholes.{natural-upto, in-float, fits, sub-pos}
-use Rattle.angle.specs.Units.{radians}
+use Rattle.angle.proofs.UnitLaws.{radians-is}
 use Rattle.velocity_grid.specs.Turn.{turnedAt}
 use Rattle.velocity_grid.proofs.AtPoint.{sized-upto}
 use Rattle.velocity_grid.proofs.turn.turn.Statement.{statement}
@@ -99,7 +99,7 @@ turned-requires : tie.Need-turned-requires
 turned-requires c κs = search needs
 
 returns : tie.Need-returns
-unfolding turnedAt radians round ofBits
+unfolding turnedAt round ofBits
 returns c =
     let a = start (c .before .before .before .before .before .before) in
     let lat : toZ w64 (ofZ w64 (a .args .latitude)) ≡ a .args .latitude = toZ-ofZ w64 (a .args .latitude) (a .fits .latitude) in
@@ -108,7 +108,7 @@ returns c =
     let e : toZ w64 (ofZ w64 (a .args .p .east)) ≡ a .args .p .east = toZ-ofZ w64 (a .args .p .east) (part-fits (a .args .p .east) (a .pre .0 .east)) in
     let n : toZ w64 (ofZ w64 (a .args .p .north)) ≡ a .args .p .north = toZ-ofZ w64 (a .args .p .north) (part-fits (a .args .p .north) (a .pre .0 .north)) in
     let u : toZ w64 (ofZ w64 (a .args .p .up)) ≡ a .args .p .up = toZ-ofZ w64 (a .args .p .up) (part-fits (a .args .p .up) (a .pre .0 .up)) in
-    cc
+    cc (radians-is (a .args .latitude), radians-is (a .args .longitude -ℤ pos 32400000000))
 
 pub turn-spec : {M : Type 1} → statement M
 turn-spec =

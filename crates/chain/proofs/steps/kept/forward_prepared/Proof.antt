@@ -19,7 +19,7 @@ use Rattle.chain.specs.declared.Answer.the-variants.{Refused}
 use Rattle.chain.specs.Faults.{inArea}
 use Rattle.chain.specs.Parts.{forwardBy}
 use Rattle.chain.specs.Prepared.{lengthIn, startIn, endIn, rowsOf, preparedTests, carried, reachedWith, forwardPrepared}
-use Rattle.chain.proofs.Keeping.{forward-refused, forward-carried, prepared-passed}
+use Rattle.chain.proofs.KeptTurns.{forward-refused, forward-carried, prepared-passed}
 use Rattle.chain.proofs.steps.kept.forward_prepared.Statement.{statement}
 use Rattle.chain.proofs.steps.kept.forward_prepared.Tie as tie
 

@@ -19,7 +19,7 @@ use Rattle.chain.specs.declared.Answer.the-variants.{Refused}
 use Rattle.chain.specs.Faults.{inArea}
 use Rattle.chain.specs.Parts.{inverseBy}
 use Rattle.chain.specs.Prepared.{lengthIn, endIn, startIn, rowsOf, preparedTests, carried, reachedWith, inversePrepared}
-use Rattle.chain.proofs.Keeping.{inverse-refused, inverse-carried, prepared-passed}
+use Rattle.chain.proofs.KeptTurns.{inverse-refused, inverse-carried, prepared-passed}
 use Rattle.chain.proofs.steps.kept.inverse_prepared.Statement.{statement}
 use Rattle.chain.proofs.steps.kept.inverse_prepared.Tie as tie
 

@@ -1,9 +1,9 @@
--- `chain::steps::kept::ready_in_range` meets its contract. Assumes nothing.
+-- `chain::steps::kept::rows::ready_in_range` meets its contract. Assumes nothing.
 use mathlib.Core.Path.{sym, _∙_, ap}
 use Rattle.chain.specs.Prepared.{readyRange}
 use borrow.Author.Needs.{needs}
-use Rattle.chain.proofs.steps.kept.ready_in_range.Statement.{statement}
-use Rattle.chain.proofs.steps.kept.ready_in_range.Tie as tie
+use Rattle.chain.proofs.steps.kept.rows.ready_in_range.Statement.{statement}
+use Rattle.chain.proofs.steps.kept.rows.ready_in_range.Tie as tie
 
 enum-known-r : tie.Need-enum-known-r
 enum-known-r c = search needs

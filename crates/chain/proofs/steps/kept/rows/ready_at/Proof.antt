@@ -1,4 +1,4 @@
--- `chain::steps::kept::ready_at` meets its contract. Assumes nothing.
+-- `chain::steps::kept::rows::ready_at` meets its contract. Assumes nothing.
 use Prim.Native.Nat.{ℕ, _+_, _*_}
 use mathlib.Core.Path.{_≡_, ap}
 use native.Mathlib.Omega.{arith}
@@ -6,11 +6,11 @@ use lib.IntN.{pos}
 use lib.ListN.{getD}
 use mathlib.Core.Path.{_∙_}
 use Rattle.rounding.proofs.Machine.{told}
-use Rattle.chain.proofs.Keeping.{eight}
+use Rattle.chain.proofs.KeptRows.{eight}
 use Rattle.chain.specs.Prepared.{readyAt}
 use borrow.Author.Needs.{needs}
-use Rattle.chain.proofs.steps.kept.ready_at.Statement.{statement}
-use Rattle.chain.proofs.steps.kept.ready_at.Tie as tie
+use Rattle.chain.proofs.steps.kept.rows.ready_at.Statement.{statement}
+use Rattle.chain.proofs.steps.kept.rows.ready_at.Tie as tie
 
 mul-at : tie.Need-mul-at
 mul-at c = search needs

@@ -1,11 +1,11 @@
--- `chain::steps::kept::put` meets its contract. Assumes nothing.
+-- `chain::steps::kept::rows::put` meets its contract. Assumes nothing.
 use Prim.Native.Nat.{suc, _+_, _*_}
 use mathlib.Core.Path.{_≡_}
 use native.Mathlib.Omega.{arith}
 use Rattle.rounding.proofs.Machine.{rd}
 use borrow.Author.Needs.{needs}
-use Rattle.chain.proofs.steps.kept.put.Statement.{statement}
-use Rattle.chain.proofs.steps.kept.put.Tie as tie
+use Rattle.chain.proofs.steps.kept.rows.put.Statement.{statement}
+use Rattle.chain.proofs.steps.kept.rows.put.Tie as tie
 
 mul-at : tie.Need-mul-at
 mul-at c = search needs

@@ -1,4 +1,4 @@
--- `chain::steps::kept::turn_in_range` meets its contract. Assumes nothing.
+-- `chain::steps::kept::rows::turn_in_range` meets its contract. Assumes nothing.
 use mathlib.Core.Path.{_∙_, ap, ap₂}
 use mathlib.Core.Bool.{_&&_}
 use lib.IntN.{ℤ}
@@ -6,8 +6,8 @@ use Rattle.rounding.proofs.Machine.{told, of₃}
 use Rattle.ranges.specs.Ranges.{upTo}
 use Rattle.chain.specs.Prepared.{readyRange}
 use borrow.Author.Needs.{needs}
-use Rattle.chain.proofs.steps.kept.turn_in_range.Statement.{statement}
-use Rattle.chain.proofs.steps.kept.turn_in_range.Tie as tie
+use Rattle.chain.proofs.steps.kept.rows.turn_in_range.Statement.{statement}
+use Rattle.chain.proofs.steps.kept.rows.turn_in_range.Tie as tie
 
 three-within-requires : tie.Need-three-within-requires
 three-within-requires c κs = search needs

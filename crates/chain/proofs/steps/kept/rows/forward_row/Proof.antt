@@ -1,4 +1,4 @@
--- `chain::steps::kept::forward_row` meets its contract. Assumes nothing.
+-- `chain::steps::kept::rows::forward_row` meets its contract. Assumes nothing.
 use mathlib.Core.Path.{_≡_, sym, _∙_, ap, subst, subst⁻¹}
 use mathlib.Core.Bool.{Bool, true, false, _&&_}
 use Prim.Native.Nat.{ℕ, _+_, _*_}
@@ -12,9 +12,9 @@ use Rattle.ranges.specs.Ranges.{within}
 use Rattle.chain.specs.declared.steps.Ready.{Ready}
 use Rattle.chain.specs.Ready.{readyParts}
 use Rattle.chain.specs.Prepared.{number, formRange, readyAt, readyRange, rowAt, Stepped}
-use Rattle.chain.proofs.Keeping.{no-both}
-use Rattle.chain.proofs.steps.kept.forward_row.Statement.{statement}
-use Rattle.chain.proofs.steps.kept.forward_row.Tie as tie
+use Rattle.chain.proofs.KeptTurns.{no-both}
+use Rattle.chain.proofs.steps.kept.rows.forward_row.Statement.{statement}
+use Rattle.chain.proofs.steps.kept.rows.forward_row.Tie as tie
 
 mul-at : tie.Need-mul-at
 mul-at c = search needs

@@ -1,4 +1,4 @@
--- `chain::steps::kept::stepped` meets its contract. Assumes nothing.
+-- `chain::steps::kept::rows::stepped` meets its contract. Assumes nothing.
 use mathlib.Core.Path.{_≡_, sym, _∙_}
 use mathlib.Core.Bool.{true, false}
 use Prim.Native.Nat.{ℕ}
@@ -6,9 +6,10 @@ use native.Mathlib.Omega.{arith}
 use borrow.Author.Needs.{needs}
 use borrow.Author.Tests.{not-true, not-false}
 use Rattle.chain.specs.Prepared.{readyRange}
-use Rattle.chain.proofs.Keeping.{range-ok, no-both}
-use Rattle.chain.proofs.steps.kept.stepped.Statement.{statement}
-use Rattle.chain.proofs.steps.kept.stepped.Tie as tie
+use Rattle.chain.proofs.KeptRows.{range-ok}
+use Rattle.chain.proofs.KeptTurns.{no-both}
+use Rattle.chain.proofs.steps.kept.rows.stepped.Statement.{statement}
+use Rattle.chain.proofs.steps.kept.rows.stepped.Tie as tie
 
 ready-in-range-requires : tie.Need-ready-in-range-requires
 ready-in-range-requires c κs = tt

@@ -1,8 +1,8 @@
--- `chain::steps::kept::put_ready` meets its contract. Assumes nothing.
+-- `chain::steps::kept::rows::put_ready` meets its contract. Assumes nothing.
 use Rattle.rounding.proofs.Machine.{told}
 use borrow.Author.Needs.{needs}
-use Rattle.chain.proofs.steps.kept.put_ready.Statement.{statement}
-use Rattle.chain.proofs.steps.kept.put_ready.Tie as tie
+use Rattle.chain.proofs.steps.kept.rows.put_ready.Statement.{statement}
+use Rattle.chain.proofs.steps.kept.rows.put_ready.Tie as tie
 
 enum-known-r : tie.Need-enum-known-r
 enum-known-r c = search needs

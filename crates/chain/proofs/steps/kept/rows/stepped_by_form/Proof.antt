@@ -1,11 +1,11 @@
--- `chain::steps::kept::stepped_by_form` meets its contract: the arms are the cases of the definition. Assumes nothing.
+-- `chain::steps::kept::rows::stepped_by_form` meets its contract: the arms are the cases of the definition. Assumes nothing.
 use mathlib.Core.Path.{sym, subst}
 use borrow.Author.Needs.{needs}
 use Rattle.chain.specs.declared.steps.Ready.{Ready}
 use Rattle.chain.specs.Ready.{readyParts}
 use Rattle.chain.specs.Prepared.{readyRange, Stepped}
-use Rattle.chain.proofs.steps.kept.stepped_by_form.Statement.{statement}
-use Rattle.chain.proofs.steps.kept.stepped_by_form.Tie as tie
+use Rattle.chain.proofs.steps.kept.rows.stepped_by_form.Statement.{statement}
+use Rattle.chain.proofs.steps.kept.rows.stepped_by_form.Tie as tie
 
 enum-known-r : tie.Need-enum-known-r
 enum-known-r c = search needs

@@ -1,12 +1,12 @@
--- `chain::steps::kept::ready_of` meets its contract. Assumes nothing.
+-- `chain::steps::kept::rows::ready_of` meets its contract. Assumes nothing.
 use mathlib.Core.Path.{_≡_, sym, _∙_, ap}
 use mathlib.Core.Bool.{true, false}
 use lib.IntN.{pos}
 use Rattle.rounding.proofs.Machine.{rd}
 use Rattle.ranges.specs.Ranges.{equal}
 use borrow.Author.Needs.{needs}
-use Rattle.chain.proofs.steps.kept.ready_of.Statement.{statement}
-use Rattle.chain.proofs.steps.kept.ready_of.Tie as tie
+use Rattle.chain.proofs.steps.kept.rows.ready_of.Statement.{statement}
+use Rattle.chain.proofs.steps.kept.rows.ready_of.Tie as tie
 
 equal-requires : tie.Need-equal-requires
 equal-requires c κs = search needs

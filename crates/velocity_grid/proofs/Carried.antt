@@ -1,25 +1,16 @@
 -- The ranges of a grid's numbers cannot tell a number from the number as it is carried. Assumes nothing.
-use mathlib.Core.Path.{_≡_, refl, sym, _∙_, ap, ap₂, subst}
+use mathlib.Core.Path.{_≡_, refl, sym, _∙_, ap₂, subst}
 use mathlib.Core.Bool.{Bool, true, false, _&&_}
-use mathlib.Core.List.{List}
-use mathlib.Core.Option.{some}
-use Prim.Native.Nat.{ℕ}
 use native.Mathlib.Omega.{arith}
 use lib.IntN.{ℤ, pos, negsuc}
 use Rattle.ranges.specs.Ranges.{within, latitudeRange, longitudeRange}
 use Rattle.ranges.proofs.Ranges.{Natural, natural-holds}
-use Rattle.line.specs.Fields.{said}
-use Rattle.line.specs.Forms.{gridForm, nodeForm}
 use Rattle.line.specs.Reading.{cappedZ, cappedHeader, cappedParts}
-use Rattle.line.specs.Readers.{readGridHeader, hyphenLine, numbersNode, readNode}
-use Rattle.line.specs.declared.GridHeader.{GridHeader}
-use Rattle.line.specs.declared.Parts.{Parts}
 use Rattle.line.proofs.Capped.{Sure, sure-within, sure-either, both, halves}
 use Rattle.velocity_grid.specs.OnGrid.{sizeRange, meshRange, gridRange}
 use Rattle.velocity_grid.specs.AtPoint.{partRange}
 use Rattle.velocity_grid.specs.Text.{partsRange}
 use Rattle.velocity_grid.proofs.OnGrid.{sized, not-sized}
-use Rattle.theorems.specs.Velocities.{HeaderJudged, NodeJudged}
 
 sure-latitude : Sure cappedZ latitudeRange
 sure-latitude = sure-within (pos 0) (pos 2880000000) (omega arith) (omega arith)
@@ -55,7 +46,7 @@ size-same r c = go (count r && count c) refl
     go false e = not-sized (cappedZ r) (cappedZ c) (both (sure-count .same r) (sure-count .same c) ∙ e) ∙ sym (not-sized r c e)
 
 -- ---- a header, and a node's parts
-sure-header : Sure cappedHeader gridRange
+pub sure-header : Sure cappedHeader gridRange
 unfolding gridRange
 sure-header =
     record {
@@ -69,7 +60,7 @@ sure-header =
           rw (sure-latitude .kept (g .latitude) (a .0), sure-longitude .kept (g .longitude) (a .1), k .0, k .1, sure-mesh .kept (g .mesh) (m .1));
     }
 
-sure-parts : Sure cappedParts partsRange
+pub sure-parts : Sure cappedParts partsRange
 unfolding partsRange
 sure-parts =
     record {
@@ -80,11 +71,3 @@ sure-parts =
           let a = halves (partRange (p .east)) (partRange (p .north)) (u .0) in
           rw (sure-part .kept (p .east) (a .0), sure-part .kept (p .north) (a .1), sure-part .kept (p .up) (u .1));
     }
-
-pub header-judged : (line : List ℕ) (g : GridHeader) → said gridForm line ≡ some g → HeaderJudged line g
-unfolding readGridHeader
-header-judged line g e = record { carried = cappedHeader g; read = rw e; same = sure-header .same g; kept = sure-header .kept g }
-
-pub node-judged : (line : List ℕ) (p : Parts) → hyphenLine line ≡ false → said nodeForm line ≡ some p → NodeJudged line p
-unfolding readNode numbersNode
-node-judged line p h e = record { carried = cappedParts p; read = rw (h, e); same = sure-parts .same p; kept = sure-parts .kept p }

@@ -1,4 +1,4 @@
--- `chain::steps::kept::row_at` meets its contract. Assumes nothing.
+-- `chain::steps::kept::rows::row_at` meets its contract. Assumes nothing.
 use mathlib.Core.Path.{_≡_, _∙_, ap, ap₂}
 use mathlib.Core.Bool.{Bool, _&&_}
 use Prim.Native.Nat.{ℕ, _+_, _*_}
@@ -10,8 +10,8 @@ use Rattle.rounding.proofs.Machine.{told}
 use Rattle.ranges.specs.Ranges.{within}
 use Rattle.chain.specs.declared.steps.Ready.{Ready}
 use Rattle.chain.specs.Prepared.{readyRange, rowAt}
-use Rattle.chain.proofs.steps.kept.row_at.Statement.{statement}
-use Rattle.chain.proofs.steps.kept.row_at.Tie as tie
+use Rattle.chain.proofs.steps.kept.rows.row_at.Statement.{statement}
+use Rattle.chain.proofs.steps.kept.rows.row_at.Tie as tie
 
 mul-at : tie.Need-mul-at
 mul-at c = search needs

@@ -1,0 +1,13 @@
+-- Whole numbers in radians and in metres, as the formulas and the code have them: the number's f64 times the constant, or over a thousand. Assumes nothing.
+use mathlib.Core.Path.{_≡_, refl}
+use lib.IntN.{ℤ}
+use Rattle.elementary.specs.Floats.{_⊗_, _⊘_, #, whole}
+use Rattle.angle.specs.Units.{k, radians, metres}
+
+pub radians-is : (z : ℤ) → radians z ≡ whole z ⊗ k
+unfolding radians
+radians-is z = refl
+
+pub metres-is : (z : ℤ) → metres z ≡ whole z ⊘ # 1000
+unfolding metres
+metres-is z = refl

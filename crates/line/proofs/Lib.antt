@@ -6,6 +6,7 @@ pub mod Answers
 pub mod Capped
 pub mod Faults
 pub mod Texts
+pub mod BareLines
 pub mod Compared
 pub mod Lengths
 pub mod Lots

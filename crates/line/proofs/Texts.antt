@@ -101,7 +101,7 @@ pub decimal-more : (n : ℕ) → 10 ≤ n → decimal n ≡ decimal (n / 10) ++ 
 unfolding decimal lastDigits
 decimal-more n h = rw (le-ltb n 10 h, enough n (suc (n / 10)) (n / 10) (omega arith) (omega arith))
 
-digit-on : (y x d : ℕ) (rest : List ℕ) → y ≡ x / 10 → d ≡ x % 10 → 10 ≤ x → decimal y ++ ((48 + d) ∷ rest) ≡ decimal x ++ rest
+pub digit-on : (y x d : ℕ) (rest : List ℕ) → y ≡ x / 10 → d ≡ x % 10 → 10 ≤ x → decimal y ++ ((48 + d) ∷ rest) ≡ decimal x ++ rest
 digit-on y x d rest e f h =
     rw (e, f) (sym (append-assoc (decimal (x / 10)) ((48 + x % 10) ∷ []) rest) ∙ ap (λ (l : List ℕ). l ++ rest) (sym (decimal-more x h)))
 

@@ -1,14 +1,19 @@
 -- The laws of a program's run over the lines of its input. Assumes nothing.
-use Prim.Native.Nat.{ℕ, _-_, _≤_, _<_}
-use mathlib.Core.Path.{_≡_}
+use Prim.Native.Nat.{ℕ, zero, suc, _+_, _-_, _≤_, _<_}
+use mathlib.Core.Path.{_≡_, sym, subst}
 use mathlib.Core.Bool.{Bool, true, false}
-use mathlib.Core.List.{List}
+use mathlib.Core.List.{List, [], _∷_, _++_, append-assoc}
 use lib.Dec.{eqb}
 use lib.ListN.{length, getD, take, drop}
+use native.Mathlib.Nat.{add-zero}
+use native.Mathlib.Omega.{arith}
 use borrow.Author.Tests.{lt-ltb, le-ltb}
 use Rattle.refusal.specs.Numbers as refusal
 use Rattle.refusal.specs.Order.{pick}
+use Rattle.line.specs.Bytes.{lineFeed}
 use Rattle.line.specs.Lines.{lines, lineEnd}
+use Rattle.line.specs.BareLines.{Feed, feedsText}
+use Rattle.line.proofs.BareLines.{feed-line}
 use Rattle.line.specs.Text.{Wrote, refusalText}
 use Rattle.line.proofs.Lines.{piece, lines-none}
 use Rattle.line.proofs.Texts.{«then», nothing}
@@ -40,6 +45,36 @@ module _ {S R : Type 0} (r : Rules S R) (s₀ : S) (input out₀ : List ℕ) whe
   pub left-none : (p : ℕ) (s : S) (out : List ℕ) (o : ℕ) → length input ≤ p → Left r s₀ input out₀ s p out o → Wrote out₀ 0 (run r s₀ (lines input)) out o
   unfolding run Left
   left-none p s out o h l = l out o (rw (lines-none input p h) (nothing out o))
+
+-- ---- bare line feeds, several at once
+-- the state after k of them
+unfoldable pub afterFeeds : {S R : Type 0} → Rules S R → ℕ → S → S
+afterFeeds r zero s = s
+afterFeeds r (suc k) s = afterFeeds r k (r .next s (lineFeed ∷ []))
+
+-- a program that knows no such line: it refuses each by its letter, and counts it
+pub record Bare {S R : Type 0} (r : Rules S R) (number : S → ℕ) : Type 0 where
+  pub refused : (s : S) → r .text (r .reply s (lineFeed ∷ [])) ≡ refusalText (number s) refusal.letter 0
+  pub counted : (s : S) → number (r .next s (lineFeed ∷ [])) ≡ number s + 1
+
+module _ {S R : Type 0} {r : Rules S R} {number : S → ℕ} (bare : Bare r number) where
+  run-feeds : (k p : ℕ) (s : S) (input : List ℕ) → ((i : ℕ) → i < k → Feed input (p + i)) → run r s (lines (drop p input)) ≡ feedsText k (number s) ++ run r (afterFeeds r k s) (lines (drop (p + k) input))
+  unfolding run feedsText afterFeeds
+  run-feeds zero p s input each = rw add-zero
+  run-feeds (suc k) p s input each =
+      let first : Feed input p = subst (Feed input) (add-zero p) (each 0 (omega arith)) in
+      let e : p + suc k ≡ p + 1 + k = omega arith in
+      let others = run-feeds k (p + 1) (r .next s (lineFeed ∷ [])) input (λ i h. let f : p + suc i ≡ p + 1 + i = omega arith in subst (Feed input) f (each (suc i) (omega arith))) in
+      rw (feed-line input p first, bare .refused s, others, bare .counted s, e) (sym (append-assoc (refusalText (number s) refusal.letter 0) (feedsText k (number s + 1)) _))
+
+  pub feeds-counted : (k : ℕ) (s : S) → number (afterFeeds r k s) ≡ number s + k
+  unfolding afterFeeds
+  feeds-counted zero s = omega arith
+  feeds-counted (suc k) s = omega (arith, feeds-counted k (r .next s (lineFeed ∷ [])), bare .counted s)
+
+  pub left-feeds : (s₀ : S) (input out₀ : List ℕ) (k p : ℕ) (s : S) (out out' : List ℕ) (o o' : ℕ) → ((i : ℕ) → i < k → Feed input (p + i)) → Wrote out o (feedsText k (number s)) out' o' → Left r s₀ input out₀ s p out o → Left r s₀ input out₀ (afterFeeds r k s) (p + k) out' o'
+  unfolding Left
+  left-feeds s₀ input out₀ k p s out out' o o' each w l m t v = l m t (rw (run-feeds k p s input each) («then» w v))
 
 -- ---- whatever holds of the three holds of what a line's letter decides
 pub by-letter : {A : Type 0} (P : A → Type 0) (one other : ℕ) (line : List ℕ) (a b neither : A) → P a → P b → P neither → P (byLetter one other line a b neither)

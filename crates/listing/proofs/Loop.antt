@@ -7,9 +7,13 @@ use lib.Seq.{length-sets}
 use native.Mathlib.Omega.{arith}
 use Rattle.line.specs.Lines.{lineEnd}
 use Rattle.line.specs.Text.{Wrote}
+use Rattle.line.specs.declared.Feeds.{Feeds}
+use Rattle.line.specs.BareLines.{Fed}
 use Rattle.line.proofs.Lines.{Piece, piece}
+use Rattle.line.proofs.BareLines.{row-inside}
+use Rattle.line.proofs.Texts.{kept-length}
 use Rattle.listing.specs.Fold.{Rules, longestInput, printed}
-use Rattle.listing.proofs.Fold.{Left, left-all, left-turn, left-none, printed-lines}
+use Rattle.listing.proofs.Fold.{Left, left-all, left-turn, left-none, printed-lines, Bare, afterFeeds, feeds-counted, left-feeds}
 use Rattle.listing.proofs.Room.{Roomy}
 
 -- the loop stands at byte `from` of the input and byte `at` of the array: the code holds some state of the rules, whose number counts the lines, and once what
@@ -45,4 +49,17 @@ module _ {S R : Type 0} (r : Rules S R) (number : S → ℕ) (fresh : S) (one : 
         inside = l .inside;
         counted = omega (arith, l .some, k .counted, roomy .counts (k .state) line);
         size = ap length (w .list) ∙ length-sets out at (r .text reply) ∙ k .size;
+      }
+
+  -- past bare line feeds that were answered at once, the first under the number n that the code holds
+  pub goes-past : Bare r number → {Held Held' : S → Type 0} {out out' : List ℕ} {at from n : ℕ} (fed : Feeds) → ((s : S) → Held s → (n ≡ number s) × Held' (afterFeeds r (fed .lines) s)) → Fed input from out at n out' fed → Midway r number fresh input out₀ Held out at from → Midway r number fresh input out₀ Held' out' (fed .at) (from + fed .lines)
+  goes-past bare {out = out} {out'} {at} {from} fed d f k =
+      let x = d (k .state) (k .held) in
+      record {
+        state = afterFeeds r (fed .lines) (k .state);
+        held = x .1;
+        left = left-feeds bare fresh input out₀ (fed .lines) from (k .state) out out' at (fed .at) (f .each) (rw (← x .0) (f .wrote)) (k .left);
+        inside = row-inside (fed .lines) input from (k .inside) (f .each);
+        counted = omega (arith, k .counted, feeds-counted bare (fed .lines) (k .state));
+        size = kept-length (f .wrote) ∙ k .size;
       }

@@ -64,14 +64,13 @@ module _ {S R : Type 0} {r : Rules S R} {number : S → ℕ} (roomy : Roomy r nu
           let f = printed-fits s n input in
           (omega (arith, w .place), w .list ∙ sets-eq text before 0 (omega arith) ∙ ap (λ (k : ℕ). text ++ drop k before) e)
 
--- ---- with the room that the longest input asks for, the text is there whole, and is the part of the array before r
+-- ---- with the room that the input asks for, the text is there whole, and is the part of the array before r
 take-front : (a b : List ℕ) → take (length a) (a ++ b) ≡ a
 take-front [] b = refl
 take-front (x ∷ a) b = ap (λ (l : List ℕ). x ∷ l) (take-front a b)
 
-pub whole-text : {text input before after : List ℕ} {r : ℕ} → length before ≡ roomFor longestInput → Prints text input before after r → (r ≤ length after) × (take r after ≡ text)
-unfolding roomFor
-whole-text {text} {input} {before} {after} {r} l p =
-    let w = p .whole (omega arith) in
+pub whole-text : {text input before after : List ℕ} {r : ℕ} → roomFor (length input) ≤ length before → Prints text input before after r → (r ≤ length after) × (take r after ≡ text)
+whole-text {text} {input} {before} {after} {r} h p =
+    let w = p .whole h in
     let b = ap (λ (k : ℕ). take k after) (w .0) ∙ ap (take (length text)) (w .1) ∙ take-front text (drop (length text) before) in
     (omega (arith, w .0, ap length b, length-take r after), b)

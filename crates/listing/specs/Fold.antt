@@ -31,6 +31,10 @@ printed r s input = pick (ltb longestInput (length input)) (refusalText 0 refusa
 unfoldable pub roomFor : ℕ → ℕ
 roomFor n = 13 * min n longestInput + 9
 
+-- the length up to which an input is answered in a room of its own
+abbrev pub shortInput : ℕ
+shortInput = 4096
+
 -- what a call that prints does: the array held `before` and holds `after`, and r is the place past the text
 pub record Prints (text input before after : List ℕ) (r : ℕ) : Type 0 where
   -- with the room that the input asks for: the array begins with the whole text, and everything past it is untouched

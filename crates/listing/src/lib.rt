@@ -2,10 +2,13 @@
 ghost use Prim.Native.Nat.{_+_};
 ghost use mathlib.Core.Path.{_≡_};
 ghost use lib.ListN.{length};
-ghost use Rattle.listing.specs.Fold.{longestInput, roomFor};
+ghost use Rattle.listing.specs.Fold.{longestInput, shortInput, roomFor};
 
 // The longest input that is read, in bytes. Of a longer one nothing is read.
 pub const LONGEST_INPUT: usize = 65536;
+
+// A short input, in bytes: the programs answer it in a room of its own, since a room is cleared before it is used and the largest one takes longer than the answer.
+pub const SHORT_INPUT: usize = 4096;
 
 // The room that an input of n bytes asks for, in bytes: a line prints at most 13 for each of its own.
 pub fn room_for(n: usize) -> usize
@@ -30,4 +33,11 @@ pub fn output_space() -> [u8; 851977]
     ensures { λ r. ⌜ roomFor longestInput ≡ length r ⌝ }
 {
     [0; 851977]
+}
+
+// Room for what a short input prints.
+pub fn short_output_space() -> [u8; 53257]
+    ensures { λ r. ⌜ roomFor shortInput ≡ length r ⌝ }
+{
+    [0; 53257]
 }

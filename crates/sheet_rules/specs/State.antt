@@ -31,5 +31,9 @@ pub record Gave (answer : Reply) (next : Sheet) (numbers : List ℤ) (r : Decide
 unfoldable pub afterIn : State → Bool → Bool → State
 afterIn st refused closed = record { line = st .line + 1; profile = st .profile; refused = refused; closed = closed }
 
+-- the state after k lines that change nothing else
+unfoldable pub passedIn : State → ℕ → State
+passedIn st k = record { line = st .line + k; profile = st .profile; refused = st .refused; closed = st .closed }
+
 unfoldable pub refusedIn : State → ℕ → ℕ → Bool → Bool → Decided
 refusedIn st number place refused closed = record { reply = reply.Refused (st .line) number place; state = afterIn st refused closed }

@@ -12,7 +12,7 @@ ghost use Rattle.line.specs.Text.{decimal, integer, letters, nameText, p
 
 const HUNDRED_MILLION: u64 = 100000000;
 
-fn put(out: &mut [u8], at: usize, b: u8) -> usize
+pub fn put(out: &mut [u8], at: usize, b: u8) -> usize
     requires { ⌜ at < length (now out) ⌝ }
     ensures { λ r. ⌜ Put 1 (now (out .entry)) at (b ∷ []) (now (out .exit)) r ⌝ }
 {
@@ -21,7 +21,7 @@ fn put(out: &mut [u8], at: usize, b: u8) -> usize
 }
 
 // Both digits as one number of two bytes: tens + 256·ones, each 48 up, where ones = v - 10·tens. They become one store of two bytes.
-fn pair(out: &mut [u8], at: usize, v: u64) -> usize
+pub fn pair(out: &mut [u8], at: usize, v: u64) -> usize
     requires { ⌜ (v < 100) × (at + 2 ≤ length (now out)) ⌝ }
     ensures { λ r. ⌜ Put 2 (now (out .entry)) at (two v) (now (out .exit)) r ⌝ }
 {
@@ -160,7 +160,7 @@ fn name(out: &mut [u8], at: usize, id: chain::Id) -> usize
 }
 
 // A first letter, and the tab after it.
-fn letter(out: &mut [u8], at: usize, l: u8) -> usize
+pub fn letter(out: &mut [u8], at: usize, l: u8) -> usize
     requires { ⌜ at + 2 ≤ length (now out) ⌝ }
     ensures { λ r. ⌜ Put 2 (now (out .entry)) at (l ∷ 9 ∷ []) (now (out .exit)) r ⌝ }
 {

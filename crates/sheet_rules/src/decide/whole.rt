@@ -2,12 +2,16 @@
 ghost use Rattle.line.specs.Text.{Wrote};
 ghost use Rattle.listing.specs.Fold.{Prints};
 ghost use Rattle.sheet_rules.specs.Sheet.{fresh, replyText, sheetOf};
-ghost use Rattle.sheet_rules.specs.State.{Holds};
+ghost use Rattle.sheet_rules.specs.State.{Holds, passedIn};
+ghost use mathlib.Core.Path.{_≡_};
+ghost use Prim.Native.Nat.{_+_, _≤_};
 ghost use lib.IntN.{pos};
 ghost use lib.ListN.{replicate};
 use crate::Reply;
 use crate::State;
 use crate::decide::decide;
+
+const LINE_FEED: u8 = 10;
 
 // Nothing read yet.
 fn fresh() -> State
@@ -18,6 +22,19 @@ fn fresh() -> State
         profile: chain::LATEST,
         refused: false,
         closed: false,
+    }
+}
+
+// The state after bare line feeds, which no program knows: their number is all that they change.
+fn passed(state: State, lines: usize) -> State
+    requires { ⌜ state .line + lines ≤ 1000000 ⌝ }
+    ensures { λ r. ⌜ r ≡ passedIn state lines ⌝ }
+{
+    State {
+        line: state.line + (lines as u64),
+        profile: state.profile,
+        refused: state.refused,
+        closed: state.closed,
     }
 }
 
@@ -45,12 +62,20 @@ pub fn sheet(input: &[u8], out: &mut [u8]) -> usize
     let mut at: usize = 0;
     let mut from: usize = 0;
     while from < input.len() {
-        let end = line::line_end(input, from);
-        let decided = decide(state, &mut numbers, &input[from..end]);
-        let reply = decided.reply;
-        at = write_reply(out, at, reply);
-        state = decided.state;
-        from = end;
+        if input[from] == LINE_FEED {
+            let feeds = line::write_feeds(input, from, out, at, state.line);
+            let lines = feeds.lines;
+            at = feeds.at;
+            state = passed(state, lines);
+            from = from + lines;
+        } else {
+            let end = line::line_end(input, from);
+            let decided = decide(state, &mut numbers, &input[from..end]);
+            let reply = decided.reply;
+            at = write_reply(out, at, reply);
+            state = decided.state;
+            from = end;
+        }
     }
     at
 }

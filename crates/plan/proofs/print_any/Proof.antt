@@ -1,0 +1,24 @@
+-- `plan::print_any` meets its contract: the largest room is enough. Assumes nothing.
+use borrow.Author.Needs.{needs}
+use Rattle.listing.specs.Fold.{roomFor}
+use Rattle.plan.proofs.print_any.Statement.{statement}
+use Rattle.plan.proofs.print_any.Tie as tie
+
+output-space-requires : tie.Need-output-space-requires
+output-space-requires c κs = search needs
+
+slice-aggregate-answer : tie.Need-slice-aggregate-answer
+slice-aggregate-answer c = search needs
+
+answer-requires : tie.Need-answer-requires
+unfolding roomFor
+answer-requires c κs = search needs
+
+write-all-requires : tie.Need-write-all-requires
+write-all-requires c κs = search needs
+
+returns : tie.Need-returns
+returns c = search needs
+
+pub print-any-spec : {M : Type 1} → statement M
+print-any-spec = tie.close (tie.spec output-space-requires slice-aggregate-answer answer-requires write-all-requires returns)

@@ -1,0 +1,16 @@
+-- `sheet_rules::decide::whole::passed` meets its contract. Assumes nothing.
+use mathlib.Core.Path.{refl}
+use borrow.Author.Needs.{needs}
+use Rattle.sheet_rules.specs.State.{passedIn}
+use Rattle.sheet_rules.proofs.decide.whole.passed.Statement.{statement}
+use Rattle.sheet_rules.proofs.decide.whole.passed.Tie as tie
+
+add-t4 : tie.Need-add-t4
+add-t4 c = search needs
+
+returns : tie.Need-returns
+unfolding passedIn
+returns c = search needs
+
+pub passed-spec : {M : Type 1} → statement M
+passed-spec = tie.close (tie.spec add-t4 returns)

@@ -78,7 +78,7 @@ module _ (c : Chain) (good : first (chainTests c) ≡ 0) (p : Point) where
   along : List Step → Answer
   along ss = unless (entry (c .profile) p (startOf (p .realization) ss)) Refused (answerOf p (endOf (p .realization) ss) (walk forwardStep ss (p .position)))
 
-  by-steps-forward : forwardOf steps p ≡ forwardOf c p
+  pub by-steps-forward : forwardOf steps p ≡ forwardOf c p
   unfolding forwardOf along
   by-steps-forward = silent steps (ready-holds c good .sound) p _ _ _ ∙ ap along (take-length (stepsOf c)) ∙ sym (silent c good p _ _ _)
 

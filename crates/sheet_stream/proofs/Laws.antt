@@ -4,11 +4,11 @@ use mathlib.Core.Path.{_≡_, refl, sym, ap, _∙_}
 use mathlib.Core.Bool.{Bool, true, false, not, _&&_, _||_}
 use mathlib.Core.List.{List, [], _∷_, _++_}
 use lib.Dec.{eqb, leb, ltb}
-use lib.ListN.{length, getD, take, drop, set, drop-of-length-le}
-use lib.Seq.{take-suc-set, take-all, drop-cons, length-take-le}
+use lib.ListN.{length, getD, take, drop, set, length-set, drop-of-length-le}
+use lib.Seq.{take-suc-set, take-set-lt, getD-take, getD-set-same, drop-cons, length-take-le}
 use native.Mathlib.Numerals.{add-one}
 use native.Mathlib.Omega.{arith}
-use borrow.Author.Tests.{le-leb, lt-leb, leb-true, ltb-true, ltb-false, not-true, lt-ltb, le-ltb, eq-eqb, ne-eqb}
+use borrow.Author.Tests.{le-leb, lt-leb, leb-true, ltb-true, ltb-false, not-true, lt-ltb, le-ltb, eq-eqb, ne-eqb, eqb-true, eqb-false}
 use Rattle.refusal.specs.Numbers as refusal
 use Rattle.refusal.specs.Order.{pick}
 use Rattle.line.specs.Bytes.{lineFeed}
@@ -23,11 +23,11 @@ use Rattle.sheet_rules.specs.OneLine.{mostLines, said, soundStanding, replyTo, 
 use Rattle.sheet_rules.proofs.OneLine.{both, sound-after, reply-rules, reply-past}
 use Rattle.sheet_rules.proofs.OneLine as line
 use Rattle.sheet_rules.proofs.Room.{answer-short}
-use Rattle.sheet_rules.proofs.Unread.{NoFeed, open-18}
+use Rattle.sheet_rules.proofs.Unread.{open-18}
 use Rattle.sheet_stream.specs.declared.Stream.{Stream}
 use Rattle.sheet_stream.specs.declared.Fed.{Fed}
 use Rattle.sheet_stream.specs.declared.Outcome.the-variants.{Open, Line, Refused}
-use Rattle.sheet_stream.specs.Fragments.{between, empty, keep, held, closing, ended, endReply, fed, later, scan, sound, unsound, feedOf, finishOf, Countable, Short}
+use Rattle.sheet_stream.specs.Fragments.{between, empty, keep, held, unended, closing, ended, endReply, fed, later, scan, sound, unsound, feedOf, finishOf, Countable, Short}
 
 -- ---- a sound state
 pub record Sound (s : Stream) : Type 0 where
@@ -102,9 +102,58 @@ module _ (st : Standing) (n : ℕ) (kept : List ℕ) (fin : Bool) where
   unfolding closing
   closing-room h l = rw (lt-ltb n 200 h, add-one) (sym (take-suc-set kept n lineFeed (omega arith)))
 
-  pub closing-full : 200 ≤ n → length kept ≡ 200 → closing (stateOf st n kept fin) ≡ kept
+  pub closing-full : 200 ≤ n → closing (stateOf st n kept fin) ≡ unended (take n kept)
   unfolding closing
-  closing-full h l = rw (le-ltb n 200 h) (take-all n kept (omega arith))
+  closing-full h = rw (le-ltb n 200 h)
+
+-- ---- a line that no line feed ends
+pub unended-same : (l : List ℕ) → (getD l (length l - 1) 0 ≡ lineFeed → ⊥) → unended l ≡ l
+unfolding unended
+unended-same l n = rw (ne-eqb (getD l (length l - 1) 0) lineFeed n)
+
+unended-fed : (l : List ℕ) → getD l (length l - 1) 0 ≡ lineFeed → unended l ≡ set l (length l - 1) 0
+unfolding unended
+unended-fed l e = rw (eq-eqb (getD l (length l - 1) 0) lineFeed e)
+
+pub unended-length : (l : List ℕ) → length (unended l) ≡ length l
+unfolding unended
+unended-length l = go (eqb (getD l (length l - 1) 0) lineFeed)
+  where
+    go : (t : Bool) → length (pick t (set l (length l - 1) 0) l) ≡ length l
+    go true = length-set l (length l - 1) 0
+    go false = refl
+
+pub unended-last : (l : List ℕ) → getD (unended l) (length (unended l) - 1) 0 ≡ lineFeed → ⊥
+unended-last l = go (eqb (getD l (length l - 1) 0) lineFeed) refl
+  where
+    go : (t : Bool) → eqb (getD l (length l - 1) 0) lineFeed ≡ t → getD (unended l) (length (unended l) - 1) 0 ≡ lineFeed → ⊥
+    go true q e =
+        let f = eqb-true (getD l (length l - 1) 0) lineFeed q in
+        zeroed l (rw (unended-length l, unended-fed l f) at e)
+      where
+        zeroed : (l : List ℕ) → getD (set l (length l - 1) 0) (length l - 1) 0 ≡ lineFeed → ⊥
+        zeroed [] e = omega arith
+        zeroed (b ∷ l) e = let y = getD-set-same (b ∷ l) (length (b ∷ l) - 1) 0 0 (omega arith) in omega (arith, y, e)
+    go false q e =
+        let n = eqb-false (getD l (length l - 1) 0) lineFeed q in
+        n (rw (unended-same l n) at e)
+
+-- in the code's room: the bytes kept, 0 for the last where it is a line feed
+module _ (kept : List ℕ) (n : ℕ) (some : 0 < n) (room : n ≤ length kept) where
+  size : length (take n kept) ≡ n
+  size = length-take-le n kept room
+
+  last : getD (take n kept) (length (take n kept) - 1) 0 ≡ getD kept (n - 1) 0
+  last = ap (λ (k : ℕ). getD (take n kept) (k - 1) 0) size ∙ getD-take n kept (n - 1) 0 (omega arith)
+
+  pub unended-none : (getD kept (n - 1) 0 ≡ lineFeed → ⊥) → take n kept ≡ unended (take n kept)
+  unended-none f = sym (unended-same (take n kept) (λ e. f (sym last ∙ e)))
+
+  pub unended-one : getD kept (n - 1) 0 ≡ lineFeed → take n (set kept (n - 1) 0) ≡ unended (take n kept)
+  unended-one e =
+      take-set-lt n kept (n - 1) 0 (omega arith)
+      ∙ ap (λ (k : ℕ). set (take n kept) (k - 1) 0) (sym size)
+      ∙ sym (unended-fed (take n kept) (last ∙ e))
 
 -- the line that ends: the call's answer, from the line handed to the rules
 pub ends : (s : Stream) (l : List ℕ) (k : ℕ) → closing s ≡ l → fed (between (afterLine (s .standing) l) (s .finished)) k (Line (replyTo (s .standing) l)) ≡ fed (ended s) k (Line (endReply s))
@@ -143,7 +192,7 @@ pub finish-none : (s : Stream) → sound s ≡ true → s .count ≡ 0 → finis
 unfolding finishOf
 finish-none s e z = rw (e, eq-eqb (s .count) 0 z)
 
-pub finish-open : (s : Stream) → sound s ≡ true → (s .count ≡ 0 → ⊥) → finishOf s ≡ fed (between (afterLine (s .standing) (held s)) true) 0 (Line (replyTo (s .standing) (held s)))
+pub finish-open : (s : Stream) → sound s ≡ true → (s .count ≡ 0 → ⊥) → finishOf s ≡ fed (between (afterLine (s .standing) (unended (held s))) true) 0 (Line (replyTo (s .standing) (unended (held s))))
 unfolding finishOf
 finish-open s e z = rw (e, ne-eqb (s .count) 0 z)
 
@@ -152,7 +201,7 @@ pub finish-finishes : (s : Stream) → sound s ≡ true → finishOf s .stream .
 unfolding finishOf
 finish-finishes s e = rw e (go (eqb (s .count) 0))
   where
-    go : (t : Bool) → pick {A = Fed} t (fed (between (s .standing) true) 0 Open) (fed (between (afterLine (s .standing) (held s)) true) 0 (Line (replyTo (s .standing) (held s)))) .stream .finished ≡ true
+    go : (t : Bool) → pick {A = Fed} t (fed (between (s .standing) true) 0 Open) (fed (between (afterLine (s .standing) (unended (held s))) true) 0 (Line (replyTo (s .standing) (unended (held s))))) .stream .finished ≡ true
     go true = refl
     go false = refl
 
@@ -167,16 +216,16 @@ pub finished-after-finish : (s : Stream) → s .finished ≡ true → finishOf s
 finished-after-finish s e = finish-29 s (not-going s e)
 
 -- ---- what the finish answers to a line left open: 18 at its length within the limit; past the limit 28
-pub finish-18 : (s : Stream) → sound s ≡ true → length (s .kept) ≡ longestLine → NoFeed (held s) → 0 < s .count → s .standing .line ≤ mostLines → finishOf s .outcome ≡ Line (reply.Refused (s .standing .line) refusal.length (s .count))
-finish-18 s e k n h l =
+pub finish-18 : (s : Stream) → sound s ≡ true → length (s .kept) ≡ longestLine → 0 < s .count → s .standing .line ≤ mostLines → finishOf s .outcome ≡ Line (reply.Refused (s .standing .line) refusal.length (s .count))
+finish-18 s e k h l =
     let p = sound-parts s e in
     let z : length (held s) ≡ s .count = length-take-le (s .count) (s .kept) (omega (arith, p .count)) in
-    let m : min (length (held s)) longestLine ≡ s .count = omega (arith, p .count) in
+    let m : min (length (unended (held s))) longestLine ≡ s .count = omega (arith, p .count, unended-length (held s)) in
     ap (λ (r : Fed). r .outcome) (finish-open s e (λ q. omega arith))
-    ∙ ap Line (reply-rules (s .standing) (held s) l ∙ open-18 (said (s .standing)) (held s) n (omega arith) ∙ ap (reply.Refused (s .standing .line) refusal.length) m)
+    ∙ ap Line (reply-rules (s .standing) (unended (held s)) l ∙ open-18 (said (s .standing)) (unended (held s)) (unended-last (held s)) ∙ ap (reply.Refused (s .standing .line) refusal.length) m)
 
 pub finish-28 : (s : Stream) → sound s ≡ true → 0 < s .count → mostLines < s .standing .line → finishOf s .outcome ≡ Line (reply.Refused (suc mostLines) refusal.limit 0)
-finish-28 s e h l = ap (λ (r : Fed). r .outcome) (finish-open s e (λ q. omega arith)) ∙ ap Line (reply-past (s .standing) (held s) l)
+finish-28 s e h l = ap (λ (r : Fed). r .outcome) (finish-open s e (λ q. omega arith)) ∙ ap Line (reply-past (s .standing) (unended (held s)) l)
 
 -- ---- for callers: no more is taken than there is
 scan-within : (s : Stream) (f : List ℕ) → scan s f .taken ≤ length f
@@ -231,7 +280,7 @@ module _ (s : Stream) (g : Going s) where
   unfolding feedOf
   fed-by f r x e q = rw (sound-as (soundStanding (s .standing)) refl, sym q) e
 
-  pub finished-by : (r : Fed) → (s .count ≡ 0 → ⊥) → r ≡ pick (soundStanding (s .standing)) (fed (between (afterLine (s .standing) (held s)) true) 0 (Line (replyTo (s .standing) (held s)))) (unsound s) → r ≡ finishOf s
+  pub finished-by : (r : Fed) → (s .count ≡ 0 → ⊥) → r ≡ pick (soundStanding (s .standing)) (fed (between (afterLine (s .standing) (unended (held s))) true) 0 (Line (replyTo (s .standing) (unended (held s))))) (unsound s) → r ≡ finishOf s
   unfolding finishOf
   finished-by r z e = rw (sound-as (soundStanding (s .standing)) refl, ne-eqb (s .count) 0 z) e
 
@@ -285,9 +334,9 @@ finished-countable s c = go (sound s) (eqb (s .count) 0) refl
       steps = line.sound-short st (line.sound-made st p);
     }
 
-    go : (t u : Bool) → sound s ≡ t → Countable (pick {A = Fed} t (pick {A = Fed} u (fed (between (s .standing) true) 0 Open) (fed (between (afterLine (s .standing) (held s)) true) 0 (Line (replyTo (s .standing) (held s))))) (unsound s) .stream)
+    go : (t u : Bool) → sound s ≡ t → Countable (pick {A = Fed} t (pick {A = Fed} u (fed (between (s .standing) true) 0 Open) (fed (between (afterLine (s .standing) (unended (held s))) true) 0 (Line (replyTo (s .standing) (unended (held s)))))) (unsound s) .stream)
     go true true e = ended-so (s .standing) (sound-parts s e .standing)
-    go true false e = ended-so (afterLine (s .standing) (held s)) (sound-after (s .standing) (held s) (sound-parts s e .standing))
+    go true false e = ended-so (afterLine (s .standing) (unended (held s))) (sound-after (s .standing) (unended (held s)) (sound-parts s e .standing))
     go false u e = c
 
 -- an answer has at most 100 bytes
@@ -320,7 +369,7 @@ pub finished-short : (s : Stream) → Countable s → Short (finishOf s .outcome
 unfolding finishOf
 finished-short s c = go (sound s) (eqb (s .count) 0)
   where
-    go : (t u : Bool) → Short (pick {A = Fed} t (pick {A = Fed} u (fed (between (s .standing) true) 0 Open) (fed (between (afterLine (s .standing) (held s)) true) 0 (Line (replyTo (s .standing) (held s))))) (unsound s) .outcome)
+    go : (t u : Bool) → Short (pick {A = Fed} t (pick {A = Fed} u (fed (between (s .standing) true) 0 Open) (fed (between (afterLine (s .standing) (unended (held s))) true) 0 (Line (replyTo (s .standing) (unended (held s)))))) (unsound s) .outcome)
     go true true = tt
-    go true false = answer-short (s .standing) (held s) (c .to)
+    go true false = answer-short (s .standing) (unended (held s)) (c .to)
     go false u = tt

@@ -2,10 +2,11 @@
 // that it ends, so that there is never more than one answer to a call, and room is asked for one line.
 ghost use mathlib.Core.Path.{_≡_};
 ghost use mathlib.Core.Bool.{true};
-ghost use lib.ListN.{replicate};
+ghost use Prim.Native.Nat.{_<_, _≤_};
+ghost use lib.ListN.{length, take, replicate};
 ghost use Rattle.refusal.specs.Order.{pick};
 ghost use Rattle.sheet_rules.specs.OneLine.{soundStanding, replyTo, afterLine};
-ghost use Rattle.sheet_stream.specs.Fragments.{empty, between, noStep, fresh as Fragments·fresh, fed, unsound, feedOf, finishOf};
+ghost use Rattle.sheet_stream.specs.Fragments.{empty, between, noStep, fresh as Fragments·fresh, unended, fed, unsound, feedOf, finishOf};
 use chain::Chain;
 use chain::Kind;
 use chain::Realization;
@@ -124,6 +125,29 @@ fn end_line(stream: Stream, line: &[u8], taken: usize, finished: bool) -> Fed
     }
 }
 
+// The room for a line whose first `count` bytes no line feed ends: 0 for the last of them where it is one.
+fn without_end(kept: [u8; 200], count: usize) -> [u8; 200]
+    requires { ⌜ (0 < count) × (count ≤ 200) ⌝ }
+    ensures { λ r. ⌜ (length r ≡ 200) × (take count r ≡ unended (take count kept)) ⌝ }
+{
+    let last = count - 1;
+    if kept[last] != LINE_FEED {
+        return kept;
+    }
+    let mut bytes = kept;
+    bytes[last] = 0;
+    bytes
+}
+
+// A line that has not ended, or is too long: the reply to the bytes that are kept of it.
+fn end_open(stream: Stream, kept: [u8; 200], count: usize, taken: usize, finished: bool) -> Fed
+    requires { ⌜ (0 < count) × (count ≤ 200) ⌝ }
+    ensures { λ r. ⌜ r ≡ pick (soundStanding (stream .standing)) (fed (between (afterLine (stream .standing) (unended (take count kept))) finished) taken (Outcome.Line (replyTo (stream .standing) (unended (take count kept))))) (unsound stream) ⌝ }
+{
+    let bytes = without_end(kept, count);
+    end_line(stream, &bytes[..count], taken, finished)
+}
+
 // Takes bytes of a fragment up to and with its first line feed, or all of it, and answers the line that it ends. Refusal: STATE, which takes and changes nothing.
 pub fn feed(stream: Stream, fragment: &[u8]) -> Fed
     ensures { λ r. ⌜ r ≡ feedOf stream (now (fragment .entry)) ⌝ }
@@ -142,7 +166,7 @@ pub fn feed(stream: Stream, fragment: &[u8]) -> Fed
                 kept[count] = LINE_FEED;
                 return end_line(stream, &kept[..count + 1], at, false);
             }
-            return end_line(stream, &kept, at, false);
+            return end_open(stream, kept, count, at, false);
         }
         if count < ROOM {
             kept[count] = b;
@@ -175,7 +199,7 @@ pub fn finish(stream: Stream) -> Fed
         return refused(stream);
     }
     if count != 0 {
-        return end_line(stream, &kept[..count], 0, true);
+        return end_open(stream, kept, count, 0, true);
     }
     let standing = stream.standing;
     if !sheet_rules::is_sound(standing) {

@@ -73,20 +73,17 @@ returns-2 c =
     ∙ sym (L.left-feed s (a .fragment .now) (k .at) (c .before .before .before .before .before .loop-test .taken) (c .before .before .before .if2 .taken))
     ∙ k .inv .3)
 
-slice-aggregate-end-line-2 : tie.Need-slice-aggregate-end-line-2 Inv-loop μ-loop
-slice-aggregate-end-line-2 c = search needs
-
-end-line-requires-2 : tie.Need-end-line-requires-2 Inv-loop μ-loop
-end-line-requires-2 c κs = search needs
+end-open-requires : tie.Need-end-open-requires Inv-loop μ-loop
+end-open-requires c κs = let k = c .before .before .before .before .loop in (omega (arith, c .if3 .left), k .inv .2)
 
 returns-3 : tie.Need-returns-3 Inv-loop μ-loop
 returns-3 c =
-    let k = c .before .before .before .before .before .before .loop in
-    let a = c .before .before .before .before .before .before .before .before .before .before .before .args in
+    let k = c .before .before .before .before .before .loop in
+    let a = c .before .before .before .before .before .before .before .before .before .before .args in
     let s = L.stateOf (a .stream .standing) (k .count) (k .kept) false in
-    L.fed-by (a .stream) (going (c .before .before .before .before .before .before .before)) (a .fragment .now) _ _ (c .end-line2 .ensures)
-    (L.ends s _ (k .at + 1) (L.closing-full (a .stream .standing) (k .count) (k .kept) false (c .before .before .if3 .left) (k .inv .1))
-    ∙ sym (L.left-feed s (a .fragment .now) (k .at) (c .before .before .before .before .before .loop-test .taken) (c .before .before .before .if2 .taken))
+    L.fed-by (a .stream) (going (c .before .before .before .before .before .before)) (a .fragment .now) _ _ (c .end-open .ensures)
+    (L.ends s _ (k .at + 1) (L.closing-full (a .stream .standing) (k .count) (k .kept) false (c .before .if3 .left))
+    ∙ sym (L.left-feed s (a .fragment .now) (k .at) (c .before .before .before .before .loop-test .taken) (c .before .before .if2 .taken))
     ∙ k .inv .3)
 
 array-write-kept-2 : tie.Need-array-write-kept-2 Inv-loop μ-loop
@@ -164,8 +161,7 @@ feed-spec =
     slice-aggregate-end-line
     end-line-requires
     returns-2
-    slice-aggregate-end-line-2
-    end-line-requires-2
+    end-open-requires
     returns-3
     array-write-kept-2
     add-count

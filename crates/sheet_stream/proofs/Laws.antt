@@ -85,33 +85,12 @@ takes s b f = go (eqb b lineFeed)
     go true = omega arith
     go false = omega arith
 
--- ---- for the code: the state from its parts
-abbrev pub stateOf : Standing → ℕ → List ℕ → Bool → Stream
-stateOf standing count kept finished = record { standing = standing; count = count; kept = kept; finished = finished }
-
-module _ (st : Standing) (n : ℕ) (kept : List ℕ) (fin : Bool) where
-  pub keep-room : (b : ℕ) → n < 200 → keep (stateOf st n kept fin) b ≡ stateOf st (n + 1) (set kept n b) fin
-  unfolding keep
-  keep-room b h = rw (lt-ltb n 200 h)
-
-  pub keep-full : (b : ℕ) → 200 ≤ n → keep (stateOf st n kept fin) b ≡ stateOf st n kept fin
-  unfolding keep
-  keep-full b h = rw (le-ltb n 200 h)
-
-  pub closing-room : n < 200 → length kept ≡ 200 → closing (stateOf st n kept fin) ≡ take (n + 1) (set kept n lineFeed)
-  unfolding closing
-  closing-room h l = rw (lt-ltb n 200 h, add-one) (sym (take-suc-set kept n lineFeed (omega arith)))
-
-  pub closing-full : 200 ≤ n → closing (stateOf st n kept fin) ≡ unended (take n kept)
-  unfolding closing
-  closing-full h = rw (le-ltb n 200 h)
-
 -- ---- a line that no line feed ends
 pub unended-same : (l : List ℕ) → (getD l (length l - 1) 0 ≡ lineFeed → ⊥) → unended l ≡ l
 unfolding unended
 unended-same l n = rw (ne-eqb (getD l (length l - 1) 0) lineFeed n)
 
-unended-fed : (l : List ℕ) → getD l (length l - 1) 0 ≡ lineFeed → unended l ≡ set l (length l - 1) 0
+pub unended-fed : (l : List ℕ) → getD l (length l - 1) 0 ≡ lineFeed → unended l ≡ set l (length l - 1) 0
 unfolding unended
 unended-fed l e = rw (eq-eqb (getD l (length l - 1) 0) lineFeed e)
 
@@ -138,51 +117,6 @@ unended-last l = go (eqb (getD l (length l - 1) 0) lineFeed) refl
         let n = eqb-false (getD l (length l - 1) 0) lineFeed q in
         n (rw (unended-same l n) at e)
 
--- in the code's room: the bytes kept, 0 for the last where it is a line feed
-module _ (kept : List ℕ) (n : ℕ) (some : 0 < n) (room : n ≤ length kept) where
-  size : length (take n kept) ≡ n
-  size = length-take-le n kept room
-
-  last : getD (take n kept) (length (take n kept) - 1) 0 ≡ getD kept (n - 1) 0
-  last = ap (λ (k : ℕ). getD (take n kept) (k - 1) 0) size ∙ getD-take n kept (n - 1) 0 (omega arith)
-
-  pub unended-none : (getD kept (n - 1) 0 ≡ lineFeed → ⊥) → take n kept ≡ unended (take n kept)
-  unended-none f = sym (unended-same (take n kept) (λ e. f (sym last ∙ e)))
-
-  pub unended-one : getD kept (n - 1) 0 ≡ lineFeed → take n (set kept (n - 1) 0) ≡ unended (take n kept)
-  unended-one e =
-      take-set-lt n kept (n - 1) 0 (omega arith)
-      ∙ ap (λ (k : ℕ). set (take n kept) (k - 1) 0) (sym size)
-      ∙ sym (unended-fed (take n kept) (last ∙ e))
-
--- the line that ends: the call's answer, from the line handed to the rules
-pub ends : (s : Stream) (l : List ℕ) (k : ℕ) → closing s ≡ l → fed (between (afterLine (s .standing) l) (s .finished)) k (Line (replyTo (s .standing) l)) ≡ fed (ended s) k (Line (endReply s))
-unfolding ended endReply
-ends s l k e = rw e
-
--- with so many bytes taken before
-abbrev pub more : ℕ → Fed → Fed
-more n r = fed (r .stream) (n + r .taken) (r .outcome)
-
-pub more-none : (r : Fed) → more 0 r ≡ r
-more-none r = ap (λ (k : ℕ). fed (r .stream) k (r .outcome)) (omega arith)
-
--- what is left to do, from the place `at`, is the whole
-module _ (s : Stream) (f : List ℕ) (at : ℕ) where
-  pub left-end : length f ≤ at → more at (scan s (drop at f)) ≡ fed s at Open
-  unfolding scan
-  left-end h = rw (drop-of-length-le f h) (ap (λ (k : ℕ). fed s k Open) (omega arith))
-
-  pub left-feed : at < length f → getD f at 0 ≡ lineFeed → more at (scan s (drop at f)) ≡ fed (ended s) (at + 1) (Line (endReply s))
-  unfolding scan
-  left-feed h e = rw (drop-cons f at 0 h, eq-eqb (getD f at 0) lineFeed e)
-
-  pub left-more : at < length f → (getD f at 0 ≡ lineFeed → ⊥) → more at (scan s (drop at f)) ≡ more (at + 1) (scan (keep s (getD f at 0)) (drop (at + 1) f))
-  unfolding scan
-  left-more h e =
-      rw (drop-cons f at 0 h, ne-eqb (getD f at 0) lineFeed e, add-one)
-      (ap (λ (k : ℕ). fed (scan (keep s (getD f at 0)) (drop (suc at) f) .stream) k (scan (keep s (getD f at 0)) (drop (suc at) f) .outcome)) (omega arith))
-
 -- ---- the finish
 pub finish-29 : (s : Stream) → sound s ≡ false → finishOf s ≡ unsound s
 unfolding finishOf
@@ -205,7 +139,7 @@ finish-finishes s e = rw e (go (eqb (s .count) 0))
     go true = refl
     go false = refl
 
-not-going : (s : Stream) → s .finished ≡ true → sound s ≡ false
+pub not-going : (s : Stream) → s .finished ≡ true → sound s ≡ false
 unfolding sound
 not-going s e = rw e
 
@@ -244,66 +178,6 @@ within s f = go (sound s) (scan-within s f)
     go : (t : Bool) → scan s f .taken ≤ length f → pick {A = Fed} t (scan s f) (unsound s) .taken ≤ length f
     go true h = h
     go false h = omega arith
-
--- ---- for the code: what is decided first is the part of the state that costs nothing to look at
-over-full : (s : Stream) → s .finished ≡ false → longestLine < s .count → sound s ≡ false
-unfolding sound
-over-full s e h = rw (e, lt-leb (s .count) longestLine h)
-
-pub stopped : (s : Stream) (f : List ℕ) → (s .finished || ltb longestLine (s .count)) ≡ true → (unsound s ≡ feedOf s f) × (unsound s ≡ finishOf s)
-stopped s f e = let z = go (s .finished) (ltb longestLine (s .count)) refl refl e in (sym (feed-29 s f z), sym (finish-29 s z))
-  where
-    go : (a b : Bool) → s .finished ≡ a → ltb longestLine (s .count) ≡ b → (a || b) ≡ true → sound s ≡ false
-    go true b p q e = not-going s p
-    go false true p q e = over-full s p (ltb-true longestLine (s .count) q)
-    go false false p q e = absurd (let z : _≡_ {A = ℕ} 0 1 = cc in omega arith)
-
-pub record Going (s : Stream) : Type 0 where
-  pub going : s .finished ≡ false
-  pub count : s .count ≤ longestLine
-
-pub goes-on : (s : Stream) → (s .finished || ltb longestLine (s .count)) ≡ false → Going s
-goes-on s e = go (s .finished) (ltb longestLine (s .count)) refl refl e
-  where
-    go : (a b : Bool) → s .finished ≡ a → ltb longestLine (s .count) ≡ b → (a || b) ≡ false → Going s
-    go true b p q e = absurd (let z : _≡_ {A = ℕ} 0 1 = cc in omega arith)
-    go false true p q e = absurd (let z : _≡_ {A = ℕ} 0 1 = cc in omega arith)
-    go false false p q e = record { going = p; count = ltb-false longestLine (s .count) q }
-
-module _ (s : Stream) (g : Going s) where
-  pub sound-as : (b : Bool) → b ≡ soundStanding (s .standing) → sound s ≡ b
-  unfolding sound
-  sound-as b e = rw (g .going, le-leb (s .count) longestLine (g .count)) (sym e)
-
-  -- a line that ended
-  pub fed-by : (f : List ℕ) (r x : Fed) → r ≡ pick (soundStanding (s .standing)) x (unsound s) → x ≡ scan s f → r ≡ feedOf s f
-  unfolding feedOf
-  fed-by f r x e q = rw (sound-as (soundStanding (s .standing)) refl, sym q) e
-
-  pub finished-by : (r : Fed) → (s .count ≡ 0 → ⊥) → r ≡ pick (soundStanding (s .standing)) (fed (between (afterLine (s .standing) (unended (held s))) true) 0 (Line (replyTo (s .standing) (unended (held s))))) (unsound s) → r ≡ finishOf s
-  unfolding finishOf
-  finished-by r z e = rw (sound-as (soundStanding (s .standing)) refl, ne-eqb (s .count) 0 z) e
-
--- the answer to a line, as the rules gave it
-module _ (s : Stream) (l : List ℕ) (n : ℕ) (fin : Bool) (a : Answered) (e : a ≡ answeredTo (s .standing) l) where
-  abbrev Ended : Fed → Type 0
-  Ended r = r ≡ pick (soundStanding (s .standing)) (fed (between (afterLine (s .standing) l) fin) n (Line (replyTo (s .standing) l))) (unsound s)
-
-  pub ended-unsound : a .response ≡ response.Unsound → Ended (unsound s)
-  unfolding answeredTo lineAnswered
-  ended-unsound q = go (soundStanding (s .standing)) (sym (ap (λ (x : Answered). x .response) e) ∙ q)
-    where
-      go : (b : Bool) → pick {A = Answered} b (answered (afterLine (s .standing) l) (response.Replied (replyTo (s .standing) l))) (answered (s .standing) response.Unsound) .response ≡ response.Unsound → unsound s ≡ pick b (fed (between (afterLine (s .standing) l) fin) n (Line (replyTo (s .standing) l))) (unsound s)
-      go true z = absurd (let y : _≡_ {A = ℕ} 0 1 = cc in omega arith)
-      go false z = refl
-
-  pub ended-replied : (r : Reply) → a .response ≡ response.Replied r → Ended (fed (between (a .standing) fin) n (Line r))
-  unfolding answeredTo lineAnswered
-  ended-replied r q = go (soundStanding (s .standing)) (sym (ap (λ (x : Answered). x .response) e) ∙ q) (ap (λ (x : Answered). x .standing) e)
-    where
-      go : (b : Bool) → pick {A = Answered} b (answered (afterLine (s .standing) l) (response.Replied (replyTo (s .standing) l))) (answered (s .standing) response.Unsound) .response ≡ response.Replied r → a .standing ≡ pick {A = Answered} b (answered (afterLine (s .standing) l) (response.Replied (replyTo (s .standing) l))) (answered (s .standing) response.Unsound) .standing → fed (between (a .standing) fin) n (Line r) ≡ pick b (fed (between (afterLine (s .standing) l) fin) n (Line (replyTo (s .standing) l))) (unsound s)
-      go true z y = let x : replyTo (s .standing) l ≡ r = cc in rw (y, x)
-      go false z y = absurd (let x : _≡_ {A = ℕ} 0 1 = cc in omega arith)
 
 -- ---- for a caller that keeps the state as numbers
 countable : (s : Stream) → Sound s → Countable s

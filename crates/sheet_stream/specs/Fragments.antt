@@ -90,6 +90,18 @@ finishOf s =
     (fed (between (afterLine (s .standing) (unended (held s))) true) 0 (Line (replyTo (s .standing) (unended (held s))))))
     (unsound s)
 
+-- ---- how the code gets there
+abbrev pub stateOf : Standing → ℕ → List ℕ → Bool → Stream
+stateOf standing count kept finished = record { standing = standing; count = count; kept = kept; finished = finished }
+
+-- the first n bytes end in a line feed
+unfoldable pub fedAt : List ℕ → ℕ → Bool
+fedAt f n = ltb 0 n && eqb (getD f (n - 1) 0) lineFeed
+
+-- a line that ends, in whatever state, with so many bytes taken
+abbrev pub endsWith : Stream → List ℕ → ℕ → Bool → Fed
+endsWith s l n finished = pick (soundStanding (s .standing)) (fed (between (afterLine (s .standing) l) finished) n (Line (replyTo (s .standing) l))) (unsound s)
+
 -- ---- for a caller that keeps the state as numbers: how large its counts are, and how long an answer is
 pub record Countable (s : Stream) : Type 0 where
   pub from : 1 ≤ s .standing .line

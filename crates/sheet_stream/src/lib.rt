@@ -1,12 +1,11 @@
 // A sheet that arrives in fragments of whatever length. The caller keeps the state; each call takes bytes up to and with the first line feed and answers the line
 // that it ends, so that there is never more than one answer to a call, and room is asked for one line.
 ghost use mathlib.Core.Path.{_≡_};
-ghost use mathlib.Core.Bool.{true};
-ghost use Prim.Native.Nat.{_<_, _≤_};
+ghost use mathlib.Core.Bool.{false};
+ghost use Prim.Native.Nat.{_+_, _-_, _<_, _≤_, min};
+ghost use lib.Seq.{sets};
 ghost use lib.ListN.{length, take, replicate};
-ghost use Rattle.refusal.specs.Order.{pick};
-ghost use Rattle.sheet_rules.specs.OneLine.{soundStanding, replyTo, afterLine};
-ghost use Rattle.sheet_stream.specs.Fragments.{empty, between, noStep, fresh as Fragments·fresh, unended, fed, unsound, feedOf, finishOf};
+ghost use Rattle.sheet_stream.specs.Fragments.{empty, noStep, fresh as Fragments·fresh, unended, closing, unsound, stateOf, endsWith, fedAt, feedOf, finishOf};
 use chain::Chain;
 use chain::Kind;
 use chain::Realization;
@@ -102,7 +101,7 @@ fn refused(stream: Stream) -> Fed
 
 // A line has ended, by its line feed or by the finish: the reply to it, and the state with no line open.
 fn end_line(stream: Stream, line: &[u8], taken: usize, finished: bool) -> Fed
-    ensures { λ r. ⌜ r ≡ pick (soundStanding (stream .standing)) (fed (between (afterLine (stream .standing) (now (line .entry))) finished) taken (Outcome.Line (replyTo (stream .standing) (now (line .entry))))) (unsound stream) ⌝ }
+    ensures { λ r. ⌜ r ≡ endsWith stream (now (line .entry)) taken finished ⌝ }
 {
     let answered = sheet_rules::answer_line(stream.standing, line);
     let standing = answered.standing;
@@ -142,49 +141,91 @@ fn without_end(kept: [u8; 200], count: usize) -> [u8; 200]
 // A line that has not ended, or is too long: the reply to the bytes that are kept of it.
 fn end_open(stream: Stream, kept: [u8; 200], count: usize, taken: usize, finished: bool) -> Fed
     requires { ⌜ (0 < count) × (count ≤ 200) ⌝ }
-    ensures { λ r. ⌜ r ≡ pick (soundStanding (stream .standing)) (fed (between (afterLine (stream .standing) (unended (take count kept))) finished) taken (Outcome.Line (replyTo (stream .standing) (unended (take count kept))))) (unsound stream) ⌝ }
+    ensures { λ r. ⌜ r ≡ endsWith stream (unended (take count kept)) taken finished ⌝ }
 {
     let bytes = without_end(kept, count);
     end_line(stream, &bytes[..count], taken, finished)
+}
+
+// Whether the first bytes, so many, end in a line feed.
+fn is_fed(bytes: &[u8], end: usize) -> bool
+    requires { ⌜ end ≤ length (now bytes) ⌝ }
+    ensures { λ r. ⌜ r ≡ fedAt (now (bytes .entry)) end ⌝ }
+{
+    if end == 0 {
+        return false;
+    }
+    bytes[end - 1] == LINE_FEED
+}
+
+// How many bytes are kept after so many more.
+fn count_after(count: usize, more: usize) -> usize
+    requires { ⌜ count ≤ 200 ⌝ }
+    ensures { λ r. ⌜ r ≡ min (count + more) 200 ⌝ }
+{
+    if more < ROOM - count {
+        return count + more;
+    }
+    ROOM
+}
+
+// The room with more bytes behind those kept, as far as it goes.
+fn keep_all(kept: [u8; 200], count: usize, bytes: &[u8]) -> [u8; 200]
+    requires { ⌜ count ≤ 200 ⌝ }
+    ensures { λ r. ⌜ r ≡ sets kept count (take (200 - count) (now (bytes .entry))) ⌝ }
+{
+    let mut room = kept;
+    let n = count_after(count, bytes.len()) - count;
+    let mut i: usize = 0;
+    while i < n {
+        room[count + i] = bytes[i];
+        i += 1;
+    }
+    room
+}
+
+// The open line ends with its line feed.
+fn end_fed(stream: Stream, kept: [u8; 200], count: usize, taken: usize) -> Fed
+    requires { ⌜ count ≤ 200 ⌝ }
+    ensures { λ r. ⌜ r ≡ endsWith stream (closing (stateOf (stream .standing) count kept false)) taken false ⌝ }
+{
+    if count < ROOM {
+        let mut line = kept;
+        line[count] = LINE_FEED;
+        return end_line(stream, &line[..count + 1], taken, false);
+    }
+    end_open(stream, kept, count, taken, false)
 }
 
 // Takes bytes of a fragment up to and with its first line feed, or all of it, and answers the line that it ends. Refusal: STATE, which takes and changes nothing.
 pub fn feed(stream: Stream, fragment: &[u8]) -> Fed
     ensures { λ r. ⌜ r ≡ feedOf stream (now (fragment .entry)) ⌝ }
 {
-    let mut count = stream.count;
-    let mut kept = stream.kept;
+    let count = stream.count;
+    let kept = stream.kept;
     if stream.finished | (ROOM < count) {
         return refused(stream);
     }
-    let mut at: usize = 0;
-    while at < fragment.len() {
-        let b = fragment[at];
-        at = at + 1;
-        if b == LINE_FEED {
-            if count < ROOM {
-                kept[count] = LINE_FEED;
-                return end_line(stream, &kept[..count + 1], at, false);
-            }
-            return end_open(stream, kept, count, at, false);
-        }
-        if count < ROOM {
-            kept[count] = b;
-            count = count + 1;
-        }
+    let end = line::line_end(fragment, 0);
+    if is_fed(fragment, end) {
+        let last = end - 1;
+        let held = keep_all(kept, count, &fragment[..last]);
+        return end_fed(stream, held, count_after(count, last), end);
     }
     let standing = stream.standing;
     if !sheet_rules::is_sound(standing) {
         return refused(stream);
     }
+    let held = keep_all(kept, count, fragment);
+    let now_kept = count_after(count, fragment.len());
     Fed {
         stream: Stream {
             standing: standing,
-            count: count,
-            kept: kept,
+            count: now_kept,
+            kept: held,
             finished: false,
         },
-        taken: at,
+        taken: end,
         outcome: Outcome::Open,
     }
 }

@@ -2,7 +2,7 @@
 ghost use mathlib.Core.Path.{_≡_};
 ghost use mathlib.Core.Bool.{true, _&&_};
 ghost use mathlib.Core.List.{[], _∷_, _++_};
-ghost use Prim.Native.Nat.{_+_, _<_, _≤_};
+ghost use Prim.Native.Nat.{_<_, _≤_};
 ghost use lib.Dec.{leb, eqb};
 ghost use lib.IntN.{pos};
 ghost use lib.ListN.{length, getD, replicate};
@@ -15,10 +15,9 @@ ghost use Rattle.line.specs.Readers.{readStep};
 ghost use Rattle.line.specs.declared.PointLine.the-variants as point-line;
 ghost use Rattle.line.specs.declared.StepLine.the-variants as step-line;
 ghost use Rattle.sheet_rules.specs.declared.Reply.the-variants as replies;
-ghost use Rattle.sheet_rules.specs.declared.Response.the-variants as responses;
 ghost use Rattle.sheet_rules.specs.Sheet.{Sheet, pointReply, replyOf, nextOf};
 ghost use Rattle.sheet_rules.specs.State.{Holds, Gave};
-ghost use Rattle.sheet_rules.specs.OneLine.{said, counted, chainWith, soundStanding, stepsAfter, Prepares, answered, answeredTo, lineAnswered};
+ghost use Rattle.sheet_rules.specs.OneLine.{said, counted, chainWith, soundStanding, stepsAfter, Prepares, passedBy, soundly, answeredTo, lineAnswered};
 use crate::Answered;
 use crate::Decided;
 use crate::Reply;
@@ -168,10 +167,10 @@ fn answer_within(standing: Standing, numbers: &mut Prepared, text: &[u8]) -> Ans
     }
 }
 
-// A line with this reply that leaves the chain as it was: the sheet after it, which the line may have closed.
+// A line with this reply that leaves the chain as it was, which is good: the sheet after it, which the line may have closed.
 fn replied(standing: Standing, reply: Reply, closed: bool) -> Answered
     requires { ⌜ standing .line ≤ 1000000 ⌝ }
-    ensures { λ r. ⌜ r ≡ answered (record { line = standing .line + 1; chain = standing .chain; refused = standing .refused; closed = closed }) (responses.Replied reply) ⌝ }
+    ensures { λ r. ⌜ r ≡ passedBy standing reply closed ⌝ }
 {
     let chain = standing.chain;
     Answered {
@@ -185,39 +184,61 @@ fn replied(standing: Standing, reply: Reply, closed: bool) -> Answered
     }
 }
 
-// The reply to a point whose line is good by itself. One point doesn't pay for preparing the chain.
-fn reply_to_point(standing: Standing, point: Point) -> Reply
-    requires { ⌜ soundStanding standing ≡ true ⌝ }
-    ensures { λ r. ⌜ r ≡ pointReply (said standing) (point-line.Point point) ⌝ }
+// The same of a chain that has yet to be tested.
+fn replied_if_sound(standing: Standing, reply: Reply, closed: bool) -> Answered
+    requires { ⌜ standing .line ≤ 1000000 ⌝ }
+    ensures { λ r. ⌜ r ≡ soundly standing (passedBy standing reply closed) ⌝ }
+{
+    if is_sound(standing) {
+        return replied(standing, reply, closed);
+    }
+    Answered {
+        standing: standing,
+        response: Response::Unsound,
+    }
+}
+
+// A point whose line is good by itself. One point doesn't pay for preparing the chain; and a chain that converts a point needs no other test.
+fn convert_by_steps(standing: Standing, point: Point) -> Answered
+    requires { ⌜ (standing .line ≤ 1000000) × (counted (standing .line) (standing .chain .length) ≡ true) ⌝ }
+    ensures { λ r. ⌜ r ≡ soundly standing (passedBy standing (pointReply (said standing) (point-line.Point point)) true) ⌝ }
 {
     if standing.refused {
-        return Reply::Refused(standing.line, refusal::EARLIER, 0);
+        return replied_if_sound(
+            standing,
+            Reply::Refused(standing.line, refusal::EARLIER, 0),
+            true,
+        );
     }
     let chain = standing.chain;
     match chain::forward(chain, point) {
-        Answer::Refused(number) => Reply::Refused(standing.line, number, 0),
-        Answer::Converted(converted) => Reply::Point(converted),
+        Answer::Refused(number) => replied_if_sound(
+            standing,
+            Reply::Refused(standing.line, number, 0),
+            true,
+        ),
+        Answer::Converted(converted) => replied(standing, Reply::Point(converted), true),
     }
 }
 
 // A line within the limit that begins with P.
 fn answer_point(standing: Standing, text: &[u8]) -> Answered
-    requires { ⌜ (standing .line ≤ 1000000) × (soundStanding standing ≡ true) × (eqb (getD (now text) 0 0) letterP ≡ true) ⌝ }
-    ensures { λ r. ⌜ r ≡ lineAnswered standing (now (text .entry)) ⌝ }
+    requires { ⌜ (standing .line ≤ 1000000) × (counted (standing .line) (standing .chain .length) ≡ true) × (eqb (getD (now text) 0 0) letterP ≡ true) ⌝ }
+    ensures { λ r. ⌜ r ≡ answeredTo standing (now (text .entry)) ⌝ }
 {
     let chain = standing.chain;
     match line::read_point(chain.profile, text) {
-        PointLine::Malformed(fault) => replied(
+        PointLine::Malformed(fault) => replied_if_sound(
             standing,
             Reply::Refused(standing.line, fault.number, fault.place),
             standing.closed,
         ),
-        PointLine::Refused(number) => replied(
+        PointLine::Refused(number) => replied_if_sound(
             standing,
             Reply::Refused(standing.line, number, 0),
             true,
         ),
-        PointLine::Point(point) => replied(standing, reply_to_point(standing, point), true),
+        PointLine::Point(point) => convert_by_steps(standing, point),
     }
 }
 
@@ -232,10 +253,21 @@ fn answer_other(standing: Standing, text: &[u8]) -> Answered
     answer_within(standing, &mut numbers, text)
 }
 
+// Whether the line to come is within the limit, with no more steps before it than lines.
+fn is_within(standing: Standing) -> bool
+    ensures { λ r. ⌜ r ≡ counted (standing .line) (standing .chain .length) && leb (standing .line) 1000000 ⌝ }
+{
+    let chain = standing.chain;
+    is_counted(standing.line, chain.length) & (standing.line <= MOST_LINES)
+}
+
 // The line after those that led here, of any bytes: refusal LIMIT past the 1,000,000th, which is not read and moves nothing, else as the sheet's rules answer it.
 pub fn answer_line(standing: Standing, text: &[u8]) -> Answered
     ensures { λ r. ⌜ r ≡ answeredTo standing (now (text .entry)) ⌝ }
 {
+    if begins_with(text, b'P') & is_within(standing) {
+        return answer_point(standing, text);
+    }
     if !is_sound(standing) {
         return Answered {
             standing: standing,
@@ -247,9 +279,6 @@ pub fn answer_line(standing: Standing, text: &[u8]) -> Answered
             standing: standing,
             response: Response::Replied(Reply::Refused(MOST_LINES + 1, refusal::LIMIT, 0)),
         };
-    }
-    if begins_with(text, b'P') {
-        return answer_point(standing, text);
     }
     answer_other(standing, text)
 }

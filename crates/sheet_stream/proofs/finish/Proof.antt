@@ -3,7 +3,8 @@ use mathlib.Core.Path.{_≡_, sym, _∙_}
 use mathlib.Core.List.{[]}
 use native.Mathlib.Omega.{arith}
 use borrow.Author.Tests.{not-true, not-false}
-use Rattle.sheet_stream.proofs.Laws as L
+use Rattle.sheet_stream.proofs.Laws.{finish-29, finish-none}
+use Rattle.sheet_stream.proofs.Scanning as L
 use borrow.Author.Needs.{needs}
 use Rattle.sheet_stream.proofs.finish.Statement.{statement}
 use Rattle.sheet_stream.proofs.finish.Tie as tie
@@ -31,13 +32,13 @@ refused-requires-2 : tie.Need-refused-requires-2
 refused-requires-2 c κs = search needs
 
 returns-3 : tie.Need-returns-3
-returns-3 c = c .refused2 .ensures ∙ sym (L.finish-29 (c .before .before .before .before .before .before .before .before .args .stream) (L.sound-as (c .before .before .before .before .before .before .before .before .args .stream) (going (c .before .before .before .before .before)) _ (c .before .before .is-sound .ensures) ∙ not-true _ (c .before .if3 .taken)))
+returns-3 c = c .refused2 .ensures ∙ sym (finish-29 (c .before .before .before .before .before .before .before .before .args .stream) (L.sound-as (c .before .before .before .before .before .before .before .before .args .stream) (going (c .before .before .before .before .before)) _ (c .before .before .is-sound .ensures) ∙ not-true _ (c .before .if3 .taken)))
 
 no-bytes-requires : tie.Need-no-bytes-requires
 no-bytes-requires c κs = search needs
 
 returns-4 : tie.Need-returns-4
-returns-4 c = rw (c .no-bytes .ensures) (sym (L.finish-none (c .before .before .before .before .before .before .before .before .args .stream) (L.sound-as (c .before .before .before .before .before .before .before .before .args .stream) (going (c .before .before .before .before .before)) _ (c .before .before .is-sound .ensures) ∙ not-false _ (c .before .if3 .left)) (c .before .before .before .before .if2 .left)))
+returns-4 c = rw (c .no-bytes .ensures) (sym (finish-none (c .before .before .before .before .before .before .before .before .args .stream) (L.sound-as (c .before .before .before .before .before .before .before .before .args .stream) (going (c .before .before .before .before .before)) _ (c .before .before .is-sound .ensures) ∙ not-false _ (c .before .if3 .left)) (c .before .before .before .before .if2 .left)))
 
 pub finish-spec : {M : Type 1} → statement M
 finish-spec =

@@ -2,7 +2,7 @@
 use mathlib.Core.Path.{_≡_, _∙_}
 use native.Mathlib.Omega.{arith}
 use lib.ListN.{length, length-set}
-use Rattle.sheet_stream.proofs.Laws as L
+use Rattle.sheet_stream.proofs.Scanning as L
 use borrow.Author.Needs.{needs}
 use Rattle.sheet_stream.proofs.without_end.Statement.{statement}
 use Rattle.sheet_stream.proofs.without_end.Tie as tie

@@ -46,6 +46,11 @@ pub sound-made : (s : Stream) → Sound s → sound s ≡ true
 unfolding sound
 sound-made s p = rw (p .going, le-leb _ _ (p .count), line.sound-made (s .standing) (p .standing))
 
+-- with a count that the room has
+pub sound-is : (s : Stream) → s .count ≤ longestLine → sound s ≡ (not (s .finished) && soundStanding (s .standing))
+unfolding sound
+sound-is s h = rw (le-leb (s .count) longestLine h)
+
 pub sound-ended : (s : Stream) → Sound s → Sound (ended s)
 unfolding ended
 sound-ended s p = record { going = p .going; count = omega arith; standing = sound-after (s .standing) (closing s) (p .standing) }

@@ -4,7 +4,7 @@ use mathlib.Core.Path.{_≡_, refl, sym, ap, _∙_}
 use mathlib.Core.Bool.{Bool, true, false, _&&_, _||_}
 use mathlib.Core.List.{List, [], _∷_, _++_}
 use lib.Dec.{eqb, leb, ltb}
-use lib.ListN.{length, getD, take, drop, set}
+use lib.ListN.{length, getD, take, drop, set, List·getD-eq-default}
 use lib.Seq.{sets, length-sets, take-nil, take-all, take-suc-set, take-set-lt, getD-take, length-take-le}
 use native.Mathlib.Decide.{decLt}
 use native.Mathlib.Numerals.{add-one}
@@ -134,6 +134,10 @@ pub fed-none : (f : List ℕ) (n : ℕ) → n ≡ 0 → false ≡ fedAt f n
 unfolding fedAt
 fed-none f n e = rw e
 
+pub fed-past : (f : List ℕ) (n : ℕ) → length f < n → false ≡ fedAt f n
+unfolding fedAt
+fed-past f n h = let z : getD f (n - 1) 0 ≡ 0 = List·getD-eq-default f 0 (omega arith) in rw (lt-ltb 0 n (omega arith), z)
+
 pub fed-last : (f : List ℕ) (n : ℕ) → (n ≡ 0 → ⊥) → eqb (getD f (n - 1) 0) lineFeed ≡ fedAt f n
 unfolding fedAt
 fed-last f n h = rw (lt-ltb 0 n (omega (arith, some)))
@@ -213,21 +217,25 @@ module _ (s : Stream) (g : Going s) where
     scan-at : scan s f ≡ scannedTo s f n
     scan-at = rw first (scanned f s)
 
-    -- a line ends
-    pub fed-line : fedAt f n ≡ true → (c : ℕ) (kept : List ℕ) → c ≡ min (s .count + (n - 1)) 200 → kept ≡ sets (s .kept) (s .count) (take (200 - s .count) (take (n - 1) f)) → (r : Fed) → r ≡ endsWith s (closing (stateOf (s .standing) c kept false)) n false → r ≡ feedOf s f
-    unfolding feedOf ended endReply
-    fed-line q c kept ec ek r er =
-        let l : length (take (n - 1) f) ≡ n - 1 = length-take-le (n - 1) f (omega (arith, within-line f n e)) in
-        let z : keeps s (take (n - 1) f) ≡ stateOf (s .standing) c kept false = kept-all (take (n - 1) f) ∙ rw (l, ec, ek) in
-        let y : scan s f ≡ fed (ended (stateOf (s .standing) c kept false)) n (Line (endReply (stateOf (s .standing) c kept false))) = scan-at ∙ rw (q, z) in
-        rw (sound-as (soundStanding (s .standing)) refl, y) er
+    -- the room after so many bytes more
+    module _ (long : length (s .kept) ≡ 200) (xs : List ℕ) (c : ℕ) (kept : List ℕ) (ec : c ≡ min (s .count + length xs) (length (s .kept))) (ek : kept ≡ sets (s .kept) (s .count) (take (length (s .kept) - s .count) xs)) where
+      kept-so : keeps s xs ≡ stateOf (s .standing) c kept false
+      kept-so = kept-all xs ∙ sym (rw (ec, ek, long))
 
-    -- or none does
-    pub fed-open : fedAt f n ≡ false → sound s ≡ true → (c : ℕ) (kept : List ℕ) → c ≡ min (s .count + length f) 200 → kept ≡ sets (s .kept) (s .count) (take (200 - s .count) f) → fed (stateOf (s .standing) c kept false) n Open ≡ feedOf s f
-    fed-open q b c kept ec ek =
-        let z : keeps s f ≡ stateOf (s .standing) c kept false = kept-all f ∙ rw (ec, ek) in
-        let y : scan s f ≡ fed (stateOf (s .standing) c kept false) n Open = scan-at ∙ rw (q, z) in
-        sym (feed-sound s f b ∙ y)
+      -- a line ends
+      pub fed-line : fedAt f n ≡ true → xs ≡ take (n - 1) f → (r : Fed) → r ≡ endsWith s (closing (stateOf (s .standing) c kept false)) n false → r ≡ feedOf s f
+      unfolding feedOf ended endReply
+      fed-line q x r er =
+          let z : keeps s (take (n - 1) f) ≡ stateOf (s .standing) c kept false = rw (← x) kept-so in
+          let y : scan s f ≡ fed (ended (stateOf (s .standing) c kept false)) n (Line (endReply (stateOf (s .standing) c kept false))) = scan-at ∙ rw (q, z) in
+          rw (sound-as (soundStanding (s .standing)) refl, y) er
+
+      -- or none does
+      pub fed-open : fedAt f n ≡ false → xs ≡ f → sound s ≡ true → fed (stateOf (s .standing) c kept false) n Open ≡ feedOf s f
+      fed-open q x e =
+          let z : keeps s f ≡ stateOf (s .standing) c kept false = rw (← x) kept-so in
+          let y : scan s f ≡ fed (stateOf (s .standing) c kept false) n Open = scan-at ∙ rw (q, z) in
+          sym (feed-sound s f e ∙ y)
 
 -- the answer to a line, as the rules gave it
 module _ (s : Stream) (l : List ℕ) (n : ℕ) (fin : Bool) (a : Answered) (e : a ≡ answeredTo (s .standing) l) where

@@ -147,41 +147,43 @@ fn end_open(stream: Stream, kept: [u8; 200], count: usize, taken: usize, finishe
     end_line(stream, &bytes[..count], taken, finished)
 }
 
-// Whether the first bytes, so many, end in a line feed.
-fn is_fed(bytes: &[u8], end: usize) -> bool
-    requires { ⌜ end ≤ length (now bytes) ⌝ }
+// Whether the first `end` bytes end in a line feed. None do, and more than there are don't.
+pub fn is_fed(bytes: &[u8], end: usize) -> bool
     ensures { λ r. ⌜ r ≡ fedAt (now (bytes .entry)) end ⌝ }
 {
     if end == 0 {
         return false;
     }
+    if bytes.len() < end {
+        return false;
+    }
     bytes[end - 1] == LINE_FEED
 }
 
-// How many bytes are kept after so many more.
-fn count_after(count: usize, more: usize) -> usize
-    requires { ⌜ count ≤ 200 ⌝ }
-    ensures { λ r. ⌜ r ≡ min (count + more) 200 ⌝ }
+fn least(a: usize, b: usize) -> usize
+    ensures { λ r. ⌜ r ≡ min a b ⌝ }
 {
-    if more < ROOM - count {
-        return count + more;
+    if a < b {
+        return a;
     }
-    ROOM
+    b
 }
 
-// The room with more bytes behind those kept, as far as it goes.
-fn keep_all(kept: [u8; 200], count: usize, bytes: &[u8]) -> [u8; 200]
-    requires { ⌜ count ≤ 200 ⌝ }
-    ensures { λ r. ⌜ r ≡ sets kept count (take (200 - count) (now (bytes .entry))) ⌝ }
+// More bytes behind the first `count` of a line's room, as far as it goes, and how many are kept then. Past a count that the room doesn't have nothing is written.
+pub fn keep_bytes(room: &mut [u8], count: usize, bytes: &[u8]) -> usize
+    ensures { λ r. ⌜ (now (room .exit) ≡ sets (now (room .entry)) count (take (length (now (room .entry)) - count) (now (bytes .entry)))) × (r ≡ min (count + length (now (bytes .entry))) (length (now (room .entry)))) ⌝ }
 {
-    let mut room = kept;
-    let n = count_after(count, bytes.len()) - count;
+    let size = room.len();
+    if size <= count {
+        return size;
+    }
+    let n = least(bytes.len(), size - count);
     let mut i: usize = 0;
     while i < n {
         room[count + i] = bytes[i];
         i += 1;
     }
-    room
+    count + n
 }
 
 // The open line ends with its line feed.
@@ -202,27 +204,26 @@ pub fn feed(stream: Stream, fragment: &[u8]) -> Fed
     ensures { λ r. ⌜ r ≡ feedOf stream (now (fragment .entry)) ⌝ }
 {
     let count = stream.count;
-    let kept = stream.kept;
+    let mut kept = stream.kept;
     if stream.finished | (ROOM < count) {
         return refused(stream);
     }
     let end = line::line_end(fragment, 0);
     if is_fed(fragment, end) {
         let last = end - 1;
-        let held = keep_all(kept, count, &fragment[..last]);
-        return end_fed(stream, held, count_after(count, last), end);
+        let n = keep_bytes(&mut kept, count, &fragment[..last]);
+        return end_fed(stream, kept, n, end);
     }
     let standing = stream.standing;
     if !sheet_rules::is_sound(standing) {
         return refused(stream);
     }
-    let held = keep_all(kept, count, fragment);
-    let now_kept = count_after(count, fragment.len());
+    let n = keep_bytes(&mut kept, count, fragment);
     Fed {
         stream: Stream {
             standing: standing,
-            count: now_kept,
-            kept: held,
+            count: n,
+            kept: kept,
             finished: false,
         },
         taken: end,

@@ -1,9 +1,9 @@
 -- `sheet_stream::feed` meets its contract. Assumes nothing.
-use mathlib.Core.Path.{_≡_, sym, ap, _∙_}
+use mathlib.Core.Path.{_≡_, refl, sym, ap, _∙_}
 use mathlib.Core.Bool.{true, false}
 use native.Mathlib.Omega.{arith}
 use Prim.Native.Nat.{_≤_}
-use lib.ListN.{length, length-take}
+use lib.ListN.{length, length-take, length-map}
 use borrow.Author.Tests.{not-true, not-false}
 use Rattle.sheet_stream.specs.Fragments.{fedAt, sound}
 use Rattle.sheet_stream.proofs.Laws.{feed-29}
@@ -11,6 +11,10 @@ use Rattle.sheet_stream.proofs.Scanning as L
 use borrow.Author.Needs.{needs}
 use Rattle.sheet_stream.proofs.feed.Statement.{statement}
 use Rattle.sheet_stream.proofs.feed.Tie as tie
+
+-- an array's length is what owning the struct tells
+long : (s : tie.Start) → length (s .args .stream .kept) ≡ 200
+long s = sym (length-map (s .args .stream .kept) _) ∙ s .good .0 .1 .1 .1 .1 .0 .1 .0 .1
 
 -- past the first test
 going : (c : tie.Else1) → L.Going (c .before .before .before .before .args .stream)
@@ -30,7 +34,7 @@ line-end-requires : tie.Need-line-end-requires
 line-end-requires c κs = search needs
 
 is-fed-requires : tie.Need-is-fed-requires
-is-fed-requires c κs = inside c
+is-fed-requires c κs = search needs
 
 -- a line feed ends it
 ends : (c : tie.Then2) → fedAt (c .before .before .before .before .before .before .before .args .fragment .now) (c .before .before .line-end .result) ≡ true
@@ -39,22 +43,23 @@ ends c = sym (c .before .is-fed .ensures) ∙ c .if2 .taken
 sub-last : tie.Need-sub-last
 sub-last c = L.fed-some _ _ (ends c)
 
-slice-aggregate-keep-all : tie.Need-slice-aggregate-keep-all
-slice-aggregate-keep-all c = simp length-take (omega (arith, inside (c .before .before .before)))
+slice-aggregate-keep-bytes : tie.Need-slice-aggregate-keep-bytes
+slice-aggregate-keep-bytes c = search needs
 
-keep-all-requires : tie.Need-keep-all-requires
-keep-all-requires c κs = going (c .before .before .before .before) .count
+slice-aggregate-keep-bytes-2 : tie.Need-slice-aggregate-keep-bytes-2
+slice-aggregate-keep-bytes-2 c = simp length-take (omega (arith, inside (c .before .before .before .before)))
 
-count-after-requires : tie.Need-count-after-requires
-count-after-requires c κs = going (c .before .before .before .before .before) .count
+keep-bytes-requires : tie.Need-keep-bytes-requires
+keep-bytes-requires c κs = search needs
 
 end-fed-requires : tie.Need-end-fed-requires
 end-fed-requires c κs = search needs
 
 returns-2 : tie.Need-returns-2
 returns-2 c =
-    let a = c .before .before .before .before .before .before .before .before .before .before .before .args in
-    L.fed-line (a .stream) (going (c .before .before .before .before .before .before .before)) (a .fragment .now) _ (c .before .before .before .before .before .before .line-end .ensures) (ends (c .before .before .before .before)) _ _ (c .before .count-after .ensures) (c .before .before .keep-all .ensures) _ (c .end-fed .ensures)
+    let s = c .before .before .before .before .before .before .before .before .before .before .before .before in
+    let k = c .before .before .keep-bytes .ensures in
+    L.fed-line (s .args .stream) (going (c .before .before .before .before .before .before .before .before)) (s .args .fragment .now) _ (c .before .before .before .before .before .before .before .line-end .ensures) (long s) _ _ _ (k .1) (k .0) (ends (c .before .before .before .before .before)) refl _ (c .end-fed .ensures)
 
 is-sound-requires : tie.Need-is-sound-requires
 is-sound-requires c κs = search needs
@@ -67,19 +72,20 @@ returns-3 c =
     let a = c .before .before .before .before .before .before .before .before .before .before .before .args in
     c .refused2 .ensures ∙ sym (feed-29 (a .stream) (a .fragment .now) (L.sound-as (a .stream) (going (c .before .before .before .before .before .before .before)) _ (c .before .before .is-sound .ensures) ∙ not-true _ (c .before .if3 .taken)))
 
-keep-all-requires-2 : tie.Need-keep-all-requires-2
-keep-all-requires-2 c κs = going (c .before .before .before .before .before .before) .count
+slice-aggregate-keep-bytes-3 : tie.Need-slice-aggregate-keep-bytes-3
+slice-aggregate-keep-bytes-3 c = search needs
 
-count-after-requires-2 : tie.Need-count-after-requires-2
-count-after-requires-2 c κs = going (c .before .before .before .before .before .before .before) .count
+keep-bytes-requires-2 : tie.Need-keep-bytes-requires-2
+keep-bytes-requires-2 c κs = search needs
 
 returns-4 : tie.Need-returns-4
 returns-4 c =
-    let a = c .before .before .before .before .before .before .before .before .before .before .before .before .args in
-    let g = going (c .before .before .before .before .before .before .before .before) in
-    let f : fedAt (a .fragment .now) (c .before .before .before .before .before .before .before .line-end .result) ≡ false = sym (c .before .before .before .before .before .before .is-fed .ensures) ∙ c .before .before .before .before .before .if2 .left in
-    let s : sound (a .stream) ≡ true = L.sound-as (a .stream) g _ (c .before .before .before .is-sound .ensures) ∙ not-false _ (c .before .before .if3 .left) in
-    L.fed-open (a .stream) g (a .fragment .now) _ (c .before .before .before .before .before .before .before .line-end .ensures) f s _ _ (c .count-after2 .ensures) (c .before .keep-all2 .ensures)
+    let s = c .before .before .before .before .before .before .before .before .before .before .before .before .before in
+    let g = going (c .before .before .before .before .before .before .before .before .before) in
+    let k = c .before .keep-bytes2 .ensures in
+    let f : fedAt (s .args .fragment .now) (c .before .before .before .before .before .before .before .before .line-end .result) ≡ false = sym (c .before .before .before .before .before .before .before .is-fed .ensures) ∙ c .before .before .before .before .before .before .if2 .left in
+    let e : sound (s .args .stream) ≡ true = L.sound-as (s .args .stream) g _ (c .before .before .before .before .is-sound .ensures) ∙ not-false _ (c .before .before .before .if3 .left) in
+    L.fed-open (s .args .stream) g (s .args .fragment .now) _ (c .before .before .before .before .before .before .before .before .line-end .ensures) (long s) _ _ _ (k .1) (k .0) f refl e
 
 pub feed-spec : {M : Type 1} → statement M
 feed-spec =
@@ -90,14 +96,14 @@ feed-spec =
     line-end-requires
     is-fed-requires
     sub-last
-    slice-aggregate-keep-all
-    keep-all-requires
-    count-after-requires
+    slice-aggregate-keep-bytes
+    slice-aggregate-keep-bytes-2
+    keep-bytes-requires
     end-fed-requires
     returns-2
     is-sound-requires
     refused-requires-2
     returns-3
-    keep-all-requires-2
-    count-after-requires-2
+    slice-aggregate-keep-bytes-3
+    keep-bytes-requires-2
     returns-4)

@@ -27,6 +27,7 @@ use Rattle.chain.specs.Join.{noStep}
 use Rattle.line.specs.Bytes.{letterB, letterF, letterT, letterV}
 use Rattle.line.specs.Text.{Wrote}
 use Rattle.sheet_rules.specs.declared.Reply.{Reply}
+use Rattle.sheet_rules.specs.declared.Standing.{Standing}
 use Rattle.sheet_rules.specs.Sheet.{replyText}
 use Rattle.sheet_stream.specs.declared.Fed.{Fed}
 use Rattle.sheet_stream.specs.declared.Stream.{Stream}
@@ -34,7 +35,7 @@ use Rattle.sheet_stream.specs.declared.Outcome.{Outcome}
 use Rattle.sheet_stream.specs.declared.Outcome.the-variants.{Open, Line, Refused}
 use Rattle.sheet_stream.specs.Fragments.{Countable, Short}
 use Rattle.capi.specs.Chains.{number, placeFrom, chainFrom}
-use Rattle.capi.specs.Fragments.{FreshFromC, sizedState, stateRange, isFlag, chainIn, streamFrom, flag, bit, headOf, conventionNumber, rowOf, withNewStep, numbersWith, Called, ofOutcome, called, stateCall, toldOf, toldAfter, Stated}
+use Rattle.capi.specs.Fragments.{FreshFromC, sizedState, stateRange, isFlag, chainIn, standingIn, streamFrom, flag, bit, headOf, conventionNumber, rowOf, withNewStep, numbersWith, Called, ofOutcome, called, stateCall, toldOf, toldAfter, Stated}
 
 -- ---- the lengths
 pub record Sized (numbers bytes out : ℕ) : Type 0 where
@@ -143,9 +144,12 @@ module _ (s : Stream) (o : Outcome) (ns : List ℤ) (bytes out : List ℕ) where
         })
 
 -- ---- the state out of its parts
-pub from-parts : (ns : List ℤ) (bytes : List ℕ) {l k : ℕ} {c : Chain} {a b f : Bool} {kept : List ℕ} → l ≡ natAbs (number ns 0) → k ≡ natAbs (number ns 1) → c ≡ chainIn ns → a ≡ flag (number ns 2) → b ≡ flag (number ns 3) → f ≡ flag (number ns 4) → kept ≡ bytes → record { standing = record { line = l + 1; chain = c; refused = a; closed = b }; count = k; kept = kept; finished = f } ≡ streamFrom ns bytes
+pub standing-parts : (ns : List ℤ) {l : ℕ} {c : Chain} {a b : Bool} → l ≡ natAbs (number ns 0) → c ≡ chainIn ns → a ≡ flag (number ns 2) → b ≡ flag (number ns 3) → record { line = l + 1; chain = c; refused = a; closed = b } ≡ standingIn ns
+standing-parts ns hl hc ha hb = rw (hl, hc, ha, hb)
+
+pub from-parts : (ns : List ℤ) (bytes : List ℕ) {st : Standing} {k : ℕ} {f : Bool} {kept : List ℕ} → st ≡ standingIn ns → k ≡ natAbs (number ns 1) → f ≡ flag (number ns 4) → kept ≡ bytes → record { standing = st; count = k; kept = kept; finished = f } ≡ streamFrom ns bytes
 unfolding streamFrom
-from-parts ns bytes hl hk hc ha hb hf hs = rw (hl, hk, hc, ha, hb, hf, hs)
+from-parts ns bytes hst hk hf hs = rw (hst, hk, hf, hs)
 
 -- ---- a step taken in
 pub new-step : (ns : List ℤ) (c : Chain) {k : ℕ} → k ≡ natAbs (number ns 6) → k < c .length → sets ns (7 + 13 * k) (rowOf (getD (c .steps) k noStep)) ≡ withNewStep ns c

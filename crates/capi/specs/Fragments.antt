@@ -19,6 +19,7 @@ use Rattle.chain.specs.declared.Chain.{Chain}
 use Rattle.chain.specs.Faults.{latest}
 use Rattle.chain.specs.Join.{noStep}
 use Rattle.line.specs.Bytes.{letterB, letterC, letterF, letterP, letterT, letterV}
+use Rattle.sheet_rules.specs.declared.Standing.{Standing}
 use Rattle.sheet_rules.specs.Sheet.{replyText}
 use Rattle.sheet_stream.specs.declared.Stream.{Stream}
 use Rattle.sheet_stream.specs.declared.Outcome.{Outcome}
@@ -49,9 +50,12 @@ flag n = not (equal (pos 0) n)
 unfoldable pub chainIn : List ℤ → Chain
 chainIn ns = chainFrom (number ns 5) (take (13 * natAbs (number ns 6)) (drop 7 ns))
 
+abbrev pub standingIn : List ℤ → Standing
+standingIn ns = record { line = natAbs (number ns 0) + 1; chain = chainIn ns; refused = flag (number ns 2); closed = flag (number ns 3) }
+
 unfoldable pub streamFrom : List ℤ → List ℕ → Stream
 streamFrom ns bytes = record {
-  standing = record { line = natAbs (number ns 0) + 1; chain = chainIn ns; refused = flag (number ns 2); closed = flag (number ns 3) };
+  standing = standingIn ns;
   count = natAbs (number ns 1);
   kept = bytes;
   finished = flag (number ns 4);
@@ -166,6 +170,11 @@ abbrev pub toldOf : ℕ → Outcome → List ℤ → List ℤ
 toldOf n Open before = pos n ∷ pos 0 ∷ []
 toldOf n (Line r) before = pos n ∷ pos 1 ∷ []
 toldOf n (Refused k) before = before
+
+-- how the code gets there: a call whose lengths and ranges are good, and which prints nothing
+pub record OpenCall (fragment : List ℕ) (numbers numbers' : List ℤ) (bytes bytes' : List ℕ) (told told' : List ℤ) (r : ℤ) : Type 0 where
+  pub state : (out : List ℕ) → Stated (called (feedOf (streamFrom numbers bytes) fragment)) numbers numbers' bytes bytes' out out r
+  pub tells : told' ≡ toldOf (feedOf (streamFrom numbers bytes) fragment .taken) (feedOf (streamFrom numbers bytes) fragment .outcome) told
 
 unfoldable pub toldAfter : (Stream → Fed) → List ℤ → List ℕ → Bool → List ℤ → List ℤ
 toldAfter f numbers bytes sized before =

@@ -1,10 +1,11 @@
 // A sheet in fragments, whose state the caller keeps as numbers and bytes.
 ghost use mathlib.Core.Path.{_≡_};
-ghost use mathlib.Core.Bool.{true};
+ghost use mathlib.Core.Bool.{true, false};
 ghost use Prim.Native.Nat.{_<_, _≤_};
 ghost use lib.ListN.{length};
-ghost use Rattle.sheet_stream.specs.Fragments.{Countable, Short};
-ghost use Rattle.capi.specs.Fragments.{sizedState, stateRange, called, toldOf, Stated, Streamed, Ended};
+ghost use Rattle.line.specs.Lines.{lineEnd};
+ghost use Rattle.sheet_stream.specs.Fragments.{Countable, Short, fedAt};
+ghost use Rattle.capi.specs.Fragments.{sizedState, stateRange, called, toldOf, Stated, OpenCall, Streamed, Ended};
 use crate::joining::minus;
 use crate::state;
 use sheet_stream::Fed;
@@ -61,6 +62,27 @@ fn tell(taken: usize, outcome: Outcome, told: &mut [i64])
     }
 }
 
+// A fragment that ends no line, of which `end` bytes are taken: its bytes stand behind those kept, and nothing but their count moves.
+fn feed_open(
+    numbers: &mut [i64],
+    bytes: &mut [u8],
+    fragment: &[u8],
+    end: usize,
+    told: &mut [i64],
+) -> i64
+    requires { ⌜ (length (now numbers) ≡ 111) × (stateRange (now numbers) ≡ true) × (length (now bytes) ≡ 200) × (length (now told) ≡ 2) × (end ≡ lineEnd (now fragment) 0) × (fedAt (now fragment) end ≡ false) ⌝ }
+    ensures { λ r. ⌜ OpenCall (now (fragment .entry)) (now (numbers .entry)) (now (numbers .exit)) (now (bytes .entry)) (now (bytes .exit)) (now (told .entry)) (now (told .exit)) r ⌝ }
+{
+    if !state::is_answered(numbers) {
+        return minus(refusal::STATE);
+    }
+    let kept = sheet_stream::keep_bytes(bytes, state::kept_in(numbers), fragment);
+    numbers[1] = kept as i64;
+    told[0] = end as i64;
+    told[1] = 0;
+    0
+}
+
 // The bytes of a fragment up to and with its first line feed, or all of them, and what the line prints that they end.
 #[no_mangle]
 pub extern "C" fn swivelcrane_feed(
@@ -77,6 +99,10 @@ pub extern "C" fn swivelcrane_feed(
     }
     if !state::in_range(numbers) {
         return minus(refusal::STATE);
+    }
+    let end = line::line_end(fragment, 0);
+    if !sheet_stream::is_fed(fragment, end) {
+        return feed_open(numbers, bytes, fragment, end, told);
     }
     let fed = sheet_stream::feed(state::stream_from(numbers, bytes), fragment);
     let taken = fed.taken;

@@ -1,12 +1,14 @@
 // The state of a sheet in fragments, out of numbers and bytes and back.
 ghost use mathlib.Core.Path.{_≡_};
-ghost use mathlib.Core.Bool.{true};
+ghost use mathlib.Core.Bool.{true, not, _&&_};
 ghost use Prim.Native.Nat.{_<_, _≤_};
 ghost use lib.IntN.{natAbs, pos};
 ghost use lib.ListN.{length};
 ghost use Rattle.ranges.specs.Ranges.{within};
+ghost use Rattle.sheet_rules.specs.OneLine.{soundStanding};
 ghost use Rattle.sheet_stream.specs.Fragments.{Countable};
-ghost use Rattle.capi.specs.Fragments.{isFlag, stateRange, bit as Fragments·bit, flag as Fragments·flag, conventionNumber, chainIn, streamFrom, headOf, rowOf, withNewStep, numbersWith};
+ghost use Rattle.capi.specs.Chains.{number};
+ghost use Rattle.capi.specs.Fragments.{isFlag, stateRange, bit as Fragments·bit, flag as Fragments·flag, conventionNumber, chainIn, standingIn, streamFrom, headOf, rowOf, withNewStep, numbersWith};
 use crate::decode::chain_from;
 use crate::joining::copy;
 use chain::Chain;
@@ -77,25 +79,52 @@ fn chain_in(n: &[i64]) -> Chain
     chain_from(profile, &n[HEAD..end])
 }
 
-// A state whose counts and flags are in their ranges.
+// Where the sheet stands, of a state whose counts and flags are in their ranges.
+fn standing_from(n: &[i64]) -> Standing
+    requires { ⌜ (length (now n) ≡ 111) × (stateRange (now n) ≡ true) ⌝ }
+    ensures { λ r. ⌜ r ≡ standingIn (now (n .entry)) ⌝ }
+{
+    let lines = count(n[0]);
+    let refused = flag(n[2]);
+    let closed = flag(n[3]);
+    let chain = chain_in(n);
+    Standing {
+        line: lines as u64 + 1,
+        chain: chain,
+        refused: refused,
+        closed: closed,
+    }
+}
+
+// How many bytes of the open line are kept.
+pub(crate) fn kept_in(n: &[i64]) -> usize
+    requires { ⌜ (length (now n) ≡ 111) × (stateRange (now n) ≡ true) ⌝ }
+    ensures { λ r. ⌜ r ≡ natAbs (number (now (n .entry)) 1) ⌝ }
+{
+    count(n[1])
+}
+
+// Whether a call on the state is answered: it is not finished, and a sheet can stand there.
+pub(crate) fn is_answered(n: &[i64]) -> bool
+    requires { ⌜ (length (now n) ≡ 111) × (stateRange (now n) ≡ true) ⌝ }
+    ensures { λ r. ⌜ r ≡ (not (Fragments·flag (number (now (n .entry)) 4)) && soundStanding (standingIn (now (n .entry)))) ⌝ }
+{
+    let finished = flag(n[4]);
+    let standing = standing_from(n);
+    !finished & sheet_rules::is_sound(standing)
+}
+
+// The whole state.
 pub(crate) fn stream_from(n: &[i64], bytes: &[u8]) -> Stream
     requires { ⌜ (length (now n) ≡ 111) × (length (now bytes) ≡ 200) × (stateRange (now n) ≡ true) ⌝ }
     ensures { λ r. ⌜ r ≡ streamFrom (now (n .entry)) (now (bytes .entry)) ⌝ }
 {
-    let lines = count(n[0]);
-    let kept_count = count(n[1]);
-    let refused = flag(n[2]);
-    let closed = flag(n[3]);
+    let standing = standing_from(n);
+    let kept_count = kept_in(n);
     let finished = flag(n[4]);
-    let chain = chain_in(n);
     let kept = bytes_from(bytes);
     Stream {
-        standing: Standing {
-            line: lines as u64 + 1,
-            chain: chain,
-            refused: refused,
-            closed: closed,
-        },
+        standing: standing,
         count: kept_count,
         kept: kept,
         finished: finished,

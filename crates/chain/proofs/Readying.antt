@@ -17,7 +17,7 @@ use Rattle.chain.specs.declared.Step.{Step}
 use Rattle.chain.specs.declared.Chain.{Chain}
 use Rattle.chain.specs.declared.ReadyChain.{ReadyChain}
 use Rattle.chain.specs.declared.Answer.{Answer}
-use Rattle.chain.specs.declared.Answer.the-variants.{Refused}
+use Rattle.chain.specs.declared.Answer.the-variants.{Converted, Refused}
 use Rattle.chain.specs.declared.Direction.{Direction}
 use Rattle.chain.specs.declared.Direction.the-variants.{Forward, Inverse}
 use Rattle.chain.specs.Faults.{stepFault, pointFault, sameRealization, pointTests, stepTests, joinTest, laterTests, stepsTests, chainTests, stepsOf}
@@ -79,7 +79,7 @@ module _ (c : Chain) (good : first (chainTests c) ≡ 0) (p : Point) where
   along : List Step → Answer
   along ss = unless (entry (c .profile) p (startOf (p .realization) ss)) Refused (answerOf p (endOf (p .realization) ss) (walk forwardStep ss (p .position)))
 
-  by-steps-forward : forwardOf steps p ≡ forwardOf c p
+  pub by-steps-forward : forwardOf steps p ≡ forwardOf c p
   unfolding forwardOf along
   by-steps-forward = silent steps (ready-holds c good .sound) p _ _ _ ∙ ap along (take-length (stepsOf c)) ∙ sym (silent c good p _ _ _)
 
@@ -89,6 +89,15 @@ module _ (c : Chain) (good : first (chainTests c) ≡ 0) (p : Point) where
   by-steps-inverse : inverseOf steps p ≡ inverseOf c p
   unfolding inverseOf back
   by-steps-inverse = silent steps (ready-holds c good .sound) p _ _ _ ∙ ap back (take-length (stepsOf c)) ∙ sym (silent c good p _ _ _)
+
+-- a bad chain converts no point
+pub converted-good : (c : Chain) (p q : Point) → forwardOf c p ≡ Converted q → first (chainTests c) ≡ 0
+unfolding forwardOf
+converted-good c p q e = go (first (chainTests c)) refl
+  where
+    go : (n : ℕ) → first (chainTests c) ≡ n → first (chainTests c) ≡ 0
+    go zero f = f
+    go (suc n) f = absurd (let r : Refused (first (chainTests c)) ≡ Converted q = by-chain c p _ _ _ (λ z. let y : suc n ≡ 0 = sym f ∙ z in omega arith) ∙ e in let y : _≡_ {A = ℕ} 0 1 = cc in omega arith)
 
 -- ---- the three ways in which it answers
 module _ (c : Chain) (p : Point) where

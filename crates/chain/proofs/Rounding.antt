@@ -1,8 +1,11 @@
--- What the steps take of their rounding, whatever it does with a half: these four laws are all that is used of it above. Assumes nothing.
-use mathlib.Core.Path.{_≡_}
+-- What the steps take of their rounding, whatever it does with a half: these five laws are all that is used of it above. Assumes nothing.
+use mathlib.Core.Path.{_≡_, ap}
 use Prim.Native.Nat.{ℕ, _+_, _*_, _<_, _≤_}
-use lib.IntN.{ℤ, negℤ, natAbs, _-ℤ_}
-use Rattle.rounding.specs.Nearest.{toEven}
+use native.Mathlib.Omega.{arith}
+use lib.IntN.{ℤ, pos, negℤ, natAbs, _+ℤ_, _-ℤ_, _*ℤ_}
+use Rattle.rounding.specs.Nearest.{toEven, rounded}
+use Rattle.rounding.specs.Quotient.{mixed}
+use Rattle.rounding.proofs.Zn.{v, k, _⊕_, _⊗_, eq}
 use Rattle.rounding.proofs.Rounded.{rounded-apart, rounded-size, rounded-opposite, rounded-whole, even-symmetric}
 use Rattle.chain.specs.Parts.{stepRound}
 
@@ -25,3 +28,11 @@ step-opposite h = rounded-opposite toEven h even-symmetric
 pub step-whole : (z : ℤ) → stepRound z 1 ≡ z
 unfolding stepRound
 step-whole = rounded-whole toEven
+
+-- a fraction with no whole part before it
+pub step-alone : (d : ℕ) (n : ℤ) → mixed toEven (pos 0) n (pos d) ≡ stepRound n d
+unfolding stepRound
+step-alone d n = ap (λ (z : ℤ). rounded toEven z d) (from-zero (pos d))
+  where
+    from-zero : (e : ℤ) → pos 0 *ℤ e +ℤ n ≡ n
+    from-zero e = eq (k 0 ⊗ v e ⊕ v n) (v n) (omega arith)

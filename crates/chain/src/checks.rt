@@ -55,8 +55,9 @@ fn steps_fault(chain: Chain) -> u8
     0
 }
 
-// The refusal that a chain alone decides: RANGE for its profile, NINTH, then each step's, or 0 for none.
-pub(crate) fn chain_fault(chain: Chain) -> u8
+// The refusal that a chain alone decides, before any point is looked at: RANGE for its profile, NINTH for its length, then of each step in turn RANGE, EPOCH,
+// PROFILE, KIND, JOIN; 0 for a good chain. Units and ranges as of `forward`.
+pub fn chain_fault(chain: Chain) -> u8
     ensures { λ r. ⌜ r ≡ first (chainTests chain) ⌝ }
 {
     if !ranges::is_profile(chain.profile) {

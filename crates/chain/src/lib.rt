@@ -8,6 +8,7 @@ mod profiles;
 mod row;
 mod steps;
 
+pub use crate::checks::chain_fault;
 pub use crate::faults::point_fault;
 pub use crate::faults::profile_fault;
 pub use crate::faults::step_fault;

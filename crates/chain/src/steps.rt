@@ -78,7 +78,7 @@ fn rotation11(r: i64) -> i64
     requires { ⌜ natAbs r ≤ 1000000 ⌝ }
     ensures { λ t. ⌜ t ≡ rotation11 r ⌝ }
 {
-    rounding::quotient::round_div(r * 484813681110, 100000000000)
+    lifted::over11(0, r * 484813681110)
 }
 
 // A rotation in 10^-11 radian with the scale on it, to the nearest.
@@ -86,7 +86,7 @@ fn scaled_rotation(r: i64, s: i64) -> i64
     requires { ⌜ (natAbs r ≤ 4848137) × (natAbs s ≤ 2000000) ⌝ }
     ensures { λ t. ⌜ t ≡ scaledRotation r s ⌝ }
 {
-    rounding::quotient::round_div(r * (100000000000 + s), 100000000000)
+    lifted::over11(0, r * (100000000000 + s))
 }
 
 // A rotation as it is applied.

@@ -95,7 +95,7 @@ accepted-few s l t b e f = go (readStep (s .profile) l) (rw b at e) f
     go (step-line.Step u) q e = joins-few s u (no-fault s (first (stepTests s u)) q) .1
 
 -- ---- the chain after a line
-chain-same : (c : Chain) → c .length ≤ length (c .steps) → c ≡ chainWith c (c .profile) (stepsOf c)
+pub chain-same : (c : Chain) → c .length ≤ length (c .steps) → c ≡ chainWith c (c .profile) (stepsOf c)
 chain-same c h = rw (length-take-le (c .length) (c .steps) h, take-append-drop (c .length) (c .steps))
 
 pub chain-more : (c : Chain) (t : Step) → c .length < length (c .steps) → record { steps = set (c .steps) (c .length) t; length = c .length + 1; profile = c .profile } ≡ chainWith c (c .profile) (stepsOf c ++ (t ∷ []))

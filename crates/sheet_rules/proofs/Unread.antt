@@ -42,6 +42,16 @@ one-more w b n m i h e = go (decLt i (length w))
         let z : i ≡ length w = omega (arith, length-append w (b ∷ [])) in
         m (sym (getD-at w b [] 0 i (sym z)) ∙ e)
 
+pub no-feed-in : (k : ℕ) (w : List ℕ) → NoFeed w → NoFeed (take k w)
+unfolding NoFeed
+no-feed-in k w n i h e = let z = length-take k w in n i (omega arith) (sym (getD-take k w i 0 (omega arith)) ∙ e)
+
+-- of no bytes the last counts as 0
+pub no-feed-last : (w : List ℕ) → NoFeed w → getD w (length w - 1) 0 ≡ lineFeed → ⊥
+unfolding NoFeed
+no-feed-last [] n e = omega arith
+no-feed-last (b ∷ w) n e = n (length (b ∷ w) - 1) (omega arith) e
+
 -- ---- so nothing is read of the line
 no-body : (l : List ℕ) → (getD l (length l - 1) 0 ≡ lineFeed → ⊥) → body l ≡ none
 unfolding body
@@ -116,16 +126,9 @@ end-fed w =
     let q : getD (w ++ (lineFeed ∷ [])) (length (w ++ (lineFeed ∷ [])) - 1) 0 ≡ lineFeed = getD-at w lineFeed [] 0 (length (w ++ (lineFeed ∷ [])) - 1) (sym n) in
     rw (eq-eqb (getD (w ++ (lineFeed ∷ [])) (length (w ++ (lineFeed ∷ [])) - 1) 0) lineFeed q) (ap (λ (k : ℕ). min k longestLine) n)
 
-last-byte : (w : List ℕ) → NoFeed w → 0 < length w → getD w (length w - 1) 0 ≡ lineFeed → ⊥
-unfolding NoFeed
-last-byte w n h = n (length w - 1) (omega arith)
-
-open-body : (w : List ℕ) → NoFeed w → 0 < length w → body w ≡ none
-open-body w n h = no-body w (last-byte w n h)
-
--- a line left open
-pub open-18 : (s : Sheet) (w : List ℕ) → NoFeed w → 0 < length w → replyOf s w ≡ reply.Refused (s .line) refusal.length (min (length w) longestLine)
-open-18 s w n h = unread-18 s w (open-body w n h) ∙ ap (reply.Refused (s .line) refusal.length) (end-open w (last-byte w n h))
+-- a line that no line feed ends
+pub open-18 : (s : Sheet) (w : List ℕ) → (getD w (length w - 1) 0 ≡ lineFeed → ⊥) → replyOf s w ≡ reply.Refused (s .line) refusal.length (min (length w) longestLine)
+open-18 s w n = unread-18 s w (no-body w n) ∙ ap (reply.Refused (s .line) refusal.length) (end-open w n)
 
 -- ---- of a line over 200 bytes, or left open past 200, the rules see no more than its first 200
 module _ (s : Sheet) (w : List ℕ) (n : NoFeed w) (h : longestLine ≤ length w) where
@@ -133,8 +136,7 @@ module _ (s : Sheet) (w : List ℕ) (n : NoFeed w) (h : longestLine ≤ length w
   size = length-take longestLine w ∙ omega arith
 
   cut-last : getD (take longestLine w) (length (take longestLine w) - 1) 0 ≡ lineFeed → ⊥
-  unfolding NoFeed
-  cut-last = λ e. n 199 (omega arith) (sym (getD-take longestLine w 199 0 (omega arith)) ∙ ap (λ (k : ℕ). getD (take longestLine w) (k - 1) 0) (sym size) ∙ e)
+  cut-last = no-feed-last (take longestLine w) (no-feed-in longestLine w n)
 
   cut-body : body (take longestLine w) ≡ none
   cut-body = no-body (take longestLine w) cut-last
@@ -152,7 +154,7 @@ module _ (s : Sheet) (w : List ℕ) (n : NoFeed w) (h : longestLine ≤ length w
   over-head = head ∙ sym (List·getD-append w (lineFeed ∷ []) 0 0 (omega arith))
 
   left-open : body w ≡ none
-  left-open = open-body w n (omega arith)
+  left-open = no-body w (no-feed-last w n)
 
   pub cut-reply : replyOf s (take longestLine w) ≡ replyOf s (w ++ (lineFeed ∷ []))
   cut-reply = unread-reply s (take longestLine w) (w ++ (lineFeed ∷ [])) cut-body over (cut-end ∙ sym (end-fed w))
@@ -161,7 +163,7 @@ module _ (s : Sheet) (w : List ℕ) (n : NoFeed w) (h : longestLine ≤ length w
   cut-next = unread-next s (take longestLine w) (w ++ (lineFeed ∷ [])) cut-body over over-head
 
   pub open-reply : replyOf s (take longestLine w) ≡ replyOf s w
-  open-reply = unread-reply s (take longestLine w) w cut-body left-open (cut-end ∙ sym (end-open w (last-byte w n (omega arith))))
+  open-reply = unread-reply s (take longestLine w) w cut-body left-open (cut-end ∙ sym (end-open w (no-feed-last w n)))
 
   pub open-next : nextOf s (take longestLine w) ≡ nextOf s w
   open-next = unread-next s (take longestLine w) w cut-body left-open head

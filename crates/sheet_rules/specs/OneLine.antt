@@ -2,7 +2,7 @@
 use mathlib.Core.Path.{_≡_}
 use mathlib.Core.Bool.{Bool, true, false, _&&_}
 use mathlib.Core.List.{List, [], _∷_, _++_}
-use Prim.Native.Nat.{ℕ, suc}
+use Prim.Native.Nat.{ℕ, suc, _+_}
 use lib.Dec.{eqb, leb, ltb}
 use lib.IntN.{ℤ}
 use lib.ListN.{length, drop}
@@ -66,14 +66,22 @@ answered s r = record { standing = s; response = r }
 unfoldable pub lineAnswered : Standing → List ℕ → Answered
 lineAnswered s l = answered (afterLine s l) (response.Replied (replyTo s l))
 
+-- where no sheet can stand, nothing is answered
+abbrev pub soundly : Standing → Answered → Answered
+soundly s a = pick (soundStanding s) a (answered s response.Unsound)
+
 unfoldable pub answeredTo : Standing → List ℕ → Answered
-answeredTo s l = pick (soundStanding s) (lineAnswered s l) (answered s response.Unsound)
+answeredTo s l = soundly s (lineAnswered s l)
 
 -- ---- how the code gets there
 -- a chain prepared step by step: whether it is good, and the numbers that hold it
 pub record Prepares (c : Chain) (numbers : List ℤ) (good : Bool) : Type 0 where
   pub told : good ≡ eqb (first (chainTests c)) 0
   pub holds : good ≡ true → prepared.Holds (c .profile) numbers (stepsOf c)
+
+-- a line that leaves the chain as it was
+abbrev pub passedBy : Standing → Reply → Bool → Answered
+passedBy s r closed = answered (record { line = s .line + 1; chain = s .chain; refused = s .refused; closed = closed }) (response.Replied r)
 
 -- the steps after a line: one that begins with S and prints nothing is an accepted step
 abbrev pub stepsAfter : List Step → Bool → Reply → StepLine → List Step

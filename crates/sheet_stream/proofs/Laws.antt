@@ -4,11 +4,11 @@ use mathlib.Core.Path.{_≡_, refl, sym, ap, _∙_}
 use mathlib.Core.Bool.{Bool, true, false, not, _&&_, _||_}
 use mathlib.Core.List.{List, [], _∷_, _++_}
 use lib.Dec.{eqb, leb, ltb}
-use lib.ListN.{length, getD, take, drop, set, drop-of-length-le}
-use lib.Seq.{take-suc-set, take-all, drop-cons, length-take-le}
+use lib.ListN.{length, getD, take, drop, set, length-set, drop-of-length-le}
+use lib.Seq.{take-suc-set, take-set-lt, getD-take, getD-set-same, drop-cons, length-take-le}
 use native.Mathlib.Numerals.{add-one}
 use native.Mathlib.Omega.{arith}
-use borrow.Author.Tests.{le-leb, lt-leb, leb-true, ltb-true, ltb-false, not-true, lt-ltb, le-ltb, eq-eqb, ne-eqb}
+use borrow.Author.Tests.{le-leb, lt-leb, leb-true, ltb-true, ltb-false, not-true, lt-ltb, le-ltb, eq-eqb, ne-eqb, eqb-true, eqb-false}
 use Rattle.refusal.specs.Numbers as refusal
 use Rattle.refusal.specs.Order.{pick}
 use Rattle.line.specs.Bytes.{lineFeed}
@@ -23,11 +23,11 @@ use Rattle.sheet_rules.specs.OneLine.{mostLines, said, soundStanding, replyTo, 
 use Rattle.sheet_rules.proofs.OneLine.{both, sound-after, reply-rules, reply-past}
 use Rattle.sheet_rules.proofs.OneLine as line
 use Rattle.sheet_rules.proofs.Room.{answer-short}
-use Rattle.sheet_rules.proofs.Unread.{NoFeed, open-18}
+use Rattle.sheet_rules.proofs.Unread.{open-18}
 use Rattle.sheet_stream.specs.declared.Stream.{Stream}
 use Rattle.sheet_stream.specs.declared.Fed.{Fed}
 use Rattle.sheet_stream.specs.declared.Outcome.the-variants.{Open, Line, Refused}
-use Rattle.sheet_stream.specs.Fragments.{between, empty, keep, held, closing, ended, endReply, fed, later, scan, sound, unsound, feedOf, finishOf, Countable, Short}
+use Rattle.sheet_stream.specs.Fragments.{between, empty, keep, held, unended, closing, ended, endReply, fed, later, scan, sound, unsound, feedOf, finishOf, Countable, Short}
 
 -- ---- a sound state
 pub record Sound (s : Stream) : Type 0 where
@@ -45,6 +45,11 @@ sound-parts s e =
 pub sound-made : (s : Stream) → Sound s → sound s ≡ true
 unfolding sound
 sound-made s p = rw (p .going, le-leb _ _ (p .count), line.sound-made (s .standing) (p .standing))
+
+-- with a count that the room has
+pub sound-is : (s : Stream) → s .count ≤ longestLine → sound s ≡ (not (s .finished) && soundStanding (s .standing))
+unfolding sound
+sound-is s h = rw (le-leb (s .count) longestLine h)
 
 pub sound-ended : (s : Stream) → Sound s → Sound (ended s)
 unfolding ended
@@ -85,54 +90,37 @@ takes s b f = go (eqb b lineFeed)
     go true = omega arith
     go false = omega arith
 
--- ---- for the code: the state from its parts
-abbrev pub stateOf : Standing → ℕ → List ℕ → Bool → Stream
-stateOf standing count kept finished = record { standing = standing; count = count; kept = kept; finished = finished }
+-- ---- a line that no line feed ends
+pub unended-same : (l : List ℕ) → (getD l (length l - 1) 0 ≡ lineFeed → ⊥) → unended l ≡ l
+unfolding unended
+unended-same l n = rw (ne-eqb (getD l (length l - 1) 0) lineFeed n)
 
-module _ (st : Standing) (n : ℕ) (kept : List ℕ) (fin : Bool) where
-  pub keep-room : (b : ℕ) → n < 200 → keep (stateOf st n kept fin) b ≡ stateOf st (n + 1) (set kept n b) fin
-  unfolding keep
-  keep-room b h = rw (lt-ltb n 200 h)
+pub unended-fed : (l : List ℕ) → getD l (length l - 1) 0 ≡ lineFeed → unended l ≡ set l (length l - 1) 0
+unfolding unended
+unended-fed l e = rw (eq-eqb (getD l (length l - 1) 0) lineFeed e)
 
-  pub keep-full : (b : ℕ) → 200 ≤ n → keep (stateOf st n kept fin) b ≡ stateOf st n kept fin
-  unfolding keep
-  keep-full b h = rw (le-ltb n 200 h)
+pub unended-length : (l : List ℕ) → length (unended l) ≡ length l
+unfolding unended
+unended-length l = go (eqb (getD l (length l - 1) 0) lineFeed)
+  where
+    go : (t : Bool) → length (pick t (set l (length l - 1) 0) l) ≡ length l
+    go true = length-set l (length l - 1) 0
+    go false = refl
 
-  pub closing-room : n < 200 → length kept ≡ 200 → closing (stateOf st n kept fin) ≡ take (n + 1) (set kept n lineFeed)
-  unfolding closing
-  closing-room h l = rw (lt-ltb n 200 h, add-one) (sym (take-suc-set kept n lineFeed (omega arith)))
-
-  pub closing-full : 200 ≤ n → length kept ≡ 200 → closing (stateOf st n kept fin) ≡ kept
-  unfolding closing
-  closing-full h l = rw (le-ltb n 200 h) (take-all n kept (omega arith))
-
--- the line that ends: the call's answer, from the line handed to the rules
-pub ends : (s : Stream) (l : List ℕ) (k : ℕ) → closing s ≡ l → fed (between (afterLine (s .standing) l) (s .finished)) k (Line (replyTo (s .standing) l)) ≡ fed (ended s) k (Line (endReply s))
-unfolding ended endReply
-ends s l k e = rw e
-
--- with so many bytes taken before
-abbrev pub more : ℕ → Fed → Fed
-more n r = fed (r .stream) (n + r .taken) (r .outcome)
-
-pub more-none : (r : Fed) → more 0 r ≡ r
-more-none r = ap (λ (k : ℕ). fed (r .stream) k (r .outcome)) (omega arith)
-
--- what is left to do, from the place `at`, is the whole
-module _ (s : Stream) (f : List ℕ) (at : ℕ) where
-  pub left-end : length f ≤ at → more at (scan s (drop at f)) ≡ fed s at Open
-  unfolding scan
-  left-end h = rw (drop-of-length-le f h) (ap (λ (k : ℕ). fed s k Open) (omega arith))
-
-  pub left-feed : at < length f → getD f at 0 ≡ lineFeed → more at (scan s (drop at f)) ≡ fed (ended s) (at + 1) (Line (endReply s))
-  unfolding scan
-  left-feed h e = rw (drop-cons f at 0 h, eq-eqb (getD f at 0) lineFeed e)
-
-  pub left-more : at < length f → (getD f at 0 ≡ lineFeed → ⊥) → more at (scan s (drop at f)) ≡ more (at + 1) (scan (keep s (getD f at 0)) (drop (at + 1) f))
-  unfolding scan
-  left-more h e =
-      rw (drop-cons f at 0 h, ne-eqb (getD f at 0) lineFeed e, add-one)
-      (ap (λ (k : ℕ). fed (scan (keep s (getD f at 0)) (drop (suc at) f) .stream) k (scan (keep s (getD f at 0)) (drop (suc at) f) .outcome)) (omega arith))
+pub unended-last : (l : List ℕ) → getD (unended l) (length (unended l) - 1) 0 ≡ lineFeed → ⊥
+unended-last l = go (eqb (getD l (length l - 1) 0) lineFeed) refl
+  where
+    go : (t : Bool) → eqb (getD l (length l - 1) 0) lineFeed ≡ t → getD (unended l) (length (unended l) - 1) 0 ≡ lineFeed → ⊥
+    go true q e =
+        let f = eqb-true (getD l (length l - 1) 0) lineFeed q in
+        zeroed l (rw (unended-length l, unended-fed l f) at e)
+      where
+        zeroed : (l : List ℕ) → getD (set l (length l - 1) 0) (length l - 1) 0 ≡ lineFeed → ⊥
+        zeroed [] e = omega arith
+        zeroed (b ∷ l) e = let y = getD-set-same (b ∷ l) (length (b ∷ l) - 1) 0 0 (omega arith) in omega (arith, y, e)
+    go false q e =
+        let n = eqb-false (getD l (length l - 1) 0) lineFeed q in
+        n (rw (unended-same l n) at e)
 
 -- ---- the finish
 pub finish-29 : (s : Stream) → sound s ≡ false → finishOf s ≡ unsound s
@@ -143,7 +131,7 @@ pub finish-none : (s : Stream) → sound s ≡ true → s .count ≡ 0 → finis
 unfolding finishOf
 finish-none s e z = rw (e, eq-eqb (s .count) 0 z)
 
-pub finish-open : (s : Stream) → sound s ≡ true → (s .count ≡ 0 → ⊥) → finishOf s ≡ fed (between (afterLine (s .standing) (held s)) true) 0 (Line (replyTo (s .standing) (held s)))
+pub finish-open : (s : Stream) → sound s ≡ true → (s .count ≡ 0 → ⊥) → finishOf s ≡ fed (between (afterLine (s .standing) (unended (held s))) true) 0 (Line (replyTo (s .standing) (unended (held s))))
 unfolding finishOf
 finish-open s e z = rw (e, ne-eqb (s .count) 0 z)
 
@@ -152,11 +140,11 @@ pub finish-finishes : (s : Stream) → sound s ≡ true → finishOf s .stream .
 unfolding finishOf
 finish-finishes s e = rw e (go (eqb (s .count) 0))
   where
-    go : (t : Bool) → pick {A = Fed} t (fed (between (s .standing) true) 0 Open) (fed (between (afterLine (s .standing) (held s)) true) 0 (Line (replyTo (s .standing) (held s)))) .stream .finished ≡ true
+    go : (t : Bool) → pick {A = Fed} t (fed (between (s .standing) true) 0 Open) (fed (between (afterLine (s .standing) (unended (held s))) true) 0 (Line (replyTo (s .standing) (unended (held s))))) .stream .finished ≡ true
     go true = refl
     go false = refl
 
-not-going : (s : Stream) → s .finished ≡ true → sound s ≡ false
+pub not-going : (s : Stream) → s .finished ≡ true → sound s ≡ false
 unfolding sound
 not-going s e = rw e
 
@@ -167,16 +155,16 @@ pub finished-after-finish : (s : Stream) → s .finished ≡ true → finishOf s
 finished-after-finish s e = finish-29 s (not-going s e)
 
 -- ---- what the finish answers to a line left open: 18 at its length within the limit; past the limit 28
-pub finish-18 : (s : Stream) → sound s ≡ true → length (s .kept) ≡ longestLine → NoFeed (held s) → 0 < s .count → s .standing .line ≤ mostLines → finishOf s .outcome ≡ Line (reply.Refused (s .standing .line) refusal.length (s .count))
-finish-18 s e k n h l =
+pub finish-18 : (s : Stream) → sound s ≡ true → length (s .kept) ≡ longestLine → 0 < s .count → s .standing .line ≤ mostLines → finishOf s .outcome ≡ Line (reply.Refused (s .standing .line) refusal.length (s .count))
+finish-18 s e k h l =
     let p = sound-parts s e in
     let z : length (held s) ≡ s .count = length-take-le (s .count) (s .kept) (omega (arith, p .count)) in
-    let m : min (length (held s)) longestLine ≡ s .count = omega (arith, p .count) in
+    let m : min (length (unended (held s))) longestLine ≡ s .count = omega (arith, p .count, unended-length (held s)) in
     ap (λ (r : Fed). r .outcome) (finish-open s e (λ q. omega arith))
-    ∙ ap Line (reply-rules (s .standing) (held s) l ∙ open-18 (said (s .standing)) (held s) n (omega arith) ∙ ap (reply.Refused (s .standing .line) refusal.length) m)
+    ∙ ap Line (reply-rules (s .standing) (unended (held s)) l ∙ open-18 (said (s .standing)) (unended (held s)) (unended-last (held s)) ∙ ap (reply.Refused (s .standing .line) refusal.length) m)
 
 pub finish-28 : (s : Stream) → sound s ≡ true → 0 < s .count → mostLines < s .standing .line → finishOf s .outcome ≡ Line (reply.Refused (suc mostLines) refusal.limit 0)
-finish-28 s e h l = ap (λ (r : Fed). r .outcome) (finish-open s e (λ q. omega arith)) ∙ ap Line (reply-past (s .standing) (held s) l)
+finish-28 s e h l = ap (λ (r : Fed). r .outcome) (finish-open s e (λ q. omega arith)) ∙ ap Line (reply-past (s .standing) (unended (held s)) l)
 
 -- ---- for callers: no more is taken than there is
 scan-within : (s : Stream) (f : List ℕ) → scan s f .taken ≤ length f
@@ -195,66 +183,6 @@ within s f = go (sound s) (scan-within s f)
     go : (t : Bool) → scan s f .taken ≤ length f → pick {A = Fed} t (scan s f) (unsound s) .taken ≤ length f
     go true h = h
     go false h = omega arith
-
--- ---- for the code: what is decided first is the part of the state that costs nothing to look at
-over-full : (s : Stream) → s .finished ≡ false → longestLine < s .count → sound s ≡ false
-unfolding sound
-over-full s e h = rw (e, lt-leb (s .count) longestLine h)
-
-pub stopped : (s : Stream) (f : List ℕ) → (s .finished || ltb longestLine (s .count)) ≡ true → (unsound s ≡ feedOf s f) × (unsound s ≡ finishOf s)
-stopped s f e = let z = go (s .finished) (ltb longestLine (s .count)) refl refl e in (sym (feed-29 s f z), sym (finish-29 s z))
-  where
-    go : (a b : Bool) → s .finished ≡ a → ltb longestLine (s .count) ≡ b → (a || b) ≡ true → sound s ≡ false
-    go true b p q e = not-going s p
-    go false true p q e = over-full s p (ltb-true longestLine (s .count) q)
-    go false false p q e = absurd (let z : _≡_ {A = ℕ} 0 1 = cc in omega arith)
-
-pub record Going (s : Stream) : Type 0 where
-  pub going : s .finished ≡ false
-  pub count : s .count ≤ longestLine
-
-pub goes-on : (s : Stream) → (s .finished || ltb longestLine (s .count)) ≡ false → Going s
-goes-on s e = go (s .finished) (ltb longestLine (s .count)) refl refl e
-  where
-    go : (a b : Bool) → s .finished ≡ a → ltb longestLine (s .count) ≡ b → (a || b) ≡ false → Going s
-    go true b p q e = absurd (let z : _≡_ {A = ℕ} 0 1 = cc in omega arith)
-    go false true p q e = absurd (let z : _≡_ {A = ℕ} 0 1 = cc in omega arith)
-    go false false p q e = record { going = p; count = ltb-false longestLine (s .count) q }
-
-module _ (s : Stream) (g : Going s) where
-  pub sound-as : (b : Bool) → b ≡ soundStanding (s .standing) → sound s ≡ b
-  unfolding sound
-  sound-as b e = rw (g .going, le-leb (s .count) longestLine (g .count)) (sym e)
-
-  -- a line that ended
-  pub fed-by : (f : List ℕ) (r x : Fed) → r ≡ pick (soundStanding (s .standing)) x (unsound s) → x ≡ scan s f → r ≡ feedOf s f
-  unfolding feedOf
-  fed-by f r x e q = rw (sound-as (soundStanding (s .standing)) refl, sym q) e
-
-  pub finished-by : (r : Fed) → (s .count ≡ 0 → ⊥) → r ≡ pick (soundStanding (s .standing)) (fed (between (afterLine (s .standing) (held s)) true) 0 (Line (replyTo (s .standing) (held s)))) (unsound s) → r ≡ finishOf s
-  unfolding finishOf
-  finished-by r z e = rw (sound-as (soundStanding (s .standing)) refl, ne-eqb (s .count) 0 z) e
-
--- the answer to a line, as the rules gave it
-module _ (s : Stream) (l : List ℕ) (n : ℕ) (fin : Bool) (a : Answered) (e : a ≡ answeredTo (s .standing) l) where
-  abbrev Ended : Fed → Type 0
-  Ended r = r ≡ pick (soundStanding (s .standing)) (fed (between (afterLine (s .standing) l) fin) n (Line (replyTo (s .standing) l))) (unsound s)
-
-  pub ended-unsound : a .response ≡ response.Unsound → Ended (unsound s)
-  unfolding answeredTo lineAnswered
-  ended-unsound q = go (soundStanding (s .standing)) (sym (ap (λ (x : Answered). x .response) e) ∙ q)
-    where
-      go : (b : Bool) → pick {A = Answered} b (answered (afterLine (s .standing) l) (response.Replied (replyTo (s .standing) l))) (answered (s .standing) response.Unsound) .response ≡ response.Unsound → unsound s ≡ pick b (fed (between (afterLine (s .standing) l) fin) n (Line (replyTo (s .standing) l))) (unsound s)
-      go true z = absurd (let y : _≡_ {A = ℕ} 0 1 = cc in omega arith)
-      go false z = refl
-
-  pub ended-replied : (r : Reply) → a .response ≡ response.Replied r → Ended (fed (between (a .standing) fin) n (Line r))
-  unfolding answeredTo lineAnswered
-  ended-replied r q = go (soundStanding (s .standing)) (sym (ap (λ (x : Answered). x .response) e) ∙ q) (ap (λ (x : Answered). x .standing) e)
-    where
-      go : (b : Bool) → pick {A = Answered} b (answered (afterLine (s .standing) l) (response.Replied (replyTo (s .standing) l))) (answered (s .standing) response.Unsound) .response ≡ response.Replied r → a .standing ≡ pick {A = Answered} b (answered (afterLine (s .standing) l) (response.Replied (replyTo (s .standing) l))) (answered (s .standing) response.Unsound) .standing → fed (between (a .standing) fin) n (Line r) ≡ pick b (fed (between (afterLine (s .standing) l) fin) n (Line (replyTo (s .standing) l))) (unsound s)
-      go true z y = let x : replyTo (s .standing) l ≡ r = cc in rw (y, x)
-      go false z y = absurd (let x : _≡_ {A = ℕ} 0 1 = cc in omega arith)
 
 -- ---- for a caller that keeps the state as numbers
 countable : (s : Stream) → Sound s → Countable s
@@ -285,9 +213,9 @@ finished-countable s c = go (sound s) (eqb (s .count) 0) refl
       steps = line.sound-short st (line.sound-made st p);
     }
 
-    go : (t u : Bool) → sound s ≡ t → Countable (pick {A = Fed} t (pick {A = Fed} u (fed (between (s .standing) true) 0 Open) (fed (between (afterLine (s .standing) (held s)) true) 0 (Line (replyTo (s .standing) (held s))))) (unsound s) .stream)
+    go : (t u : Bool) → sound s ≡ t → Countable (pick {A = Fed} t (pick {A = Fed} u (fed (between (s .standing) true) 0 Open) (fed (between (afterLine (s .standing) (unended (held s))) true) 0 (Line (replyTo (s .standing) (unended (held s)))))) (unsound s) .stream)
     go true true e = ended-so (s .standing) (sound-parts s e .standing)
-    go true false e = ended-so (afterLine (s .standing) (held s)) (sound-after (s .standing) (held s) (sound-parts s e .standing))
+    go true false e = ended-so (afterLine (s .standing) (unended (held s))) (sound-after (s .standing) (unended (held s)) (sound-parts s e .standing))
     go false u e = c
 
 -- an answer has at most 100 bytes
@@ -320,7 +248,7 @@ pub finished-short : (s : Stream) → Countable s → Short (finishOf s .outcome
 unfolding finishOf
 finished-short s c = go (sound s) (eqb (s .count) 0)
   where
-    go : (t u : Bool) → Short (pick {A = Fed} t (pick {A = Fed} u (fed (between (s .standing) true) 0 Open) (fed (between (afterLine (s .standing) (held s)) true) 0 (Line (replyTo (s .standing) (held s))))) (unsound s) .outcome)
+    go : (t u : Bool) → Short (pick {A = Fed} t (pick {A = Fed} u (fed (between (s .standing) true) 0 Open) (fed (between (afterLine (s .standing) (unended (held s))) true) 0 (Line (replyTo (s .standing) (unended (held s)))))) (unsound s) .outcome)
     go true true = tt
-    go true false = answer-short (s .standing) (held s) (c .to)
+    go true false = answer-short (s .standing) (unended (held s)) (c .to)
     go false u = tt

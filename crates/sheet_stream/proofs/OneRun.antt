@@ -26,13 +26,13 @@ use Rattle.sheet_rules.proofs.Laws.{next-line}
 use Rattle.sheet_rules.proofs.OneLine.{reply-past, after-past, reply-rules, after-rules, after-standing, same-reply, same-after}
 use Rattle.sheet_rules.proofs.OneLine as line
 use Rattle.sheet_rules.proofs.Room.{sheet-lines}
-use Rattle.sheet_rules.proofs.Unread.{NoFeed, none-yet, one-more, cut-reply, cut-next, open-reply, open-next}
+use Rattle.sheet_rules.proofs.Unread.{NoFeed, none-yet, one-more, no-feed-in, no-feed-last, cut-reply, cut-next, open-reply, open-next}
 use Rattle.sheet_stream.specs.declared.Stream.{Stream}
 use Rattle.sheet_stream.specs.declared.Outcome.the-variants.{Open, Line, Refused}
-use Rattle.sheet_stream.specs.Fragments.{empty, between, fresh, keep, held, closing, ended, endReply, finishOf}
+use Rattle.sheet_stream.specs.Fragments.{empty, between, fresh, keep, held, unended, closing, ended, endReply, finishOf}
 use Rattle.sheet_stream.specs.Calls.{Told, told, after, deliver, joined, bytes, finished, rulesRun, rulesLast, texts}
 use Rattle.sheet_stream.specs.WholeSheet.{OverTheLink, oneRun, answersTo, closingOf, noSteps, pastLimit}
-use Rattle.sheet_stream.proofs.Laws.{Sound, sound-parts, sound-made, sound-ended, sound-keep, finish-none, finish-open}
+use Rattle.sheet_stream.proofs.Laws.{Sound, sound-parts, sound-made, sound-ended, sound-keep, unended-same, finish-none, finish-open}
 use Rattle.sheet_stream.proofs.Cuts.{deliver-bytes, any-calls}
 
 -- ---- the lines of a text that follows an open line
@@ -109,23 +109,27 @@ record Same (s : Standing) (k l : List ℕ) : Type 0 where
 same : (s : Standing) (k l : List ℕ) → k ≡ l → Same s k l
 same s k l e = record { reply = ap (replyTo s) e; next = ap (afterLine s) e }
 
+-- no line feed was kept
+open-held : (s : Stream) (st : Standing) (w : List ℕ) → Holds s st w → NoFeed w → unended (held s) ≡ held s
+open-held s st w h n = rw (h .begins) (unended-same (take longestLine w) (no-feed-last (take longestLine w) (no-feed-in longestLine w n)))
+
 -- what the rules are handed at a line feed does for the line itself
 ended-line : (s : Stream) (st : Standing) (w : List ℕ) → Holds s st w → NoFeed w → Same st (closing s) (w ++ (lineFeed ∷ []))
 unfolding closing
 ended-line s st w h n = go (ltb (s .count) longestLine) refl
   where
-    go : (t : Bool) → ltb (s .count) longestLine ≡ t → Same st (pick t (held s ++ (lineFeed ∷ [])) (held s)) (w ++ (lineFeed ∷ []))
+    go : (t : Bool) → ltb (s .count) longestLine ≡ t → Same st (pick t (held s ++ (lineFeed ∷ [])) (unended (held s))) (w ++ (lineFeed ∷ []))
     go true q =
         let l = ltb-true (s .count) longestLine q in
         same st _ _ (ap (λ (x : List ℕ). x ++ (lineFeed ∷ [])) (h .begins ∙ take-all longestLine w (omega (arith, h .count))))
     go false q =
         let l = ltb-false (s .count) longestLine q in
         let m : longestLine ≤ length w = omega (arith, h .count) in
-        rw (h .begins) (record { reply = same-reply st _ _ (cut-reply (said st) w n m); next = same-after st _ _ (cut-next (said st) w n m) })
+        rw (open-held s st w h n, h .begins) (record { reply = same-reply st _ _ (cut-reply (said st) w n m); next = same-after st _ _ (cut-next (said st) w n m) })
 
 -- and what they are handed at the finish, for the open line
-open-line : (s : Stream) (st : Standing) (w : List ℕ) → Holds s st w → NoFeed w → Same st (held s) w
-open-line s st w h n = go (ltb (length w) longestLine) refl
+open-line : (s : Stream) (st : Standing) (w : List ℕ) → Holds s st w → NoFeed w → Same st (unended (held s)) w
+open-line s st w h n = rw (open-held s st w h n) (go (ltb (length w) longestLine) refl)
   where
     go : (t : Bool) → ltb (length w) longestLine ≡ t → Same st (held s) w
     go true q = let l = ltb-true (length w) longestLine q in same st _ _ (h .begins ∙ take-all longestLine w (omega arith))

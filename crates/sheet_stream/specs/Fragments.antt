@@ -1,10 +1,10 @@
 -- A sheet that arrives in fragments: what a call with a fragment answers, and what the finish does.
-use Prim.Native.Nat.{ℕ, suc, _+_, _≤_}
+use Prim.Native.Nat.{ℕ, suc, _+_, _-_, _≤_}
 use mathlib.Core.Bool.{Bool, true, false, not, _&&_}
 use mathlib.Core.List.{List, [], _∷_, _++_}
 use lib.Dec.{eqb, leb, ltb}
 use lib.IntN.{pos}
-use lib.ListN.{length, take, set, replicate}
+use lib.ListN.{length, getD, take, set, replicate}
 use Rattle.refusal.specs.Numbers as refusal
 use Rattle.refusal.specs.Order.{pick}
 use Rattle.chain.specs.declared.Step.{Step}
@@ -45,9 +45,14 @@ keep s b =
 abbrev pub held : Stream → List ℕ
 held s = take (s .count) (s .kept)
 
--- what the rules are handed at a line feed: the line; of one that is over 200 bytes with its line feed, the first 200, which no line feed ends
+-- a line that has not ended, or is too long, as the rules are handed it: no line feed ends it. No sheet leaves a line feed among the bytes kept; in a state that
+-- has one as the last, 0 stands for it
+unfoldable pub unended : List ℕ → List ℕ
+unended l = pick (eqb (getD l (length l - 1) 0) lineFeed) (set l (length l - 1) 0) l
+
+-- what the rules are handed at a line feed: the line; of one that is over 200 bytes with its line feed, the first 200
 unfoldable pub closing : Stream → List ℕ
-closing s = pick (ltb (s .count) longestLine) (held s ++ (lineFeed ∷ [])) (held s)
+closing s = pick (ltb (s .count) longestLine) (held s ++ (lineFeed ∷ [])) (unended (held s))
 
 unfoldable pub ended : Stream → Stream
 ended s = between (afterLine (s .standing) (closing s)) (s .finished)
@@ -82,8 +87,20 @@ finishOf s =
     pick (sound s)
     (pick (eqb (s .count) 0)
     (fed (between (s .standing) true) 0 Open)
-    (fed (between (afterLine (s .standing) (held s)) true) 0 (Line (replyTo (s .standing) (held s)))))
+    (fed (between (afterLine (s .standing) (unended (held s))) true) 0 (Line (replyTo (s .standing) (unended (held s))))))
     (unsound s)
+
+-- ---- how the code gets there
+abbrev pub stateOf : Standing → ℕ → List ℕ → Bool → Stream
+stateOf standing count kept finished = record { standing = standing; count = count; kept = kept; finished = finished }
+
+-- the first n bytes end in a line feed
+unfoldable pub fedAt : List ℕ → ℕ → Bool
+fedAt f n = ltb 0 n && eqb (getD f (n - 1) 0) lineFeed
+
+-- a line that ends, in whatever state, with so many bytes taken
+abbrev pub endsWith : Stream → List ℕ → ℕ → Bool → Fed
+endsWith s l n finished = pick (soundStanding (s .standing)) (fed (between (afterLine (s .standing) l) finished) n (Line (replyTo (s .standing) l))) (unsound s)
 
 -- ---- for a caller that keeps the state as numbers: how large its counts are, and how long an answer is
 pub record Countable (s : Stream) : Type 0 where

@@ -1,11 +1,11 @@
 // A sheet that arrives in fragments of whatever length. The caller keeps the state; each call takes bytes up to and with the first line feed and answers the line
 // that it ends, so that there is never more than one answer to a call, and room is asked for one line.
 ghost use mathlib.Core.Path.{_≡_};
-ghost use mathlib.Core.Bool.{true};
-ghost use lib.ListN.{replicate};
-ghost use Rattle.refusal.specs.Order.{pick};
-ghost use Rattle.sheet_rules.specs.OneLine.{soundStanding, replyTo, afterLine};
-ghost use Rattle.sheet_stream.specs.Fragments.{empty, between, noStep, fresh as Fragments·fresh, fed, unsound, feedOf, finishOf};
+ghost use mathlib.Core.Bool.{false};
+ghost use Prim.Native.Nat.{_+_, _-_, _<_, _≤_, min};
+ghost use lib.Seq.{sets};
+ghost use lib.ListN.{length, take, replicate};
+ghost use Rattle.sheet_stream.specs.Fragments.{empty, noStep, fresh as Fragments·fresh, unended, closing, unsound, stateOf, endsWith, fedAt, feedOf, finishOf};
 use chain::Chain;
 use chain::Kind;
 use chain::Realization;
@@ -101,7 +101,7 @@ fn refused(stream: Stream) -> Fed
 
 // A line has ended, by its line feed or by the finish: the reply to it, and the state with no line open.
 fn end_line(stream: Stream, line: &[u8], taken: usize, finished: bool) -> Fed
-    ensures { λ r. ⌜ r ≡ pick (soundStanding (stream .standing)) (fed (between (afterLine (stream .standing) (now (line .entry))) finished) taken (Outcome.Line (replyTo (stream .standing) (now (line .entry))))) (unsound stream) ⌝ }
+    ensures { λ r. ⌜ r ≡ endsWith stream (now (line .entry)) taken finished ⌝ }
 {
     let answered = sheet_rules::answer_line(stream.standing, line);
     let standing = answered.standing;
@@ -124,43 +124,109 @@ fn end_line(stream: Stream, line: &[u8], taken: usize, finished: bool) -> Fed
     }
 }
 
+// The room for a line whose first `count` bytes no line feed ends: 0 for the last of them where it is one.
+fn without_end(kept: [u8; 200], count: usize) -> [u8; 200]
+    requires { ⌜ (0 < count) × (count ≤ 200) ⌝ }
+    ensures { λ r. ⌜ (length r ≡ 200) × (take count r ≡ unended (take count kept)) ⌝ }
+{
+    let last = count - 1;
+    if kept[last] != LINE_FEED {
+        return kept;
+    }
+    let mut bytes = kept;
+    bytes[last] = 0;
+    bytes
+}
+
+// A line that has not ended, or is too long: the reply to the bytes that are kept of it.
+fn end_open(stream: Stream, kept: [u8; 200], count: usize, taken: usize, finished: bool) -> Fed
+    requires { ⌜ (0 < count) × (count ≤ 200) ⌝ }
+    ensures { λ r. ⌜ r ≡ endsWith stream (unended (take count kept)) taken finished ⌝ }
+{
+    let bytes = without_end(kept, count);
+    end_line(stream, &bytes[..count], taken, finished)
+}
+
+// Whether the first `end` bytes end in a line feed. None do, and more than there are don't.
+pub fn is_fed(bytes: &[u8], end: usize) -> bool
+    ensures { λ r. ⌜ r ≡ fedAt (now (bytes .entry)) end ⌝ }
+{
+    if end == 0 {
+        return false;
+    }
+    if bytes.len() < end {
+        return false;
+    }
+    bytes[end - 1] == LINE_FEED
+}
+
+fn least(a: usize, b: usize) -> usize
+    ensures { λ r. ⌜ r ≡ min a b ⌝ }
+{
+    if a < b {
+        return a;
+    }
+    b
+}
+
+// More bytes behind the first `count` of a line's room, as far as it goes, and how many are kept then. Past a count that the room doesn't have nothing is written.
+pub fn keep_bytes(room: &mut [u8], count: usize, bytes: &[u8]) -> usize
+    ensures { λ r. ⌜ (now (room .exit) ≡ sets (now (room .entry)) count (take (length (now (room .entry)) - count) (now (bytes .entry)))) × (r ≡ min (count + length (now (bytes .entry))) (length (now (room .entry)))) ⌝ }
+{
+    let size = room.len();
+    if size <= count {
+        return size;
+    }
+    let n = least(bytes.len(), size - count);
+    let mut i: usize = 0;
+    while i < n {
+        room[count + i] = bytes[i];
+        i += 1;
+    }
+    count + n
+}
+
+// The open line ends with its line feed.
+fn end_fed(stream: Stream, kept: [u8; 200], count: usize, taken: usize) -> Fed
+    requires { ⌜ count ≤ 200 ⌝ }
+    ensures { λ r. ⌜ r ≡ endsWith stream (closing (stateOf (stream .standing) count kept false)) taken false ⌝ }
+{
+    if count < ROOM {
+        let mut line = kept;
+        line[count] = LINE_FEED;
+        return end_line(stream, &line[..count + 1], taken, false);
+    }
+    end_open(stream, kept, count, taken, false)
+}
+
 // Takes bytes of a fragment up to and with its first line feed, or all of it, and answers the line that it ends. Refusal: STATE, which takes and changes nothing.
 pub fn feed(stream: Stream, fragment: &[u8]) -> Fed
     ensures { λ r. ⌜ r ≡ feedOf stream (now (fragment .entry)) ⌝ }
 {
-    let mut count = stream.count;
+    let count = stream.count;
     let mut kept = stream.kept;
     if stream.finished | (ROOM < count) {
         return refused(stream);
     }
-    let mut at: usize = 0;
-    while at < fragment.len() {
-        let b = fragment[at];
-        at = at + 1;
-        if b == LINE_FEED {
-            if count < ROOM {
-                kept[count] = LINE_FEED;
-                return end_line(stream, &kept[..count + 1], at, false);
-            }
-            return end_line(stream, &kept, at, false);
-        }
-        if count < ROOM {
-            kept[count] = b;
-            count = count + 1;
-        }
+    let end = line::line_end(fragment, 0);
+    if is_fed(fragment, end) {
+        let last = end - 1;
+        let n = keep_bytes(&mut kept, count, &fragment[..last]);
+        return end_fed(stream, kept, n, end);
     }
     let standing = stream.standing;
     if !sheet_rules::is_sound(standing) {
         return refused(stream);
     }
+    let n = keep_bytes(&mut kept, count, fragment);
     Fed {
         stream: Stream {
             standing: standing,
-            count: count,
+            count: n,
             kept: kept,
             finished: false,
         },
-        taken: at,
+        taken: end,
         outcome: Outcome::Open,
     }
 }
@@ -175,7 +241,7 @@ pub fn finish(stream: Stream) -> Fed
         return refused(stream);
     }
     if count != 0 {
-        return end_line(stream, &kept[..count], 0, true);
+        return end_open(stream, kept, count, 0, true);
     }
     let standing = stream.standing;
     if !sheet_rules::is_sound(standing) {

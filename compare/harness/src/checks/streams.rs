@@ -176,9 +176,12 @@ fn state(c: &mut Comparison) -> State {
         let kept = rng.pick(&[1, 5, 60, 150, 198, 199, 200]);
         state.numbers[1] = kept as i64;
         let first = rng.pick(b"SEPX");
-        // No line feed: no sheet leaves one there, and what it would mean docs/DECISIONS.md leaves to the product.
-        state.line[..kept].fill_with(|| if rng.once_in(60) { no_feed(texts::byte(rng)) } else { b'A' });
+        state.line[..kept].fill_with(|| if rng.once_in(60) { texts::byte(rng) } else { b'A' });
         state.line[0] = first;
+        // No sheet leaves a line feed there: it is a byte of the line, and at the end it ends none.
+        if rng.once_in(6) {
+            state.line[kept - 1] = b'\n';
+        }
     }
     for flag in 2..5 {
         state.numbers[flag] = i64::from(rng.once_in(if flag == 4 { 20 } else { 4 }));
@@ -189,16 +192,8 @@ fn state(c: &mut Comparison) -> State {
         match rng.below(3) {
             0 => state.numbers[rng.index(7)] = number,
             1 => state.numbers[7 + rng.index(104)] = number,
-            _ => state.line[rng.index(ROOM)] = no_feed(rng.word() as u8),
+            _ => state.line[rng.index(ROOM)] = rng.word() as u8,
         }
     }
     state
-}
-
-fn no_feed(byte: u8) -> u8 {
-    if byte == b'\n' {
-        b'\r'
-    } else {
-        byte
-    }
 }

@@ -10,13 +10,14 @@ ghost use Rattle.refusal.specs.Order.{first};
 ghost use Rattle.chain.specs.Faults.{chainTests, stepsOf};
 ghost use Rattle.chain.specs.Prepared as prepared;
 ghost use Rattle.chain.specs.declared.Step.{Step};
-ghost use Rattle.line.specs.Bytes.{letterS};
+ghost use Rattle.line.specs.Bytes.{letterS, letterP};
 ghost use Rattle.line.specs.Readers.{readStep};
+ghost use Rattle.line.specs.declared.PointLine.the-variants as point-line;
 ghost use Rattle.line.specs.declared.StepLine.the-variants as step-line;
 ghost use Rattle.sheet_rules.specs.declared.Reply.the-variants as replies;
-ghost use Rattle.sheet_rules.specs.Sheet.{Sheet, replyOf, nextOf};
+ghost use Rattle.sheet_rules.specs.Sheet.{Sheet, pointReply, replyOf, nextOf};
 ghost use Rattle.sheet_rules.specs.State.{Holds, Gave};
-ghost use Rattle.sheet_rules.specs.OneLine.{said, counted, chainWith, soundStanding, stepsAfter, Prepares, answeredTo, lineAnswered};
+ghost use Rattle.sheet_rules.specs.OneLine.{said, counted, chainWith, soundStanding, stepsAfter, Prepares, passedBy, soundly, answeredTo, lineAnswered};
 use crate::Answered;
 use crate::Decided;
 use crate::Reply;
@@ -25,9 +26,12 @@ use crate::Standing;
 use crate::State;
 use crate::decide::decide;
 use crate::decide::malformed;
+use chain::Answer;
 use chain::Chain;
+use chain::Point;
 use chain::Prepared;
 use chain::Step;
+use line::PointLine;
 use line::StepLine;
 
 // At most so many lines of a sheet are answered.
@@ -70,10 +74,8 @@ fn is_counted(line: u64, steps: usize) -> bool
 pub fn is_sound(standing: Standing) -> bool
     ensures { λ r. ⌜ r ≡ soundStanding standing ⌝ }
 {
-    let mut numbers = [0i64; 72];
     let chain = standing.chain;
-    let good = prepare(chain, &mut numbers);
-    is_counted(standing.line, chain.length) & good
+    is_counted(standing.line, chain.length) & (chain::chain_fault(chain) == 0)
 }
 
 // A chain with one step more.
@@ -91,14 +93,15 @@ fn with_step(chain: Chain, step: Step) -> Chain
     }
 }
 
-// Whether a line begins with S.
-fn begins_step(text: &[u8]) -> bool
-    ensures { λ r. ⌜ r ≡ eqb (getD (now (text .entry)) 0 0) letterS ⌝ }
+// Whether a line begins with a letter. Of no bytes the first counts as 0, no line's letter.
+fn begins_with(text: &[u8], letter: u8) -> bool
+    requires { ⌜ 0 < letter ⌝ }
+    ensures { λ r. ⌜ r ≡ eqb (getD (now (text .entry)) 0 0) letter ⌝ }
 {
     if text.len() == 0 {
         return false;
     }
-    text[0] == b'S'
+    text[0] == letter
 }
 
 // The chain after a line with this reply. Of the lines that begin with S only an accepted step prints nothing.
@@ -106,7 +109,7 @@ fn chain_after(chain: Chain, reply: Reply, text: &[u8]) -> Chain
     requires { ⌜ (chain .length ≤ 8) × ((t : Step) → eqb (getD (now text) 0 0) letterS ≡ true → reply ≡ replies.Nothing → readStep (chain .profile) (now text) ≡ step-line.Step t → length (stepsOf chain) < 8) ⌝ }
     ensures { λ r. ⌜ r ≡ chainWith chain (chain .profile) (stepsAfter (stepsOf chain) (eqb (getD (now (text .entry)) 0 0) letterS) reply (readStep (chain .profile) (now (text .entry)))) ⌝ }
 {
-    if !begins_step(text) {
+    if !begins_with(text, b'S') {
         return chain;
     }
     match reply {
@@ -164,14 +167,108 @@ fn answer_within(standing: Standing, numbers: &mut Prepared, text: &[u8]) -> Ans
     }
 }
 
+// A line with this reply that leaves the chain as it was, which is good: the sheet after it, which the line may have closed.
+fn replied(standing: Standing, reply: Reply, closed: bool) -> Answered
+    requires { ⌜ standing .line ≤ 1000000 ⌝ }
+    ensures { λ r. ⌜ r ≡ passedBy standing reply closed ⌝ }
+{
+    let chain = standing.chain;
+    Answered {
+        standing: Standing {
+            line: standing.line + 1,
+            chain: chain,
+            refused: standing.refused,
+            closed: closed,
+        },
+        response: Response::Replied(reply),
+    }
+}
+
+// The same of a chain that has yet to be tested.
+fn replied_if_sound(standing: Standing, reply: Reply, closed: bool) -> Answered
+    requires { ⌜ standing .line ≤ 1000000 ⌝ }
+    ensures { λ r. ⌜ r ≡ soundly standing (passedBy standing reply closed) ⌝ }
+{
+    if is_sound(standing) {
+        return replied(standing, reply, closed);
+    }
+    Answered {
+        standing: standing,
+        response: Response::Unsound,
+    }
+}
+
+// A point whose line is good by itself. One point doesn't pay for preparing the chain; and a chain that converts a point needs no other test.
+fn convert_by_steps(standing: Standing, point: Point) -> Answered
+    requires { ⌜ (standing .line ≤ 1000000) × (counted (standing .line) (standing .chain .length) ≡ true) ⌝ }
+    ensures { λ r. ⌜ r ≡ soundly standing (passedBy standing (pointReply (said standing) (point-line.Point point)) true) ⌝ }
+{
+    if standing.refused {
+        return replied_if_sound(
+            standing,
+            Reply::Refused(standing.line, refusal::EARLIER, 0),
+            true,
+        );
+    }
+    let chain = standing.chain;
+    match chain::forward(chain, point) {
+        Answer::Refused(number) => replied_if_sound(
+            standing,
+            Reply::Refused(standing.line, number, 0),
+            true,
+        ),
+        Answer::Converted(converted) => replied(standing, Reply::Point(converted), true),
+    }
+}
+
+// A line within the limit that begins with P.
+fn answer_point(standing: Standing, text: &[u8]) -> Answered
+    requires { ⌜ (standing .line ≤ 1000000) × (counted (standing .line) (standing .chain .length) ≡ true) × (eqb (getD (now text) 0 0) letterP ≡ true) ⌝ }
+    ensures { λ r. ⌜ r ≡ answeredTo standing (now (text .entry)) ⌝ }
+{
+    let chain = standing.chain;
+    match line::read_point(chain.profile, text) {
+        PointLine::Malformed(fault) => replied_if_sound(
+            standing,
+            Reply::Refused(standing.line, fault.number, fault.place),
+            standing.closed,
+        ),
+        PointLine::Refused(number) => replied_if_sound(
+            standing,
+            Reply::Refused(standing.line, number, 0),
+            true,
+        ),
+        PointLine::Point(point) => convert_by_steps(standing, point),
+    }
+}
+
+// Any other line within the limit. A step asks for the chain's numbers.
+fn answer_other(standing: Standing, text: &[u8]) -> Answered
+    requires { ⌜ (standing .line ≤ 1000000) × (soundStanding standing ≡ true) ⌝ }
+    ensures { λ r. ⌜ r ≡ lineAnswered standing (now (text .entry)) ⌝ }
+{
+    let mut numbers = [0i64; 72];
+    let chain = standing.chain;
+    prepare(chain, &mut numbers);
+    answer_within(standing, &mut numbers, text)
+}
+
+// Whether the line to come is within the limit, with no more steps before it than lines.
+fn is_within(standing: Standing) -> bool
+    ensures { λ r. ⌜ r ≡ counted (standing .line) (standing .chain .length) && leb (standing .line) 1000000 ⌝ }
+{
+    let chain = standing.chain;
+    is_counted(standing.line, chain.length) & (standing.line <= MOST_LINES)
+}
+
 // The line after those that led here, of any bytes: refusal LIMIT past the 1,000,000th, which is not read and moves nothing, else as the sheet's rules answer it.
 pub fn answer_line(standing: Standing, text: &[u8]) -> Answered
     ensures { λ r. ⌜ r ≡ answeredTo standing (now (text .entry)) ⌝ }
 {
-    let mut numbers = [0i64; 72];
-    let chain = standing.chain;
-    let good = prepare(chain, &mut numbers);
-    if !(is_counted(standing.line, chain.length) & good) {
+    if begins_with(text, b'P') & is_within(standing) {
+        return answer_point(standing, text);
+    }
+    if !is_sound(standing) {
         return Answered {
             standing: standing,
             response: Response::Unsound,
@@ -183,5 +280,5 @@ pub fn answer_line(standing: Standing, text: &[u8]) -> Answered
             response: Response::Replied(Reply::Refused(MOST_LINES + 1, refusal::LIMIT, 0)),
         };
     }
-    answer_within(standing, &mut numbers, text)
+    answer_other(standing, text)
 }

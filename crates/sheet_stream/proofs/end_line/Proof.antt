@@ -1,6 +1,6 @@
 -- `sheet_stream::end_line` meets its contract. What the rules answered. Assumes nothing.
 use mathlib.Core.Path.{_∙_}
-use Rattle.sheet_stream.proofs.Laws as L
+use Rattle.sheet_stream.proofs.Scanning as L
 use borrow.Author.Needs.{needs}
 use Rattle.sheet_stream.proofs.end_line.Statement.{statement}
 use Rattle.sheet_stream.proofs.end_line.Tie as tie

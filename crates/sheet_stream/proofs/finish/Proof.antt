@@ -1,17 +1,13 @@
--- `sheet_stream::finish` meets its contract. The three cases of `finishOf`; the array is 200 long. Assumes nothing.
+-- `sheet_stream::finish` meets its contract. The three cases of `finishOf`. Assumes nothing.
 use mathlib.Core.Path.{_≡_, sym, _∙_}
 use mathlib.Core.List.{[]}
 use native.Mathlib.Omega.{arith}
-use lib.ListN.{length, length-take, length-map}
 use borrow.Author.Tests.{not-true, not-false}
-use Rattle.sheet_stream.proofs.Laws as L
+use Rattle.sheet_stream.proofs.Laws.{finish-29, finish-none}
+use Rattle.sheet_stream.proofs.Scanning as L
 use borrow.Author.Needs.{needs}
 use Rattle.sheet_stream.proofs.finish.Statement.{statement}
 use Rattle.sheet_stream.proofs.finish.Tie as tie
-
--- an array's length is what owning the struct tells
-long : (s : tie.Start) → length (s .args .stream .kept) ≡ 200
-long s = sym (length-map (s .args .stream .kept) _) ∙ s .good .0 .1 .1 .1 .1 .0 .1 .0 .1
 
 -- past the first test
 going : (c : tie.Else1) → L.Going (c .before .before .before .args .stream)
@@ -23,17 +19,11 @@ refused-requires c κs = search needs
 returns : tie.Need-returns
 returns c = c .refused .ensures ∙ L.stopped (c .before .before .before .before .args .stream) [] (c .before .if1 .taken) .1
 
-array-share-prefix-kept : tie.Need-array-share-prefix-kept
-array-share-prefix-kept c = omega (arith, long (c .before .before .before .before), going (c .before) .count)
-
-slice-aggregate-end-line : tie.Need-slice-aggregate-end-line
-slice-aggregate-end-line c = simp length-take (omega (arith, long (c .before .before .before .before .before), going (c .before .before) .count))
-
-end-line-requires : tie.Need-end-line-requires
-end-line-requires c κs = search needs
+end-open-requires : tie.Need-end-open-requires
+end-open-requires c κs = (omega (arith, c .if2 .taken), going (c .before) .count)
 
 returns-2 : tie.Need-returns-2
-returns-2 c = L.finished-by (c .before .before .before .before .before .before .args .stream) (going (c .before .before .before)) _ (c .before .before .if2 .taken) (c .end-line .ensures)
+returns-2 c = L.finished-by (c .before .before .before .before .before .args .stream) (going (c .before .before)) _ (c .before .if2 .taken) (c .end-open .ensures)
 
 is-sound-requires : tie.Need-is-sound-requires
 is-sound-requires c κs = search needs
@@ -42,13 +32,13 @@ refused-requires-2 : tie.Need-refused-requires-2
 refused-requires-2 c κs = search needs
 
 returns-3 : tie.Need-returns-3
-returns-3 c = c .refused2 .ensures ∙ sym (L.finish-29 (c .before .before .before .before .before .before .before .before .args .stream) (L.sound-as (c .before .before .before .before .before .before .before .before .args .stream) (going (c .before .before .before .before .before)) _ (c .before .before .is-sound .ensures) ∙ not-true _ (c .before .if3 .taken)))
+returns-3 c = c .refused2 .ensures ∙ sym (finish-29 (c .before .before .before .before .before .before .before .before .args .stream) (L.sound-as (c .before .before .before .before .before .before .before .before .args .stream) (going (c .before .before .before .before .before)) _ (c .before .before .is-sound .ensures) ∙ not-true _ (c .before .if3 .taken)))
 
 no-bytes-requires : tie.Need-no-bytes-requires
 no-bytes-requires c κs = search needs
 
 returns-4 : tie.Need-returns-4
-returns-4 c = rw (c .no-bytes .ensures) (sym (L.finish-none (c .before .before .before .before .before .before .before .before .args .stream) (L.sound-as (c .before .before .before .before .before .before .before .before .args .stream) (going (c .before .before .before .before .before)) _ (c .before .before .is-sound .ensures) ∙ not-false _ (c .before .if3 .left)) (c .before .before .before .before .if2 .left)))
+returns-4 c = rw (c .no-bytes .ensures) (sym (finish-none (c .before .before .before .before .before .before .before .before .args .stream) (L.sound-as (c .before .before .before .before .before .before .before .before .args .stream) (going (c .before .before .before .before .before)) _ (c .before .before .is-sound .ensures) ∙ not-false _ (c .before .if3 .left)) (c .before .before .before .before .if2 .left)))
 
 pub finish-spec : {M : Type 1} → statement M
 finish-spec =
@@ -56,9 +46,7 @@ finish-spec =
     (tie.spec
     refused-requires
     returns
-    array-share-prefix-kept
-    slice-aggregate-end-line
-    end-line-requires
+    end-open-requires
     returns-2
     is-sound-requires
     refused-requires-2

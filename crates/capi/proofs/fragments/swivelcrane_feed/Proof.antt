@@ -1,5 +1,5 @@
 -- `capi::fragments::swivelcrane_feed` meets its contract: the lengths, the counts and flags, and then what the library answers. Assumes nothing.
-use mathlib.Core.Path.{_≡_, sym, _∙_, ap}
+use mathlib.Core.Path.{_≡_, refl, sym, _∙_, ap}
 use mathlib.Core.Bool.{Bool, true, false, _&&_}
 use Prim.Native.Nat.{_<_}
 use native.Mathlib.Omega.{arith}
@@ -10,9 +10,10 @@ use Rattle.rounding.proofs.Machine.{told}
 use Rattle.ranges.proofs.Ranges.{both}
 use Rattle.sheet_stream.specs.declared.Fed.{Fed}
 use Rattle.sheet_stream.specs.declared.Stream.{Stream}
-use Rattle.sheet_stream.specs.Fragments.{feedOf}
+use Rattle.sheet_stream.specs.Fragments.{feedOf, fedAt}
 use Rattle.sheet_stream.proofs.Laws.{within, fed-countable, fed-short}
 use Rattle.capi.specs.Fragments.{sizedState, sizedFeed, stateRange, streamFrom}
+use Rattle.line.specs.Lines.{lineEnd}
 use Rattle.capi.proofs.Streams.{Sized, sized-parts, countable, unsized, unranged, ranged, told-unsized, told-unranged, told-ranged}
 use borrow.Author.Needs.{needs}
 use Rattle.capi.proofs.fragments.swivelcrane_feed.Statement.{statement}
@@ -63,32 +64,16 @@ returns-2 c =
 good : (c : tie.Else2) → stateRange (c .before .before .before .before .before .before .before .before .args .numbers .now) ≡ true
 good c = sym (c .before .in-range .ensures) ∙ not-false _ (c .if2 .left)
 
-stream-from-requires : tie.Need-stream-from-requires
-stream-from-requires c κs = (parts (c .before .before .before .before .before) .state, parts (c .before .before .before .before .before) .line, good (c .before .before))
+line-end-requires : tie.Need-line-end-requires
+line-end-requires c κs = search needs
 
-feed-requires : tie.Need-feed-requires
-feed-requires c κs = search needs
+is-fed-requires : tie.Need-is-fed-requires
+is-fed-requires c κs = search needs
 
--- what the library answers
-answer : (c : tie.After-feed) → c .feed .result ≡ feedOf (streamFrom (c .before .before .before .before .before .before .before .before .before .before .before .before .args .numbers .now) (c .before .before .before .before .before .before .before .before .before .before .before .before .args .bytes .now)) (c .before .before .before .before .before .before .before .before .before .before .before .before .args .fragment .now)
-answer c = c .feed .ensures ∙ ap (λ (x : Stream). feedOf x (c .before .before .before .before .before .before .before .before .before .before .before .before .args .fragment .now)) (c .before .stream-from .ensures)
-
--- a slice has fewer bytes than an i64 counts
-short : (s : tie.Start) → length (s .args .fragment .now) < 9223372036854775808
-short s = omega (arith, s .good .1 .1 .0 .1)
-
-tell-requires : tie.Need-tell-requires
-tell-requires c κs =
-    let s = c .before .before .before .before .before .before .before .before .before .before .before .before .before .args in
-    (two-told (c .before .before .before .before .before .before .before .before), omega (arith, ap (λ (r : Fed). r .taken) (answer (c .before)), within (streamFrom (s .numbers .now) (s .bytes .now)) (s .fragment .now), short (c .before .before .before .before .before .before .before .before .before .before .before .before .before)))
-
-give-requires : tie.Need-give-requires
-give-requires c κs =
-    let s = c .before .before .before .before .before .before .before .before .before .before .before .before .before .before .before .before .before .before .args in
-    let p = parts (c .before .before .before .before .before .before .before .before .before .before .before .before .before) in
-    let x = streamFrom (s .numbers .now) (s .bytes .now) in
-    let k = countable (s .numbers .now) (s .bytes .now) (p .state) (good (c .before .before .before .before .before .before .before .before .before .before)) in
-    (p .state, good (c .before .before .before .before .before .before .before .before .before .before), p .line, p .room, rw (answer (c .before .before .before .before .before .before)) (fed-countable x (s .fragment .now) k), rw (answer (c .before .before .before .before .before .before)) (fed-short x (s .fragment .now) k))
+feed-open-requires : tie.Need-feed-open-requires
+feed-open-requires c κs =
+    let p = parts (c .before .before .before .before .before .before .before .before .before) in
+    (p .state, good (c .before .before .before .before .before .before), p .line, two-told (c .before .before .before .before .before .before .before .before .before), c .before .before .before .before .before .line-end .ensures, sym (c .before .before .before .before .is-fed .ensures) ∙ not-true _ (c .before .before .before .if3 .taken))
 
 same-length-2 : tie.Need-same-length-2
 same-length-2 c = search needs
@@ -99,17 +84,64 @@ same-length-3 c = search needs
 same-length-4 : tie.Need-same-length-4
 same-length-4 c = search needs
 
+returns-3 : tie.Need-returns-3
+returns-3 c =
+    let s = c .before .before .before .before .before .before .before .before .before .before .before .before .before .before .before .before .before .before .before .args in
+    let f : Stream → Fed = λ x. feedOf x (s .fragment .now) in
+    let o = c .before .before .before .before .feed-open .ensures in
+    rw (told (c .before .before .before .before .feed-open .ok))
+    (record {
+      state = ranged f (s .numbers .now) (s .bytes .now) (sized (c .before .before .before .before .before .before .before .before .before .before .before .before .before .before)) (good (c .before .before .before .before .before .before .before .before .before .before .before)) refl (o .state (s .out .now));
+      tells = told-ranged f (s .numbers .now) (s .bytes .now) (s .told .now) (sized (c .before .before .before .before .before .before .before .before .before .before .before .before .before .before)) (good (c .before .before .before .before .before .before .before .before .before .before .before)) refl (o .tells);
+    })
+
+stream-from-requires : tie.Need-stream-from-requires
+stream-from-requires c κs = let p = parts (c .before .before .before .before .before .before .before .before) in (p .state, p .line, good (c .before .before .before .before .before))
+
+feed-requires : tie.Need-feed-requires
+feed-requires c κs = search needs
+
+-- what the library answers
+answer : (c : tie.After-feed) → c .feed .result ≡ feedOf (streamFrom (c .before .before .before .before .before .before .before .before .before .before .before .before .before .before .before .args .numbers .now) (c .before .before .before .before .before .before .before .before .before .before .before .before .before .before .before .args .bytes .now)) (c .before .before .before .before .before .before .before .before .before .before .before .before .before .before .before .args .fragment .now)
+answer c = c .feed .ensures ∙ ap (λ (x : Stream). feedOf x (c .before .before .before .before .before .before .before .before .before .before .before .before .before .before .before .args .fragment .now)) (c .before .stream-from .ensures)
+
+-- a slice has fewer bytes than an i64 counts
+short : (s : tie.Start) → length (s .args .fragment .now) < 9223372036854775808
+short s = omega (arith, s .good .1 .1 .0 .1)
+
+tell-requires : tie.Need-tell-requires
+tell-requires c κs =
+    let s = c .before .before .before .before .before .before .before .before .before .before .before .before .before .before .before .before in
+    (two-told (c .before .before .before .before .before .before .before .before .before .before .before), omega (arith, ap (λ (r : Fed). r .taken) (answer (c .before)), within (streamFrom (s .args .numbers .now) (s .args .bytes .now)) (s .args .fragment .now), short s))
+
+give-requires : tie.Need-give-requires
+give-requires c κs =
+    let s = c .before .before .before .before .before .before .before .before .before .before .before .before .before .before .before .before .before .before .before .before .before .args in
+    let p = parts (c .before .before .before .before .before .before .before .before .before .before .before .before .before .before .before .before) in
+    let x = streamFrom (s .numbers .now) (s .bytes .now) in
+    let k = countable (s .numbers .now) (s .bytes .now) (p .state) (good (c .before .before .before .before .before .before .before .before .before .before .before .before .before)) in
+    (p .state, good (c .before .before .before .before .before .before .before .before .before .before .before .before .before), p .line, p .room, rw (answer (c .before .before .before .before .before .before)) (fed-countable x (s .fragment .now) k), rw (answer (c .before .before .before .before .before .before)) (fed-short x (s .fragment .now) k))
+
 same-length-5 : tie.Need-same-length-5
 same-length-5 c = search needs
 
-returns-3 : tie.Need-returns-3
-returns-3 c =
-    let s = c .before .before .before .before .before .before .before .before .before .before .before .before .before .before .before .before .before .before .before .before .before .before .before .before .args in
+same-length-6 : tie.Need-same-length-6
+same-length-6 c = search needs
+
+same-length-7 : tie.Need-same-length-7
+same-length-7 c = search needs
+
+same-length-8 : tie.Need-same-length-8
+same-length-8 c = search needs
+
+returns-4 : tie.Need-returns-4
+returns-4 c =
+    let s = c .before .before .before .before .before .before .before .before .before .before .before .before .before .before .before .before .before .before .before .before .before .before .before .before .before .before .before .args in
     let f : Stream → Fed = λ x. feedOf x (s .fragment .now) in
     rw (told (c .before .before .before .before .before .give .ok))
     (record {
-      state = ranged f (s .numbers .now) (s .bytes .now) (sized (c .before .before .before .before .before .before .before .before .before .before .before .before .before .before .before .before .before .before .before)) (good (c .before .before .before .before .before .before .before .before .before .before .before .before .before .before .before .before)) (answer (c .before .before .before .before .before .before .before .before .before .before .before .before)) (c .before .before .before .before .before .give .ensures);
-      tells = told-ranged f (s .numbers .now) (s .bytes .now) (s .told .now) (sized (c .before .before .before .before .before .before .before .before .before .before .before .before .before .before .before .before .before .before .before)) (good (c .before .before .before .before .before .before .before .before .before .before .before .before .before .before .before .before)) (answer (c .before .before .before .before .before .before .before .before .before .before .before .before)) (c .before .before .before .before .before .before .before .before .before .before .tell .ensures);
+      state = ranged f (s .numbers .now) (s .bytes .now) (sized (c .before .before .before .before .before .before .before .before .before .before .before .before .before .before .before .before .before .before .before .before .before .before)) (good (c .before .before .before .before .before .before .before .before .before .before .before .before .before .before .before .before .before .before .before)) (answer (c .before .before .before .before .before .before .before .before .before .before .before .before)) (c .before .before .before .before .before .give .ensures);
+      tells = told-ranged f (s .numbers .now) (s .bytes .now) (s .told .now) (sized (c .before .before .before .before .before .before .before .before .before .before .before .before .before .before .before .before .before .before .before .before .before .before)) (good (c .before .before .before .before .before .before .before .before .before .before .before .before .before .before .before .before .before .before .before)) (answer (c .before .before .before .before .before .before .before .before .before .before .before .before)) (c .before .before .before .before .before .before .before .before .before .before .tell .ensures);
     })
 
 pub swivelcrane-feed-spec : {M : Type 1} → statement M
@@ -122,12 +154,19 @@ swivelcrane-feed-spec =
     minus-requires
     same-length
     returns-2
+    line-end-requires
+    is-fed-requires
+    feed-open-requires
+    same-length-2
+    same-length-3
+    same-length-4
+    returns-3
     stream-from-requires
     feed-requires
     tell-requires
     give-requires
-    same-length-2
-    same-length-3
-    same-length-4
     same-length-5
-    returns-3)
+    same-length-6
+    same-length-7
+    same-length-8
+    returns-4)

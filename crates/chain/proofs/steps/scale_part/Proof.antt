@@ -5,12 +5,12 @@ use lib.IntN.{ℤ, pos, natAbs, _+ℤ_, _*ℤ_}
 use mir.Syntax.{w64}
 use mir.Val.{SFits}
 use native.Mathlib.Omega.{arith}
-use Rattle.rounding.proofs.Zn.{v, k, _⊕_, _⊗_, eq, mul-le, add-le}
+use Rattle.rounding.proofs.Zn.{mul-le, add-le}
 use Rattle.rounding.proofs.Machine.{rd, fits, rd+, rd*, fit+, fit*}
 use lib.Dec.{lit<}
-use Rattle.rounding.specs.Nearest.{toEven, rounded}
+use Rattle.rounding.specs.Nearest.{toEven}
 use Rattle.rounding.specs.Quotient.{mixed}
-use Rattle.chain.specs.Parts.{stepRound}
+use Rattle.chain.proofs.Rounding.{step-alone}
 use Rattle.chain.proofs.steps.scale_part.Statement.{statement}
 use Rattle.chain.proofs.steps.scale_part.Tie as tie
 
@@ -27,9 +27,6 @@ module _ (s : tie.Start) where
   g : SFits w64 (s .args .k +ℤ s .args .slope *ℤ s .args .z)
   g = fits (1971000000000000000 + 1202000 * 650000000000) (add-le (s .args .k) (s .args .slope *ℤ s .args .z) _ _ (s .pre .0) product) (lit< tt)
 
-from-zero : (n : ℤ) → pos 0 *ℤ pos 100000000000000 +ℤ n ≡ n
-from-zero n = eq (k 0 ⊗ k 100000000000000 ⊕ v n) (v n) (omega arith)
-
 mul-over14 : tie.Need-mul-over14
 mul-over14 c = fit* (rd (c .fits .slope)) (rd (c .fits .z)) (f c)
 
@@ -40,12 +37,11 @@ over14-requires : tie.Need-over14-requires
 over14-requires c κs = rw (rd+ (rd (c .fits .k)) (rd* (rd (c .fits .slope)) (rd (c .fits .z)) (f c)) (g c)) (most c)
 
 returns : tie.Need-returns
-unfolding stepRound
 returns c =
     let s = c .before in
     rd (record { sfits = c .over14 .ok }) ∙ c .over14 .ensures
     ∙ ap (λ (n : ℤ). mixed toEven (pos 0) n (pos 100000000000000)) (rd+ (rd (s .fits .k)) (rd* (rd (s .fits .slope)) (rd (s .fits .z)) (f s)) (g s))
-    ∙ ap (λ (n : ℤ). rounded toEven n 100000000000000) (from-zero (s .args .k +ℤ s .args .slope *ℤ s .args .z))
+    ∙ step-alone 100000000000000 (s .args .k +ℤ s .args .slope *ℤ s .args .z)
 
 pub scale-part-spec : {M : Type 1} → statement M
 scale-part-spec = tie.close (tie.spec mul-over14 add-over14 over14-requires returns)

@@ -22,15 +22,15 @@ long s = sym (length-map (s .args .chain .steps) _) ∙ s .good .0 .1 .1 .0 .1 .
 inside : (s : tie.Start) → s .args .chain .length ≤ length (s .args .chain .steps)
 inside s = omega (arith, long s, s .pre .0)
 
-begins-step-requires : tie.Need-begins-step-requires
-begins-step-requires c κs = search needs
+begins-with-requires : tie.Need-begins-with-requires
+begins-with-requires c κs = search needs
 
 returns : tie.Need-returns
-returns c = after-other (c .before .before .before .args .chain) (inside (c .before .before .before)) _ _ _ (sym (c .before .begins-step .ensures) ∙ not-true _ (c .if1 .taken))
+returns c = after-other (c .before .before .before .args .chain) (inside (c .before .before .before)) _ _ _ (sym (c .before .begins-with .ensures) ∙ not-true _ (c .if1 .taken))
 
 -- the line begins with S
 begins : (c : tie.Else1) → eqb (getD (c .before .before .before .args .text .now) 0 0) letterS ≡ true
-begins c = sym (c .before .begins-step .ensures) ∙ not-false _ (c .if1 .left)
+begins c = sym (c .before .begins-with .ensures) ∙ not-false _ (c .if1 .left)
 
 enum-told : tie.Need-enum-told
 enum-told c = search needs
@@ -89,7 +89,7 @@ pub chain-after-spec : {M : Type 1} → statement M
 chain-after-spec =
     tie.close
     (tie.spec
-    begins-step-requires
+    begins-with-requires
     returns
     enum-told
     read-step-requires

@@ -202,7 +202,11 @@ fn judge_point(chain: Chain, line: u64, refused: bool, text: &[u8]) -> Verdict
     ensures { λ r. ⌜ Judged chain line refused (readPoint (chain .profile) (now (text .entry))) r ⌝ }
 {
     match line::read_point(chain.profile, text) {
-        PointLine::Malformed(fault) => judged(chain, Reply::Refused(line, fault.number, fault.place), false),
+        PointLine::Malformed(fault) => judged(
+            chain,
+            Reply::Refused(line, fault.number, fault.place),
+            false,
+        ),
         PointLine::Refused(number) => judged(chain, Reply::Refused(line, number, 0), true),
         PointLine::Point(point) => judge_conversion(chain, line, refused, point),
     }

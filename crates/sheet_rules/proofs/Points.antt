@@ -43,20 +43,20 @@ module _ (c : Chain) (n : ℕ) (refused : Bool) {v : Verdict} {p : PointLine} wh
   judged-refused k e q = rw (e, q) (record { good = refl; closed = refl; reply = λ _ _. refl })
 
 -- what a good chain answers is what its steps answer
-module _ (c : Chain) (n : ℕ) (refused : Bool) (p : Point) {v : Verdict} where
-  pub judged-earlier : refused ≡ true → v ≡ record { good = eqb (first (chainTests c)) 0; closes = true; reply = reply.Refused n refusal.earlier 0 } → Judged c n refused (point-line.Point p) v
-  judged-earlier e q = rw (e, q) (record { good = refl; closed = refl; reply = λ _ _. refl })
+module _ (c : Chain) (n : ℕ) (refused : Bool) (p : Point) {v : Verdict} {l : PointLine} (is : l ≡ point-line.Point p) where
+  pub judged-earlier : refused ≡ true → v ≡ record { good = eqb (first (chainTests c)) 0; closes = true; reply = reply.Refused n refusal.earlier 0 } → Judged c n refused l v
+  judged-earlier e q = rw (is, e, q) (record { good = refl; closed = refl; reply = λ _ _. refl })
 
   module _ (free : refused ≡ false) where
-    pub judged-unconverted : (k : ℕ) → forwardOf c p ≡ answer.Refused k → v ≡ record { good = eqb (first (chainTests c)) 0; closes = true; reply = reply.Refused n k 0 } → Judged c n refused (point-line.Point p) v
-    judged-unconverted k f q = rw (free, q) (record { good = refl; closed = refl; reply = λ g d. let e = by-steps-forward c (good-chain c g) p ∙ f in rw e })
+    pub judged-unconverted : (k : ℕ) → forwardOf c p ≡ answer.Refused k → v ≡ record { good = eqb (first (chainTests c)) 0; closes = true; reply = reply.Refused n k 0 } → Judged c n refused l v
+    judged-unconverted k f q = rw (is, free, q) (record { good = refl; closed = refl; reply = λ g d. let e = by-steps-forward c (good-chain c g) p ∙ f in rw e })
 
     -- a chain that converts a point is good
-    pub judged-converted : (o : Point) → forwardOf c p ≡ answer.Converted o → v ≡ record { good = true; closes = true; reply = reply.Point o } → Judged c n refused (point-line.Point p) v
+    pub judged-converted : (o : Point) → forwardOf c p ≡ answer.Converted o → v ≡ record { good = true; closes = true; reply = reply.Point o } → Judged c n refused l v
     judged-converted o f q =
         let z = converted-good c p o f in
         let e = by-steps-forward c z p ∙ f in
-        rw (free, q) (record { good = sym (eq-eqb (first (chainTests c)) 0 z); closed = refl; reply = λ _ d. rw e })
+        rw (is, free, q) (record { good = sym (eq-eqb (first (chainTests c)) 0 z); closed = refl; reply = λ _ d. rw e })
 
 module _ (st : Standing) (l : List ℕ) (b : eqb (getD l 0 0) letterP ≡ true) where
   no-step : eqb (getD l 0 0) letterS ≡ false

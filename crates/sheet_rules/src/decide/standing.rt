@@ -11,8 +11,7 @@ ghost use Rattle.chain.specs.Faults.{chainTests, stepsOf};
 ghost use Rattle.chain.specs.Prepared as prepared;
 ghost use Rattle.chain.specs.declared.Step.{Step};
 ghost use Rattle.line.specs.Bytes.{letterS, letterP};
-ghost use Rattle.line.specs.Readers.{readPoint, readStep};
-ghost use Rattle.line.specs.declared.PointLine.the-variants as point-line;
+ghost use Rattle.line.specs.Readers.{readStep};
 ghost use Rattle.line.specs.declared.StepLine.the-variants as step-line;
 ghost use Rattle.sheet_rules.specs.declared.Reply.the-variants as replies;
 ghost use Rattle.sheet_rules.specs.Sheet.{Sheet, replyOf, nextOf};
@@ -29,7 +28,6 @@ use crate::decide::decide;
 use crate::decide::malformed;
 use chain::Answer;
 use chain::Chain;
-use chain::Point;
 use chain::Prepared;
 use chain::Step;
 use line::PointLine;
@@ -180,45 +178,41 @@ fn judged(chain: Chain, reply: Reply, closes: bool) -> Verdict
     }
 }
 
-// A point whose line is good by itself, on the line of this number. One point doesn't pay for preparing the chain; and a chain that converts a point needs no other test.
-fn judge_conversion(chain: Chain, line: u64, refused: bool, point: Point) -> Verdict
-    ensures { λ r. ⌜ Judged chain line refused (point-line.Point point) r ⌝ }
+// A line of this number that begins with P and reads so. One point doesn't pay for preparing the chain; and a chain that converts a point needs no other test.
+fn judge(chain: Chain, line: u64, refused: bool, read: PointLine) -> Verdict
+    ensures { λ r. ⌜ Judged chain line refused read r ⌝ }
 {
-    if refused {
-        return judged(chain, Reply::Refused(line, refusal::EARLIER, 0), true);
-    }
-    match chain::forward(chain, point) {
-        Answer::Refused(number) => judged(chain, Reply::Refused(line, number, 0), true),
-        Answer::Converted(converted) => Verdict {
-            good: true,
-            closes: true,
-            reply: Reply::Point(converted),
-        },
-    }
-}
-
-// A line that begins with P.
-fn judge_point(chain: Chain, line: u64, refused: bool, text: &[u8]) -> Verdict
-    ensures { λ r. ⌜ Judged chain line refused (readPoint (chain .profile) (now (text .entry))) r ⌝ }
-{
-    match line::read_point(chain.profile, text) {
+    match read {
         PointLine::Malformed(fault) => judged(
             chain,
             Reply::Refused(line, fault.number, fault.place),
             false,
         ),
         PointLine::Refused(number) => judged(chain, Reply::Refused(line, number, 0), true),
-        PointLine::Point(point) => judge_conversion(chain, line, refused, point),
+        PointLine::Point(point) => {
+            if refused {
+                return judged(chain, Reply::Refused(line, refusal::EARLIER, 0), true);
+            }
+            match chain::forward(chain, point) {
+                Answer::Refused(number) => judged(chain, Reply::Refused(line, number, 0), true),
+                Answer::Converted(converted) => Verdict {
+                    good: true,
+                    closes: true,
+                    reply: Reply::Point(converted),
+                },
+            }
+        }
     }
 }
 
-// The same within the limit: the sheet after it has the chain that it had.
+// A line within the limit that begins with P: the sheet after it has the chain that it had.
 fn answer_point(standing: Standing, text: &[u8]) -> Answered
     requires { ⌜ (standing .line ≤ 1000000) × (counted (standing .line) (standing .chain .length) ≡ true) × (eqb (getD (now text) 0 0) letterP ≡ true) ⌝ }
     ensures { λ r. ⌜ r ≡ answeredTo standing (now (text .entry)) ⌝ }
 {
     let chain = standing.chain;
-    let verdict = judge_point(chain, standing.line, standing.refused, text);
+    let read = line::read_point(chain.profile, text);
+    let verdict = judge(chain, standing.line, standing.refused, read);
     if !verdict.good {
         return Answered {
             standing: standing,
@@ -249,18 +243,18 @@ fn answer_other(standing: Standing, text: &[u8]) -> Answered
 }
 
 // Whether the line to come is within the limit, with no more steps before it than lines.
-fn is_within(standing: Standing) -> bool
-    ensures { λ r. ⌜ r ≡ counted (standing .line) (standing .chain .length) && leb (standing .line) 1000000 ⌝ }
+fn is_within(line: u64, steps: usize) -> bool
+    ensures { λ r. ⌜ r ≡ counted line steps && leb line 1000000 ⌝ }
 {
-    let chain = standing.chain;
-    is_counted(standing.line, chain.length) & (standing.line <= MOST_LINES)
+    is_counted(line, steps) & (line <= MOST_LINES)
 }
 
 // The line after those that led here, of any bytes: refusal LIMIT past the 1,000,000th, which is not read and moves nothing, else as the sheet's rules answer it.
 pub fn answer_line(standing: Standing, text: &[u8]) -> Answered
     ensures { λ r. ⌜ r ≡ answeredTo standing (now (text .entry)) ⌝ }
 {
-    if begins_with(text, b'P') & is_within(standing) {
+    let chain = standing.chain;
+    if begins_with(text, b'P') & is_within(standing.line, chain.length) {
         return answer_point(standing, text);
     }
     if !is_sound(standing) {

@@ -68,6 +68,14 @@ fn bytes_from(bytes: &[u8]) -> [u8; 200]
     kept
 }
 
+// How many steps the state's chain has.
+fn steps_in(n: &[i64]) -> usize
+    requires { ⌜ (length (now n) ≡ 111) × (stateRange (now n) ≡ true) ⌝ }
+    ensures { λ r. ⌜ r ≡ natAbs (number (now (n .entry)) 6) ⌝ }
+{
+    count(n[6])
+}
+
 // The chain of the steps within the state's count.
 fn chain_in(n: &[i64]) -> Chain
     requires { ⌜ (length (now n) ≡ 111) × (stateRange (now n) ≡ true) ⌝ }
@@ -202,25 +210,28 @@ fn row_of(step: Step) -> [i64; 13]
 
 // A step that was taken in, past those that were there.
 fn put_new_step(n: &mut [i64], chain: Chain)
-    requires { ⌜ (length (now n) ≡ 111) × (stateRange (now n) ≡ true) × (chain .length ≤ 8) ⌝ }
+    requires { ⌜ (length (now n) ≡ 111) × (stateRange (now n) ≡ true) × (chain .length ≤ 8) × (natAbs (number (now n) 6) < chain .length) ⌝ }
     ensures { λ _. ⌜ now (n .exit) ≡ withNewStep (now (n .entry)) chain ⌝ }
 {
     let steps = count(n[6]);
-    if steps < chain.length {
-        let step = chain.steps[steps];
-        let row = row_of(step);
-        copy(&row, n, HEAD + STEP * steps);
-    }
+    let step = chain.steps[steps];
+    let row = row_of(step);
+    copy(&row, n, HEAD + STEP * steps);
 }
 
-// The state's numbers after a call.
+// The state's numbers after a call. Only a call that took a step in has one to put.
 pub(crate) fn put_numbers(n: &mut [i64], stream: Stream)
     requires { ⌜ (length (now n) ≡ 111) × (stateRange (now n) ≡ true) × Countable stream ⌝ }
     ensures { λ _. ⌜ now (n .exit) ≡ numbersWith (now (n .entry)) stream ⌝ }
 {
     let head = head_of(stream);
     let standing = stream.standing;
-    put_new_step(n, standing.chain);
+    let chain = standing.chain;
+    if steps_in(n) < chain.length {
+        put_new_step(n, chain);
+        copy(&head, n, 0);
+        return;
+    }
     copy(&head, n, 0);
 }
 

@@ -28,10 +28,13 @@ fn has_kind(profile: i64, kind: Kind) -> bool
     }
 }
 
-// Whether an edition has a step: its kind, and both its datums.
+// Whether an edition has a step: its kind, and both its datums. Only one edition lacks any, so nothing is looked at under another.
 pub(crate) fn has_step(profile: i64, step: Step) -> bool
     ensures { λ r. ⌜ r ≡ hasStep profile step ⌝ }
 {
+    if !equal(WITHOUT_TIME, profile) {
+        return true;
+    }
     let kind = step.kind;
     let before = step.before;
     let after = step.after;

@@ -11,10 +11,13 @@ use Rattle.line.specs.declared.Feeds.{Feeds}
 use Rattle.line.specs.BareLines.{Fed}
 use Rattle.line.proofs.Lines.{Piece, piece}
 use Rattle.line.proofs.BareLines.{row-inside}
-use Rattle.line.proofs.Texts.{kept-length}
 use Rattle.listing.specs.Fold.{Rules, longestInput, printed}
 use Rattle.listing.proofs.Fold.{Left, left-all, left-turn, left-none, printed-lines, Bare, afterFeeds, feeds-counted, left-feeds}
 use Rattle.listing.proofs.Room.{Roomy}
+
+-- what is written leaves the array as long as it was
+kept-length : {l : List ℕ} {at : ℕ} {vs m : List ℕ} {r : ℕ} → Wrote l at vs m r → length m ≡ length l
+kept-length {l} {at} {vs} w = ap length (w .list) ∙ length-sets l at vs
 
 -- the loop stands at byte `from` of the input and byte `at` of the array: the code holds some state of the rules, whose number counts the lines, and once what
 -- it leaves is written the whole is
@@ -48,7 +51,7 @@ module _ {S R : Type 0} (r : Rules S R) (number : S → ℕ) (fresh : S) (one : 
         left = left-turn r fresh input out₀ from e (k .state) out out' at at' q h (rw (← x .0) w) (k .left);
         inside = l .inside;
         counted = omega (arith, l .some, k .counted, roomy .counts (k .state) line);
-        size = ap length (w .list) ∙ length-sets out at (r .text reply) ∙ k .size;
+        size = kept-length w ∙ k .size;
       }
 
   -- past bare line feeds that were answered at once, the first under the number n that the code holds

@@ -2,7 +2,7 @@
 use mathlib.Core.Path.{_≡_}
 use mathlib.Core.Bool.{Bool, true, false, _&&_}
 use mathlib.Core.List.{List, [], _∷_, _++_}
-use Prim.Native.Nat.{ℕ, suc, _+_}
+use Prim.Native.Nat.{ℕ, suc}
 use lib.Dec.{eqb, leb, ltb}
 use lib.IntN.{ℤ}
 use lib.ListN.{length, drop}
@@ -12,6 +12,7 @@ use Rattle.chain.specs.declared.Step.{Step}
 use Rattle.chain.specs.declared.Chain.{Chain}
 use Rattle.chain.specs.Faults.{latest, chainTests, stepsOf}
 use Rattle.chain.specs.Prepared as prepared
+use Rattle.line.specs.declared.PointLine.{PointLine}
 use Rattle.line.specs.declared.StepLine.{StepLine}
 use Rattle.line.specs.declared.StepLine.the-variants as step-line
 use Rattle.sheet_rules.specs.declared.Standing.{Standing}
@@ -20,7 +21,8 @@ use Rattle.sheet_rules.specs.declared.Response.{Response}
 use Rattle.sheet_rules.specs.declared.Response.the-variants as response
 use Rattle.sheet_rules.specs.declared.Reply.{Reply}
 use Rattle.sheet_rules.specs.declared.Reply.the-variants as reply
-use Rattle.sheet_rules.specs.Sheet.{Sheet, replyOf, nextOf}
+use Rattle.sheet_rules.specs.declared.Verdict.{Verdict}
+use Rattle.sheet_rules.specs.Sheet.{Sheet, pointReply, closes, replyOf, nextOf}
 
 -- at most so many lines of a sheet are answered by its rules
 abbrev pub mostLines : ℕ
@@ -66,12 +68,8 @@ answered s r = record { standing = s; response = r }
 unfoldable pub lineAnswered : Standing → List ℕ → Answered
 lineAnswered s l = answered (afterLine s l) (response.Replied (replyTo s l))
 
--- where no sheet can stand, nothing is answered
-abbrev pub soundly : Standing → Answered → Answered
-soundly s a = pick (soundStanding s) a (answered s response.Unsound)
-
 unfoldable pub answeredTo : Standing → List ℕ → Answered
-answeredTo s l = soundly s (lineAnswered s l)
+answeredTo s l = pick (soundStanding s) (lineAnswered s l) (answered s response.Unsound)
 
 -- ---- how the code gets there
 -- a chain prepared step by step: whether it is good, and the numbers that hold it
@@ -79,9 +77,11 @@ pub record Prepares (c : Chain) (numbers : List ℤ) (good : Bool) : Type 0 wher
   pub told : good ≡ eqb (first (chainTests c)) 0
   pub holds : good ≡ true → prepared.Holds (c .profile) numbers (stepsOf c)
 
--- a line that leaves the chain as it was
-abbrev pub passedBy : Standing → Reply → Bool → Answered
-passedBy s r closed = answered (record { line = s .line + 1; chain = s .chain; refused = s .refused; closed = closed }) (response.Replied r)
+-- what is said of a point line, of which the chain's own test is one part
+pub record Judged (c : Chain) (line : ℕ) (refused : Bool) (p : PointLine) (v : Verdict) : Type 0 where
+  pub good : v .good ≡ eqb (first (chainTests c)) 0
+  pub closed : v .closes ≡ closes p
+  pub reply : v .good ≡ true → (closed : Bool) → v .reply ≡ pointReply (record { line = line; profile = c .profile; steps = stepsOf c; refused = refused; closed = closed }) p
 
 -- the steps after a line: one that begins with S and prints nothing is an accepted step
 abbrev pub stepsAfter : List Step → Bool → Reply → StepLine → List Step

@@ -53,6 +53,13 @@ pub enum Response {
     Unsound,
 }
 
+// What is said of a point line: whether the chain is good, and where it is, the reply, and whether the line closes the chain.
+struct Verdict {
+    good: bool,
+    closes: bool,
+    reply: Reply,
+}
+
 // What a line is answered, and where the sheet stands after it.
 pub struct Answered {
     pub standing: Standing,

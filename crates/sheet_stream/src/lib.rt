@@ -1,11 +1,10 @@
 // A sheet that arrives in fragments of whatever length. The caller keeps the state; each call takes bytes up to and with the first line feed and answers the line
 // that it ends, so that there is never more than one answer to a call, and room is asked for one line.
 ghost use mathlib.Core.Path.{_≡_};
-ghost use mathlib.Core.Bool.{false};
 ghost use Prim.Native.Nat.{_+_, _-_, _<_, _≤_, min};
 ghost use lib.Seq.{sets};
 ghost use lib.ListN.{length, take, replicate};
-ghost use Rattle.sheet_stream.specs.Fragments.{empty, noStep, fresh as Fragments·fresh, unended, closing, unsound, stateOf, endsWith, fedAt, feedOf, finishOf};
+ghost use Rattle.sheet_stream.specs.Fragments.{empty, noStep, fresh as Fragments·fresh, unended, unsound, endsWith, fedAt, feedOf, finishOf};
 use chain::Chain;
 use chain::Kind;
 use chain::Realization;
@@ -186,19 +185,6 @@ pub fn keep_bytes(room: &mut [u8], count: usize, bytes: &[u8]) -> usize
     count + n
 }
 
-// The open line ends with its line feed.
-fn end_fed(stream: Stream, kept: [u8; 200], count: usize, taken: usize) -> Fed
-    requires { ⌜ count ≤ 200 ⌝ }
-    ensures { λ r. ⌜ r ≡ endsWith stream (closing (stateOf (stream .standing) count kept false)) taken false ⌝ }
-{
-    if count < ROOM {
-        let mut line = kept;
-        line[count] = LINE_FEED;
-        return end_line(stream, &line[..count + 1], taken, false);
-    }
-    end_open(stream, kept, count, taken, false)
-}
-
 // Takes bytes of a fragment up to and with its first line feed, or all of it, and answers the line that it ends. Refusal: STATE, which takes and changes nothing.
 pub fn feed(stream: Stream, fragment: &[u8]) -> Fed
     ensures { λ r. ⌜ r ≡ feedOf stream (now (fragment .entry)) ⌝ }
@@ -212,7 +198,11 @@ pub fn feed(stream: Stream, fragment: &[u8]) -> Fed
     if is_fed(fragment, end) {
         let last = end - 1;
         let n = keep_bytes(&mut kept, count, &fragment[..last]);
-        return end_fed(stream, kept, n, end);
+        if n < ROOM {
+            kept[n] = LINE_FEED;
+            return end_line(stream, &kept[..n + 1], end, false);
+        }
+        return end_open(stream, kept, n, end, false);
     }
     let standing = stream.standing;
     if !sheet_rules::is_sound(standing) {

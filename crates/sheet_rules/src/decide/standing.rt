@@ -12,23 +12,22 @@ ghost use Rattle.chain.specs.Prepared as prepared;
 ghost use Rattle.chain.specs.declared.Step.{Step};
 ghost use Rattle.line.specs.Bytes.{letterS, letterP};
 ghost use Rattle.line.specs.Readers.{readStep};
-ghost use Rattle.line.specs.declared.PointLine.the-variants as point-line;
 ghost use Rattle.line.specs.declared.StepLine.the-variants as step-line;
 ghost use Rattle.sheet_rules.specs.declared.Reply.the-variants as replies;
-ghost use Rattle.sheet_rules.specs.Sheet.{Sheet, pointReply, replyOf, nextOf};
+ghost use Rattle.sheet_rules.specs.Sheet.{Sheet, replyOf, nextOf};
 ghost use Rattle.sheet_rules.specs.State.{Holds, Gave};
-ghost use Rattle.sheet_rules.specs.OneLine.{said, counted, chainWith, soundStanding, stepsAfter, Prepares, passedBy, soundly, answeredTo, lineAnswered};
+ghost use Rattle.sheet_rules.specs.OneLine.{said, counted, chainWith, soundStanding, stepsAfter, Prepares, Judged, answeredTo, lineAnswered};
 use crate::Answered;
 use crate::Decided;
 use crate::Reply;
 use crate::Response;
 use crate::Standing;
 use crate::State;
+use crate::Verdict;
 use crate::decide::decide;
 use crate::decide::malformed;
 use chain::Answer;
 use chain::Chain;
-use chain::Point;
 use chain::Prepared;
 use chain::Step;
 use line::PointLine;
@@ -167,78 +166,68 @@ fn answer_within(standing: Standing, numbers: &mut Prepared, text: &[u8]) -> Ans
     }
 }
 
-// A line with this reply that leaves the chain as it was, which is good: the sheet after it, which the line may have closed.
-fn replied(standing: Standing, reply: Reply, closed: bool) -> Answered
-    requires { ⌜ standing .line ≤ 1000000 ⌝ }
-    ensures { λ r. ⌜ r ≡ passedBy standing reply closed ⌝ }
+// What is said of a point line with this reply once the chain is tested.
+fn judged(chain: Chain, reply: Reply, closes: bool) -> Verdict
+    ensures { λ r. ⌜ r ≡ record { good = eqb (first (chainTests chain)) 0; closes = closes; reply = reply } ⌝ }
 {
-    let chain = standing.chain;
-    Answered {
-        standing: Standing {
-            line: standing.line + 1,
-            chain: chain,
-            refused: standing.refused,
-            closed: closed,
-        },
-        response: Response::Replied(reply),
+    let fault = chain::chain_fault(chain);
+    Verdict {
+        good: fault == 0,
+        closes: closes,
+        reply: reply,
     }
 }
 
-// The same of a chain that has yet to be tested.
-fn replied_if_sound(standing: Standing, reply: Reply, closed: bool) -> Answered
-    requires { ⌜ standing .line ≤ 1000000 ⌝ }
-    ensures { λ r. ⌜ r ≡ soundly standing (passedBy standing reply closed) ⌝ }
+// A line of this number that begins with P and reads so. One point doesn't pay for preparing the chain; and a chain that converts a point needs no other test.
+fn judge(chain: Chain, line: u64, refused: bool, read: PointLine) -> Verdict
+    ensures { λ r. ⌜ Judged chain line refused read r ⌝ }
 {
-    if is_sound(standing) {
-        return replied(standing, reply, closed);
-    }
-    Answered {
-        standing: standing,
-        response: Response::Unsound,
-    }
-}
-
-// A point whose line is good by itself. One point doesn't pay for preparing the chain; and a chain that converts a point needs no other test.
-fn convert_by_steps(standing: Standing, point: Point) -> Answered
-    requires { ⌜ (standing .line ≤ 1000000) × (counted (standing .line) (standing .chain .length) ≡ true) ⌝ }
-    ensures { λ r. ⌜ r ≡ soundly standing (passedBy standing (pointReply (said standing) (point-line.Point point)) true) ⌝ }
-{
-    if standing.refused {
-        return replied_if_sound(
-            standing,
-            Reply::Refused(standing.line, refusal::EARLIER, 0),
-            true,
-        );
-    }
-    let chain = standing.chain;
-    match chain::forward(chain, point) {
-        Answer::Refused(number) => replied_if_sound(
-            standing,
-            Reply::Refused(standing.line, number, 0),
-            true,
+    match read {
+        PointLine::Malformed(fault) => judged(
+            chain,
+            Reply::Refused(line, fault.number, fault.place),
+            false,
         ),
-        Answer::Converted(converted) => replied(standing, Reply::Point(converted), true),
+        PointLine::Refused(number) => judged(chain, Reply::Refused(line, number, 0), true),
+        PointLine::Point(point) => {
+            if refused {
+                return judged(chain, Reply::Refused(line, refusal::EARLIER, 0), true);
+            }
+            match chain::forward(chain, point) {
+                Answer::Refused(number) => judged(chain, Reply::Refused(line, number, 0), true),
+                Answer::Converted(converted) => Verdict {
+                    good: true,
+                    closes: true,
+                    reply: Reply::Point(converted),
+                },
+            }
+        }
     }
 }
 
-// A line within the limit that begins with P.
+// A line within the limit that begins with P: the sheet after it has the chain that it had.
 fn answer_point(standing: Standing, text: &[u8]) -> Answered
     requires { ⌜ (standing .line ≤ 1000000) × (counted (standing .line) (standing .chain .length) ≡ true) × (eqb (getD (now text) 0 0) letterP ≡ true) ⌝ }
     ensures { λ r. ⌜ r ≡ answeredTo standing (now (text .entry)) ⌝ }
 {
     let chain = standing.chain;
-    match line::read_point(chain.profile, text) {
-        PointLine::Malformed(fault) => replied_if_sound(
-            standing,
-            Reply::Refused(standing.line, fault.number, fault.place),
-            standing.closed,
-        ),
-        PointLine::Refused(number) => replied_if_sound(
-            standing,
-            Reply::Refused(standing.line, number, 0),
-            true,
-        ),
-        PointLine::Point(point) => convert_by_steps(standing, point),
+    let read = line::read_point(chain.profile, text);
+    let verdict = judge(chain, standing.line, standing.refused, read);
+    if !verdict.good {
+        return Answered {
+            standing: standing,
+            response: Response::Unsound,
+        };
+    }
+    let reply = verdict.reply;
+    Answered {
+        standing: Standing {
+            line: standing.line + 1,
+            chain: chain,
+            refused: standing.refused,
+            closed: standing.closed | verdict.closes,
+        },
+        response: Response::Replied(reply),
     }
 }
 
@@ -254,18 +243,18 @@ fn answer_other(standing: Standing, text: &[u8]) -> Answered
 }
 
 // Whether the line to come is within the limit, with no more steps before it than lines.
-fn is_within(standing: Standing) -> bool
-    ensures { λ r. ⌜ r ≡ counted (standing .line) (standing .chain .length) && leb (standing .line) 1000000 ⌝ }
+fn is_within(line: u64, steps: usize) -> bool
+    ensures { λ r. ⌜ r ≡ counted line steps && leb line 1000000 ⌝ }
 {
-    let chain = standing.chain;
-    is_counted(standing.line, chain.length) & (standing.line <= MOST_LINES)
+    is_counted(line, steps) & (line <= MOST_LINES)
 }
 
 // The line after those that led here, of any bytes: refusal LIMIT past the 1,000,000th, which is not read and moves nothing, else as the sheet's rules answer it.
 pub fn answer_line(standing: Standing, text: &[u8]) -> Answered
     ensures { λ r. ⌜ r ≡ answeredTo standing (now (text .entry)) ⌝ }
 {
-    if begins_with(text, b'P') & is_within(standing) {
+    let chain = standing.chain;
+    if begins_with(text, b'P') & is_within(standing.line, chain.length) {
         return answer_point(standing, text);
     }
     if !is_sound(standing) {

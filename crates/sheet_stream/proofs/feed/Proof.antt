@@ -1,11 +1,13 @@
 -- `sheet_stream::feed` meets its contract. Assumes nothing.
 use mathlib.Core.Path.{_≡_, refl, sym, ap, _∙_}
 use mathlib.Core.Bool.{true, false}
+use mathlib.Core.List.{List}
 use native.Mathlib.Omega.{arith}
-use Prim.Native.Nat.{_≤_}
-use lib.ListN.{length, length-take, length-map}
+use Prim.Native.Nat.{ℕ, _-_, _≤_}
+use lib.ListN.{length, take, length-take, length-set, length-map}
+use lib.Seq.{length-sets}
 use borrow.Author.Tests.{not-true, not-false}
-use Rattle.sheet_stream.specs.Fragments.{fedAt, sound}
+use Rattle.sheet_stream.specs.Fragments.{endsWith, fedAt, sound}
 use Rattle.sheet_stream.proofs.Laws.{feed-29}
 use Rattle.sheet_stream.proofs.Scanning as L
 use borrow.Author.Needs.{needs}
@@ -52,14 +54,46 @@ slice-aggregate-keep-bytes-2 c = simp length-take (omega (arith, inside (c .befo
 keep-bytes-requires : tie.Need-keep-bytes-requires
 keep-bytes-requires c κs = search needs
 
-end-fed-requires : tie.Need-end-fed-requires
-end-fed-requires c κs = search needs
+-- the room is as long as it was
+room : (c : tie.After-keep-bytes) → length (c .keep-bytes .last .0) ≡ 200
+room c =
+    let a = c .before .before .before .before .before .before .before .before .before .before .args in
+    let n = c .before .before .before .before .before .line-end .result in
+    ap length (c .keep-bytes .ensures .0)
+    ∙ length-sets (a .stream .kept) (a .stream .count) (take (length (a .stream .kept) - a .stream .count) (take (n - 1) (a .fragment .now)))
+    ∙ long (c .before .before .before .before .before .before .before .before .before .before)
+
+array-write-kept : tie.Need-array-write-kept
+array-write-kept c = search needs
+
+add-kept : tie.Need-add-kept
+add-kept c = search needs
+
+array-share-prefix-kept : tie.Need-array-share-prefix-kept
+array-share-prefix-kept c = simp length-set (omega (arith, room (c .before .before), c .if3 .taken))
+
+slice-aggregate-end-line : tie.Need-slice-aggregate-end-line
+slice-aggregate-end-line c = simp (length-take, length-set) (omega (arith, room (c .before .before .before), c .before .if3 .taken))
+
+end-line-requires : tie.Need-end-line-requires
+end-line-requires c κs = search needs
 
 returns-2 : tie.Need-returns-2
 returns-2 c =
-    let s = c .before .before .before .before .before .before .before .before .before .before .before .before in
-    let k = c .before .before .keep-bytes .ensures in
-    L.fed-line (s .args .stream) (going (c .before .before .before .before .before .before .before .before)) (s .args .fragment .now) _ (c .before .before .before .before .before .before .before .line-end .ensures) (long s) _ _ _ (k .1) (k .0) (ends (c .before .before .before .before .before)) refl _ (c .end-fed .ensures)
+    let s = c .before .before .before .before .before .before .before .before .before .before .before .before .before .before in
+    let k = c .before .before .before .before .keep-bytes in
+    L.fed-line (s .args .stream) (going (c .before .before .before .before .before .before .before .before .before .before)) (s .args .fragment .now) _ (c .before .before .before .before .before .before .before .before .before .line-end .ensures) (long s) _ (k .result) (k .last .0) (k .ensures .1) (k .ensures .0) (ends (c .before .before .before .before .before .before .before)) refl _
+    (c .end-line .ensures ∙ ap (λ (l : List ℕ). endsWith (s .args .stream) l (c .before .before .before .before .before .before .before .before .before .line-end .result) false) (sym (L.closing-room (s .args .stream .standing) (k .result) (k .last .0) false (c .before .before .if3 .taken) (room (c .before .before .before .before)))))
+
+end-open-requires : tie.Need-end-open-requires
+end-open-requires c κs = (omega (arith, c .if3 .left), omega (arith, c .before .before .keep-bytes .ensures .1, long (c .before .before .before .before .before .before .before .before .before .before .before .before)))
+
+returns-3 : tie.Need-returns-3
+returns-3 c =
+    let s = c .before .before .before .before .before .before .before .before .before .before .before .before .before in
+    let k = c .before .before .before .keep-bytes in
+    L.fed-line (s .args .stream) (going (c .before .before .before .before .before .before .before .before .before)) (s .args .fragment .now) _ (c .before .before .before .before .before .before .before .before .line-end .ensures) (long s) _ (k .result) (k .last .0) (k .ensures .1) (k .ensures .0) (ends (c .before .before .before .before .before .before)) refl _
+    (c .end-open .ensures ∙ ap (λ (l : List ℕ). endsWith (s .args .stream) l (c .before .before .before .before .before .before .before .before .line-end .result) false) (sym (L.closing-full (s .args .stream .standing) (k .result) (k .last .0) false (c .before .if3 .left))))
 
 is-sound-requires : tie.Need-is-sound-requires
 is-sound-requires c κs = search needs
@@ -67,10 +101,10 @@ is-sound-requires c κs = search needs
 refused-requires-2 : tie.Need-refused-requires-2
 refused-requires-2 c κs = search needs
 
-returns-3 : tie.Need-returns-3
-returns-3 c =
+returns-4 : tie.Need-returns-4
+returns-4 c =
     let a = c .before .before .before .before .before .before .before .before .before .before .before .args in
-    c .refused2 .ensures ∙ sym (feed-29 (a .stream) (a .fragment .now) (L.sound-as (a .stream) (going (c .before .before .before .before .before .before .before)) _ (c .before .before .is-sound .ensures) ∙ not-true _ (c .before .if3 .taken)))
+    c .refused2 .ensures ∙ sym (feed-29 (a .stream) (a .fragment .now) (L.sound-as (a .stream) (going (c .before .before .before .before .before .before .before)) _ (c .before .before .is-sound .ensures) ∙ not-true _ (c .before .if4 .taken)))
 
 slice-aggregate-keep-bytes-3 : tie.Need-slice-aggregate-keep-bytes-3
 slice-aggregate-keep-bytes-3 c = search needs
@@ -78,13 +112,13 @@ slice-aggregate-keep-bytes-3 c = search needs
 keep-bytes-requires-2 : tie.Need-keep-bytes-requires-2
 keep-bytes-requires-2 c κs = search needs
 
-returns-4 : tie.Need-returns-4
-returns-4 c =
+returns-5 : tie.Need-returns-5
+returns-5 c =
     let s = c .before .before .before .before .before .before .before .before .before .before .before .before .before in
     let g = going (c .before .before .before .before .before .before .before .before .before) in
     let k = c .before .keep-bytes2 .ensures in
     let f : fedAt (s .args .fragment .now) (c .before .before .before .before .before .before .before .before .line-end .result) ≡ false = sym (c .before .before .before .before .before .before .before .is-fed .ensures) ∙ c .before .before .before .before .before .before .if2 .left in
-    let e : sound (s .args .stream) ≡ true = L.sound-as (s .args .stream) g _ (c .before .before .before .before .is-sound .ensures) ∙ not-false _ (c .before .before .before .if3 .left) in
+    let e : sound (s .args .stream) ≡ true = L.sound-as (s .args .stream) g _ (c .before .before .before .before .is-sound .ensures) ∙ not-false _ (c .before .before .before .if4 .left) in
     L.fed-open (s .args .stream) g (s .args .fragment .now) _ (c .before .before .before .before .before .before .before .before .line-end .ensures) (long s) _ _ _ (k .1) (k .0) f refl e
 
 pub feed-spec : {M : Type 1} → statement M
@@ -99,11 +133,17 @@ feed-spec =
     slice-aggregate-keep-bytes
     slice-aggregate-keep-bytes-2
     keep-bytes-requires
-    end-fed-requires
+    array-write-kept
+    add-kept
+    array-share-prefix-kept
+    slice-aggregate-end-line
+    end-line-requires
     returns-2
+    end-open-requires
+    returns-3
     is-sound-requires
     refused-requires-2
-    returns-3
+    returns-4
     slice-aggregate-keep-bytes-3
     keep-bytes-requires-2
-    returns-4)
+    returns-5)

@@ -1,13 +1,14 @@
 -- `capi::state::put_new_step` meets its contract. Assumes nothing.
 use mathlib.Core.Path.{_≡_, _∙_, ap}
 use mathlib.Core.List.{List}
-use Prim.Native.Nat.{_+_, _*_}
+use Prim.Native.Nat.{_+_, _*_, _<_}
 use native.Mathlib.Omega.{arith}
 use lib.IntN.{ℤ, natAbs}
+use lib.ListN.{length}
 use lib.Seq.{sets}
 use Rattle.rounding.proofs.Machine.{told}
 use Rattle.capi.specs.Chains.{number}
-use Rattle.capi.proofs.Streams.{counts, a-count, new-step, no-new-step}
+use Rattle.capi.proofs.Streams.{counts, a-count, new-step}
 use borrow.Author.Needs.{needs}
 use Rattle.capi.proofs.state.put_new_step.Statement.{statement}
 use Rattle.capi.proofs.state.put_new_step.Tie as tie
@@ -24,11 +25,14 @@ count-requires c κs =
 steps : (c : tie.After-count) → c .count .result ≡ natAbs (number (c .before .before .args .n .now) 6)
 steps c = c .count .ensures ∙ ap natAbs (told {z = number (c .before .before .args .n .now) 6} (c .before .count-arg .given))
 
+few : (c : tie.After-count) → c .count .result < 8
+few c = let p = c .before .before .pre in omega (arith, steps c, p .2, p .3)
+
 mul-step : tie.Need-mul-step
-mul-step c = search needs
+mul-step c = omega (arith, few c)
 
 element-copy-out-step : tie.Need-element-copy-out-step
-element-copy-out-step c = search needs
+element-copy-out-step c = omega (arith, few c)
 
 row-of-requires : tie.Need-row-of-requires
 row-of-requires c κs = search needs
@@ -37,26 +41,23 @@ slice-aggregate-copy : tie.Need-slice-aggregate-copy
 slice-aggregate-copy c = search needs
 
 mul-copy : tie.Need-mul-copy
-mul-copy c = search needs
+mul-copy c = omega (arith, few (c .before .before .before .before))
 
 add-copy : tie.Need-add-copy
-add-copy c = search needs
+add-copy c = omega (arith, few (c .before .before .before .before))
 
 copy-requires : tie.Need-copy-requires
-copy-requires c κs = search needs
+copy-requires c κs = let z : length (c .before .before .row-of .result) ≡ 13 = search needs in omega (arith, z, few (c .before .before .before .before), c .before .before .before .before .before .before .pre .0)
 
 same-length : tie.Need-same-length
 same-length c = search needs
 
 returns : tie.Need-returns
 returns c =
-    let s = c .before .before .before .before .before .before .before .before .before .args in
+    let s = c .before .before .before .before .before .before .before .before in
     c .before .copy .ensures
-    ∙ ap (λ (l : List ℤ). sets (s .n .now) (7 + 13 * (c .before .before .before .before .before .before .before .count .result)) l) (c .before .before .before .before .row-of .ensures)
-    ∙ new-step (s .n .now) (s .t2) (steps (c .before .before .before .before .before .before .before)) (c .before .before .before .before .before .before .if1 .taken)
-
-returns-2 : tie.Need-returns-2
-returns-2 c = no-new-step (c .before .before .before .args .n .now) (c .before .before .before .args .t2) (steps (c .before)) (c .if1 .left)
+    ∙ ap (λ (l : List ℤ). sets (s .args .n .now) (7 + 13 * (c .before .before .before .before .before .before .count .result)) l) (c .before .before .before .before .row-of .ensures)
+    ∙ new-step (s .args .n .now) (s .args .t2) (steps (c .before .before .before .before .before .before)) (omega (arith, steps (c .before .before .before .before .before .before), s .pre .3))
 
 pub put-new-step-spec : {M : Type 1} → statement M
 put-new-step-spec =
@@ -72,5 +73,4 @@ put-new-step-spec =
     add-copy
     copy-requires
     same-length
-    returns
-    returns-2)
+    returns)

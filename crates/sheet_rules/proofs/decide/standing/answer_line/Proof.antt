@@ -28,19 +28,19 @@ is-sound-requires c κs = search needs
 
 returns-2 : tie.Need-returns-2
 returns-2 c =
-    let a = c .before .before .before .before .before .before .args in
+    let a = c .before .before .before .before .before .before .before .args in
     unsound-answered (a .standing) (a .text .now) (sym (c .before .is-sound .ensures) ∙ not-true _ (c .if2 .taken))
 
 -- past the test
-sound : (c : tie.Else2) → soundStanding (c .before .before .before .before .before .before .args .standing) ≡ true
+sound : (c : tie.Else2) → soundStanding (c .before .before .before .before .before .before .before .args .standing) ≡ true
 sound c = sym (c .before .is-sound .ensures) ∙ not-false _ (c .if2 .left)
 
-add-t7 : tie.Need-add-t7
-add-t7 c = search needs
+add-t8 : tie.Need-add-t8
+add-t8 c = search needs
 
 returns-3 : tie.Need-returns-3
 returns-3 c =
-    let a = c .before .before .before .before .before .before .before .before .args in
+    let a = c .before .before .before .before .before .before .before .before .before .args in
     past-answered (a .standing) (a .text .now) (c .if3 .taken) ∙ sound-answered (a .standing) (a .text .now) (sound (c .before .before))
 
 answer-other-requires : tie.Need-answer-other-requires
@@ -48,7 +48,7 @@ answer-other-requires c κs = (c .if3 .left, sound (c .before .before))
 
 returns-4 : tie.Need-returns-4
 returns-4 c =
-    let a = c .before .before .before .before .before .before .before .before .before .args in
+    let a = c .before .before .before .before .before .before .before .before .before .before .args in
     c .answer-other .ensures ∙ sound-answered (a .standing) (a .text .now) (sound (c .before .before .before))
 
 pub answer-line-spec : {M : Type 1} → statement M
@@ -61,7 +61,7 @@ answer-line-spec =
     returns
     is-sound-requires
     returns-2
-    add-t7
+    add-t8
     returns-3
     answer-other-requires
     returns-4)

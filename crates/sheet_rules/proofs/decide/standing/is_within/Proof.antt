@@ -10,7 +10,7 @@ is-counted-requires : tie.Need-is-counted-requires
 is-counted-requires c κs = search needs
 
 returns : tie.Need-returns
-returns c = ap (λ (b : Bool). b && leb (c .before .before .before .args .standing .line) 1000000) (c .before .is-counted .ensures)
+returns c = ap (λ (b : Bool). b && leb (c .before .args .line) 1000000) (c .is-counted .ensures)
 
 pub is-within-spec : {M : Type 1} → statement M
 is-within-spec = tie.close (tie.spec is-counted-requires returns)

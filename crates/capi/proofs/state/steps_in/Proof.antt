@@ -1,0 +1,24 @@
+-- `capi::state::steps_in` meets its contract. Assumes nothing.
+use mathlib.Core.Path.{_≡_, _∙_, ap}
+use native.Mathlib.Omega.{arith}
+use lib.IntN.{natAbs}
+use Rattle.rounding.proofs.Machine.{told}
+use Rattle.capi.specs.Chains.{number}
+use Rattle.capi.proofs.Streams.{counts, a-count}
+use borrow.Author.Needs.{needs}
+use Rattle.capi.proofs.state.steps_in.Statement.{statement}
+use Rattle.capi.proofs.state.steps_in.Tie as tie
+
+shared-slice-copy-out-count : tie.Need-shared-slice-copy-out-count
+shared-slice-copy-out-count c = search needs
+
+count-requires : tie.Need-count-requires
+count-requires c κs =
+    let n = c .before .args .n .now in
+    rw (told {z = number n 6} (c .count-arg .given)) (a-count (number n 6) 8 (omega arith) (counts n (c .before .pre .1) .steps))
+
+returns : tie.Need-returns
+returns c = c .count .ensures ∙ ap natAbs (told {z = number (c .before .before .args .n .now) 6} (c .before .count-arg .given))
+
+pub steps-in-spec : {M : Type 1} → statement M
+steps-in-spec = tie.close (tie.spec shared-slice-copy-out-count count-requires returns)

@@ -122,17 +122,25 @@ pub(crate) fn is_answered(n: &[i64]) -> bool
     !finished & sheet_rules::is_sound(standing)
 }
 
-// The whole state.
+// The whole state, put together at once: a chain is not copied from one part of it into the next.
 pub(crate) fn stream_from(n: &[i64], bytes: &[u8]) -> Stream
     requires { ⌜ (length (now n) ≡ 111) × (length (now bytes) ≡ 200) × (stateRange (now n) ≡ true) ⌝ }
     ensures { λ r. ⌜ r ≡ streamFrom (now (n .entry)) (now (bytes .entry)) ⌝ }
 {
-    let standing = standing_from(n);
+    let lines = count(n[0]);
     let kept_count = kept_in(n);
+    let refused = flag(n[2]);
+    let closed = flag(n[3]);
     let finished = flag(n[4]);
+    let chain = chain_in(n);
     let kept = bytes_from(bytes);
     Stream {
-        standing: standing,
+        standing: Standing {
+            line: lines as u64 + 1,
+            chain: chain,
+            refused: refused,
+            closed: closed,
+        },
         count: kept_count,
         kept: kept,
         finished: finished,

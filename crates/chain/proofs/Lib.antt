@@ -10,7 +10,6 @@ pub mod PointLaws
 pub mod Outcomes
 pub mod Prepared
 pub mod Places
-pub mod Cases
 pub mod Meeting
 pub mod KeptRows
 pub mod KeptTurns

@@ -5,9 +5,6 @@ pub mod Axes
 pub mod Ready
 pub mod Convert
 pub mod Join
-pub mod Cases
-pub mod MoreCases
-pub mod RangeCases
+pub mod Case
 pub mod Prepared
-pub mod OrderCases
 pub mod PointRow

@@ -8,8 +8,8 @@ use lib.ListN.{getD}
 use Rattle.chain.specs.declared.Answer.{Answer}
 use Rattle.chain.specs.declared.Answer.the-variants.{Refused}
 use Rattle.chain.specs.Axes.{onX}
-use Rattle.chain.specs.Cases as cases
-use Rattle.chain.specs.Cases.{answer, expected}
+use Rattle.chain.specs.Case as cases
+use Rattle.chain.specs.Case.{answer, expected}
 use Rattle.theorems.specs.MarksMeet.{scaling, meeting, MarksMeet, Applies}
 
 pub marks-meet : MarksMeet

@@ -12,3 +12,7 @@ pub mod Joins
 pub mod LineOrders
 pub mod MalformedCases
 pub mod Velocities
+pub mod Cases
+pub mod MoreCases
+pub mod RangeCases
+pub mod OrderCases

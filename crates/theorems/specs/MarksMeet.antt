@@ -11,7 +11,7 @@ use Rattle.chain.specs.declared.Convention.the-variants.{PositionVector}
 use Rattle.chain.specs.declared.Answer.the-variants.{Converted}
 use Rattle.chain.specs.Faults.{stepsOf}
 use Rattle.chain.specs.Convert.{forwardOf}
-use Rattle.chain.specs.Cases.{less, on, xyz, Case, case, forward, inverse, answer, expected}
+use Rattle.chain.specs.Case.{less, on, xyz, Case, case, forward, inverse, answer, expected}
 use Rattle.theorems.specs.RoundTrip.{inexactSteps}
 use Rattle.theorems.specs.MarksApart.{Beyond}
 

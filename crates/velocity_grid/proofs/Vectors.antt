@@ -13,7 +13,7 @@ use Rattle.refusal.specs.Numbers as refusal
 use Rattle.elementary.specs.Floats.{whole}
 use Rattle.angle.specs.Units.{radians}
 use Rattle.chain.specs.Faults.{stepFault}
-use Rattle.chain.specs.Cases.{answer}
+use Rattle.chain.specs.Case.{answer}
 use Rattle.velocity_grid.specs.Bilinear.{blend, weighed, bilinear}
 use Rattle.velocity_grid.specs.OnGrid.{sizeRange, meshRange, gridRange, meshOf, nodesOf, onAxis, placeOf, onGrid, alongOf, cellOf}
 use Rattle.velocity_grid.specs.AtPoint.{known, cellKnown, cornersOf, partOf, partsIn, partsOf}

@@ -5,18 +5,19 @@ use Prim.Native.Nat.{ℕ}
 use lib.IntN.{ℤ, pos}
 use lib.ListN.{replicate}
 use Rattle.refusal.specs.Numbers as refusal
 use Rattle.chain.specs.declared.Position.{Position}
 use Rattle.chain.specs.declared.Realization.{Realization}
 use Rattle.chain.specs.declared.Point.{Point}
 use Rattle.chain.specs.declared.Kind.{Kind}
 use Rattle.chain.specs.declared.Kind.the-variants.{Frame}
 use Rattle.chain.specs.declared.Step.{Step}
 use Rattle.chain.specs.declared.Answer.{Answer}
 use Rattle.chain.specs.declared.Answer.the-variants.{Converted, Refused}
 use Rattle.chain.specs.Convert.{forwardOf, inverseOf}
 use Rattle.chain.specs.Prepared.{chainOf}
-use Rattle.chain.specs.Cases.{less, on, xyz, shift, velocity, a1}
-use Rattle.chain.specs.MoreCases.{Trial, trial}
+use Rattle.chain.specs.Case.{less, on, xyz, shift, velocity}
+use Rattle.theorems.specs.Cases.{a1}
+use Rattle.theorems.specs.MoreCases.{Trial, trial}
 
 abbrev step : Kind → Realization → Realization → Step
 step kind r a = record { kind = kind; before = r; after = a }

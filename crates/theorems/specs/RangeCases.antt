@@ -4,14 +4,15 @@ use mathlib.Core.List.{List, [], _∷_, _++_, map}
 use Prim.Native.Nat.{ℕ, suc}
 use lib.IntN.{ℤ, pos}
 use Rattle.refusal.specs.Numbers as refusal
 use Rattle.chain.specs.declared.Realization.{Realization}
 use Rattle.chain.specs.declared.Point.{Point}
 use Rattle.chain.specs.declared.Convention.the-variants.{PositionVector}
 use Rattle.chain.specs.declared.Kind.{Kind}
 use Rattle.chain.specs.declared.Kind.the-variants.{Shift, Velocity, BursaWolf, Frame}
 use Rattle.chain.specs.declared.Step.{Step}
 use Rattle.chain.specs.Faults.{pointFault, stepFault}
-use Rattle.chain.specs.Cases.{less, on, xyz, point, shift, velocity, a1}
+use Rattle.chain.specs.Case.{less, on, xyz, point, shift, velocity}
+use Rattle.theorems.specs.Cases.{a1}
 
 -- a fault, and the number that the table gives
 pub record Fault : Type 0 where

@@ -1,10 +1,11 @@
 -- The worked cases, by computation. Assumes nothing.
 use mathlib.Core.Path.{refl}
 use Rattle.chain.specs.Faults.{pointFault, stepFault}
-use Rattle.chain.specs.Cases.{answer, WorkedCases}
-use Rattle.chain.specs.MoreCases.{MoreCases}
-use Rattle.chain.specs.RangeCases.{RangeCases}
-use Rattle.chain.specs.OrderCases.{OrderCases}
+use Rattle.chain.specs.Case.{answer}
+use Rattle.theorems.specs.Cases.{WorkedCases}
+use Rattle.theorems.specs.MoreCases.{MoreCases}
+use Rattle.theorems.specs.RangeCases.{RangeCases}
+use Rattle.theorems.specs.OrderCases.{OrderCases}
 
 pub worked-cases : WorkedCases
 unfolding answer

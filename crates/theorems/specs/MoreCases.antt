@@ -4,14 +4,15 @@ use mathlib.Core.Path.{_≡_}
 use mathlib.Core.List.{List, [], _∷_, map}
 use lib.IntN.{ℤ, pos}
 use Rattle.refusal.specs.Numbers as refusal
 use Rattle.chain.specs.declared.Position.{Position}
 use Rattle.chain.specs.declared.Convention.{Convention}
 use Rattle.chain.specs.declared.Convention.the-variants.{PositionVector, CoordinateFrame}
 use Rattle.chain.specs.declared.Kind.{Kind}
 use Rattle.chain.specs.declared.Kind.the-variants.{BursaWolf, Frame}
 use Rattle.chain.specs.declared.Answer.{Answer}
 use Rattle.chain.specs.declared.Answer.the-variants.{Converted, Refused}
-use Rattle.chain.specs.Cases.{less, on, xyz, point, shift, velocity, Way, forward, inverse, Case, answer, expected, case, a1}
+use Rattle.chain.specs.Case.{less, on, xyz, point, shift, velocity, Way, forward, inverse, Case, answer, expected, case}
+use Rattle.theorems.specs.Cases.{a1}
 
 -- ---- conversions
 abbrev bursaWolf : Convention → Kind

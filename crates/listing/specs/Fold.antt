@@ -4,7 +4,7 @@ use Prim.Native.Nat.{ℕ, _+_, _*_, _≤_, min}
 use mathlib.Core.Path.{_≡_}
 use mathlib.Core.List.{List, [], _∷_, _++_}
 use lib.Dec.{eqb, ltb}
-use lib.ListN.{length, getD, take, drop}
+use lib.ListN.{length, getD, take, drop, replicate}
 use Rattle.refusal.specs.Numbers as refusal
 use Rattle.refusal.specs.Order.{pick}
 use Rattle.line.specs.Lines.{lines}
@@ -34,6 +34,10 @@ roomFor n = 13 * min n longestInput + 9
 -- the length up to which an input is answered in a room of its own
 abbrev pub shortInput : ℕ
 shortInput = 4096
+
+-- room for n bytes, nothing written in it
+unfoldable pub cleared : ℕ → List ℕ
+cleared n = replicate n 0
 
 -- what a call that prints does: the array held `before` and holds `after`, and r is the place past the text
 pub record Prints (text input before after : List ℕ) (r : ℕ) : Type 0 where

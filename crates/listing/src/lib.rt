@@ -1,8 +1,7 @@
 // A program that answers its input line by line: how long an input may be, and how much room its text asks for.
 ghost use Prim.Native.Nat.{_+_};
 ghost use mathlib.Core.Path.{_≡_};
-ghost use lib.ListN.{length};
-ghost use Rattle.listing.specs.Fold.{longestInput, shortInput, roomFor};
+ghost use Rattle.listing.specs.Fold.{longestInput, shortInput, roomFor, cleared};
 
 // The longest input that is read, in bytes. Of a longer one nothing is read.
 pub const LONGEST_INPUT: usize = 65536;
@@ -21,23 +20,23 @@ pub fn room_for(n: usize) -> usize
     }
 }
 
-// Room for the longest input that is read and one byte more, by which a longer one shows.
+// Room for the longest input that is read and one byte more, by which a longer one shows: zeros.
 pub fn input_space() -> [u8; 65537]
-    ensures { λ r. ⌜ longestInput + 1 ≡ length r ⌝ }
+    ensures { λ r. ⌜ r ≡ cleared (longestInput + 1) ⌝ }
 {
     [0; 65537]
 }
 
-// Room for what any input prints.
+// Room for what any input prints: zeros.
 pub fn output_space() -> [u8; 851977]
-    ensures { λ r. ⌜ roomFor longestInput ≡ length r ⌝ }
+    ensures { λ r. ⌜ r ≡ cleared (roomFor longestInput) ⌝ }
 {
     [0; 851977]
 }
 
-// Room for what a short input prints.
+// Room for what a short input prints: zeros.
 pub fn short_output_space() -> [u8; 53257]
-    ensures { λ r. ⌜ roomFor shortInput ≡ length r ⌝ }
+    ensures { λ r. ⌜ r ≡ cleared (roomFor shortInput) ⌝ }
 {
     [0; 53257]
 }

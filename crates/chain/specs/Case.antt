@@ -1,4 +1,4 @@
--- How a worked case of a conversion is written, and what is answered in it. The cases stand in crate theorems, as lists.
+-- How a worked case of a conversion is written, and what is answered in it. The cases stand in crate cases, as lists.
 use mathlib.Core.Path.{_≡_}
 use mathlib.Core.List.{List, [], _∷_, map}
 use Prim.Native.Nat.{ℕ}

@@ -13,4 +13,3 @@ pub mod Joins
 pub mod LineOrders
 pub mod MalformedCases
 pub mod Velocities
-pub mod Cases

@@ -12,7 +12,3 @@ pub mod Joins
 pub mod LineOrders
 pub mod MalformedCases
 pub mod Velocities
-pub mod Cases
-pub mod MoreCases
-pub mod RangeCases
-pub mod OrderCases

@@ -12,7 +12,7 @@ use Rattle.chain.specs.declared.Kind.the-variants.{BursaWolf, Frame}
 use Rattle.chain.specs.declared.Answer.{Answer}
 use Rattle.chain.specs.declared.Answer.the-variants.{Converted, Refused}
 use Rattle.chain.specs.Case.{less, on, xyz, point, shift, velocity, Way, forward, inverse, Case, answer, expected, case}
-use Rattle.theorems.specs.Cases.{a1}
+use Rattle.cases.specs.Cases.{a1}
 
 -- ---- conversions
 abbrev bursaWolf : Convention → Kind

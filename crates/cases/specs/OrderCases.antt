@@ -16,8 +16,8 @@ use Rattle.chain.specs.declared.Answer.the-variants.{Converted, Refused}
 use Rattle.chain.specs.Convert.{forwardOf, inverseOf}
 use Rattle.chain.specs.Prepared.{chainOf}
 use Rattle.chain.specs.Case.{less, on, xyz, shift, velocity}
-use Rattle.theorems.specs.Cases.{a1}
-use Rattle.theorems.specs.MoreCases.{Trial, trial}
+use Rattle.cases.specs.Cases.{a1}
+use Rattle.cases.specs.MoreCases.{Trial, trial}
 
 abbrev step : Kind → Realization → Realization → Step
 step kind r a = record { kind = kind; before = r; after = a }

@@ -12,7 +12,7 @@ use Rattle.chain.specs.declared.Kind.the-variants.{Shift, Velocity, BursaWolf, 
 use Rattle.chain.specs.declared.Step.{Step}
 use Rattle.chain.specs.Faults.{pointFault, stepFault}
 use Rattle.chain.specs.Case.{less, on, xyz, point, shift, velocity}
-use Rattle.theorems.specs.Cases.{a1}
+use Rattle.cases.specs.Cases.{a1}
 
 -- a fault, and the number that the table gives
 pub record Fault : Type 0 where

@@ -2,10 +2,10 @@
 use mathlib.Core.Path.{refl}
 use Rattle.chain.specs.Faults.{pointFault, stepFault}
 use Rattle.chain.specs.Case.{answer}
-use Rattle.theorems.specs.Cases.{WorkedCases}
-use Rattle.theorems.specs.MoreCases.{MoreCases}
-use Rattle.theorems.specs.RangeCases.{RangeCases}
-use Rattle.theorems.specs.OrderCases.{OrderCases}
+use Rattle.cases.specs.Cases.{WorkedCases}
+use Rattle.cases.specs.MoreCases.{MoreCases}
+use Rattle.cases.specs.RangeCases.{RangeCases}
+use Rattle.cases.specs.OrderCases.{OrderCases}
 
 pub worked-cases : WorkedCases
 unfolding answer

@@ -1,0 +1,4 @@
+pub mod Cases
+pub mod MoreCases
+pub mod RangeCases
+pub mod OrderCases

@@ -13,6 +13,7 @@ pub mod Places
 pub mod Meeting
 pub mod KeptRows
 pub mod KeptTurns
+pub mod Forms
 pub mod Keeping
 pub mod Joins
 pub mod JoinedLaws

@@ -39,6 +39,28 @@ above-lift (negsuc m) lift l = let w : _≡_ {A = ℕ} 0 1 = cc in absurd (omega
 pub at-most : (n : ℤ) (u lift : ℕ) → pos u ≡ n +ℤ pos lift → natAbs n ≤ most → u ≤ most + lift
 at-most n u lift e h = omega (arith, uneq e (k u) (v n ⊕ k lift), unabs most h (v n))
 
+-- ---- where the lift is small, the sum by itself: it is never below 0
+module _ (n : ℤ) (h : natAbs n ≤ 2000000000) where
+  pub small-fits : SFits w64 (n +ℤ pos 2000000500)
+  small-fits = let x = unabs 2000000000 h (v n) in fits 4000000500 (abs (v n ⊕ k 2000000500) (omega arith) (omega arith)) (omega arith)
+
+  pub small-most : natAbs (n +ℤ pos 2000000500) ≤ 4000000500
+  small-most = let x = unabs 2000000000 h (v n) in abs (v n ⊕ k 2000000500) (omega arith) (omega arith)
+
+  pub small-lift : pos (natAbs (n +ℤ pos 2000000500)) ≡ n +ℤ pos 2000000500
+  small-lift = go (n +ℤ pos 2000000500) refl
+    where
+      go : (z : ℤ) → n +ℤ pos 2000000500 ≡ z → pos (natAbs z) ≡ z
+      go (pos m) e = refl
+      go (negsuc m) e = absurd (let x = unabs 2000000000 h (v n) in omega (arith, uneq e (v n ⊕ k 2000000500) (k- m)))
+
+  pub small-casts : T (nonNeg (n +ℤ pos 2000000500)) × Fits w64 (natAbs (n +ℤ pos 2000000500))
+  small-casts = go (n +ℤ pos 2000000500) refl small-most
+    where
+      go : (z : ℤ) → n +ℤ pos 2000000500 ≡ z → natAbs z ≤ 4000000500 → T (nonNeg z) × Fits w64 (natAbs z)
+      go (pos m) e l = (tt, record { fits = omega arith })
+      go (negsuc m) e l = absurd (let x = unabs 2000000000 h (v n) in omega (arith, uneq e (v n ⊕ k 2000000500) (k- m)))
+
 -- ---- the quotient without the lift
 pub quotient-fits : (q : ℕ) (l : ℤ) → q ≤ 200000000 → natAbs l ≤ 100000000 → SFits w64 (pos q -ℤ l)
 quotient-fits q l h g = let x = unabs 100000000 g (v l) in fits 300000000 (abs (k q ⊖ v l) (omega arith) (omega arith)) (omega arith)

@@ -1,8 +1,8 @@
 -- Laws of a step made ready: its parts are mild, what it gains is small, and what each kind gains. Assumes nothing.
-use mathlib.Core.Path.{_≡_, refl, sym, _∙_, ap, subst}
+use mathlib.Core.Path.{_≡_, refl, sym, _∙_, ap, subst, subst⁻¹}
 use mathlib.Core.List.{List}
 use Prim.Native.Nat.{ℕ, _+_, _*_, _≤_}
-use lib.Dec.{lit<}
+use lib.Dec.{lit<, lit≤}
 use native.Mathlib.Omega.{arith}
 use lib.IntN.{ℤ, pos, negℤ, natAbs, _+ℤ_, _-ℤ_, _*ℤ_}
 use Rattle.rounding.proofs.Zn.{v, k, _⊕_, _⊗_, eq, abs-neg, mul-le}
@@ -24,7 +24,7 @@ use Rattle.chain.specs.Parts.{stepRound, Parts, linear, part, gain, fixe
 use Rattle.chain.specs.Axes.{Axis, onX, onY, onZ, coordinate, partOn, Small}
 use Rattle.chain.specs.Ready.{position, moved, movedOf, turnOf, overOf, scaleOf, readyKind, readyFor, readyParts, slopeParts, ReadyOk, Prepares}
 use Rattle.chain.proofs.Rounding.{step-size, step-whole}
-use Rattle.chain.proofs.StepLaws.{Mild, Milds, nothing, part-small}
+use Rattle.chain.proofs.StepLaws.{Mild, Milds, nothing, part-small, small-le, again-small}
 use Rattle.chain.proofs.Sizes.{milds, fixed-mild, turned-mild, shift-ok, velocity-ok, velocity-years, moved-size, bursa-wolf-ok, turned-size, row-ok, frame-years, shift-at-size, scale-at-size}
 
 -- ---- mild
@@ -50,6 +50,13 @@ gain-on onZ t p = refl
 pub gain-small : (r : Ready) (p : Position) → ReadyOk r → Small 650000000000 p → Small 180000000 (gain (readyParts r) p)
 gain-small r p ok s = record { on = λ i. rw (gain-on i (readyParts r) p) (part-small (partOn i (readyParts r)) p (ready-mild r ok .on i) s) }
 
+-- a turn of the inverse that starts at a position that is not too large ends at one
+pub again-near :
+    (r : Ready) (q c p : Position) → ReadyOk r → Small 640000000000 q → Small 650000000000 c → p ≡ again (readyParts r) q c →
+    Small 650000000000 p
+again-near r q c p ok near h e =
+    subst⁻¹ (λ (x : Position). Small 650000000000 x) e (small-le (lit≤ tt) (again-small 640000000000 (readyParts r) q c (ready-mild r ok) near h))
+
 -- ---- a part that is the same everywhere, and one over a single coordinate
 pub fixed-part : (n : ℤ) (d : ℕ) (p : Position) → part (fixed n d) p ≡ stepRound n d
 unfolding part linear
@@ -59,6 +66,10 @@ pub fixed-gain : (g p : Position) → gain (readyParts (Fixed g)) p ≡ g
 unfolding gain
 fixed-gain g p =
     of₃ position (fixed-part (g .x) 1 p ∙ step-whole (g .x)) (fixed-part (g .y) 1 p ∙ step-whole (g .y)) (fixed-part (g .z) 1 p ∙ step-whole (g .z))
+
+pub fixed-inverse : (g q : Position) → inverseBy (readyParts (Fixed g)) q ≡ minus q g
+unfolding inverseBy again
+fixed-inverse g q = ap (minus q) (fixed-gain g _)
 
 pub slope-gain :
     (kx ky kz a : ℤ) (p : Position) →
@@ -110,13 +121,13 @@ module _ (s : Step) (ok : StepOk s) where
   gains : (kind : Kind) → s .kind ≡ kind → (p : Position) → gain (kindParts kind (s .before) (s .after)) p ≡ gain (partsOf s) p
   gains kind e p = ap (λ (x : Kind). gain (kindParts x (s .before) (s .after)) p) (sym e)
 
-  shift-prepares : (t : shift'.Shift) → s .kind ≡ Shift t → Prepares s (Fixed (position (t .dx) (t .dy) (t .dz)))
+  pub shift-prepares : (t : shift'.Shift) → s .kind ≡ Shift t → Prepares s (Fixed (position (t .dx) (t .dy) (t .dz)))
   unfolding kindParts shiftParts
   shift-prepares t e =
       let o = shift-ok t (good (Shift t) e .range) in
       record { same = gains (Shift t) e; ok = small (t .dx) (t .dy) (t .dz) (o .dx) (o .dy) (o .dz) }
 
-  velocity-prepares : (t : velocity'.Velocity) → s .kind ≡ Velocity t → Prepares s (Fixed (movedOf t (s .after .epoch -ℤ s .before .epoch)))
+  pub velocity-prepares : (t : velocity'.Velocity) → s .kind ≡ Velocity t → Prepares s (Fixed (movedOf t (s .after .epoch -ℤ s .before .epoch)))
   unfolding kindParts velocityParts gain
   velocity-prepares t e =
       let dt = s .after .epoch -ℤ s .before .epoch in
@@ -129,7 +140,7 @@ module _ (s : Step) (ok : StepOk s) where
         ok = small (moved (t .vx) dt) (moved (t .vy) dt) (moved (t .vz) dt) (moved-small (t .vx) dt (o .vx) y) (moved-small (t .vy) dt (o .vy) y) (moved-small (t .vz) dt (o .vz) y);
       }
 
-  turn-prepares : (t : bursaWolf'.BursaWolf) → s .kind ≡ BursaWolf t → Prepares s (Turned (turnOf t))
+  pub turn-prepares : (t : bursaWolf'.BursaWolf) → s .kind ≡ BursaWolf t → Prepares s (Turned (turnOf t))
   unfolding kindParts bursaWolfParts
   turn-prepares t e =
       let o = bursa-wolf-ok t (good (BursaWolf t) e .range) in
@@ -147,7 +158,7 @@ module _ (s : Step) (ok : StepOk s) where
         };
       }
 
-  frame-prepares : s .kind ≡ Frame → Prepares s (Scaled (scaleOf (rowOf (s .before .datum)) (s .before .epoch -ℤ pos 2010000)))
+  pub frame-prepares : s .kind ≡ Frame → Prepares s (Scaled (scaleOf (rowOf (s .before .datum)) (s .before .epoch -ℤ pos 2010000)))
   unfolding kindParts frameParts
   frame-prepares e =
       let row = rowOf (s .before .datum) in

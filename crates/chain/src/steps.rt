@@ -2,12 +2,12 @@
 // module below this one, so that what a step's functions ask of their caller stays theirs.
 ghost use mathlib.Core.Path.{_≡_};
 ghost use Prim.Native.Nat.{_≤_};
-ghost use lib.IntN.{ℤ, pos, natAbs, negℤ, _+ℤ_, _*ℤ_};
+ghost use lib.IntN.{ℤ, pos, natAbs, negℤ, _+ℤ_, _-ℤ_, _*ℤ_};
 ghost use Rattle.chain.specs.Faults.{StepOk};
 ghost use Rattle.chain.specs.Parts.{stepRound, byConvention, rotation11, scaledRotation, atEpoch, part, over11, gain, plus, minus, forwardBy, again, inverseBy};
 ghost use Rattle.chain.specs.Rows.{rowOf};
 ghost use Rattle.chain.specs.Axes.{Small};
-ghost use Rattle.chain.specs.Ready.{readyFor, turnParts, slopeParts, readyParts, ReadyOk, TurnOk, ScaleOk, PartOk, LinearOk};
+ghost use Rattle.chain.specs.Ready.{position, movedOf, turnOf, scaleOf, readyFor, turnParts, slopeParts, readyParts, ReadyOk, TurnOk, ScaleOk, PartOk, LinearOk};
 use crate::BursaWolf;
 use crate::Convention;
 use crate::Kind;
@@ -97,15 +97,15 @@ fn turned(convention: Convention, r: i64, s: i64) -> i64
     scaled_rotation(rotation11(by_convention(convention, r)), s)
 }
 
-fn bursa_wolf_ready(step: Step, t: BursaWolf) -> Ready
+fn bursa_wolf_ready(step: Step, t: BursaWolf) -> Turn
     requires { ⌜ (StepOk step) × (step .kind ≡ Kind.BursaWolf t) ⌝ }
-    ensures { λ r. ⌜ r ≡ readyFor step ⌝ }
+    ensures { λ r. ⌜ r ≡ turnOf t ⌝ }
 {
     let c = t.convention;
     let rx = turned(c, t.rx, t.s);
     let ry = turned(c, t.ry, t.s);
     let rz = turned(c, t.rz, t.s);
-    Ready::Turned(Turn {
+    Turn {
         dx: t.dx,
         dy: t.dy,
         dz: t.dz,
@@ -113,18 +113,17 @@ fn bursa_wolf_ready(step: Step, t: BursaWolf) -> Ready
         ry: ry,
         rz: rz,
         s: t.s,
-    })
+    }
 }
 
-fn shift_ready(step: Step, t: Shift) -> Ready
-    requires { ⌜ (StepOk step) × (step .kind ≡ Kind.Shift t) ⌝ }
-    ensures { λ r. ⌜ r ≡ readyFor step ⌝ }
+fn shift_ready(t: Shift) -> Position
+    ensures { λ r. ⌜ r ≡ position (t .dx) (t .dy) (t .dz) ⌝ }
 {
-    Ready::Fixed(Position {
+    Position {
         x: t.dx,
         y: t.dy,
         z: t.dz,
-    })
+    }
 }
 
 // v units a year over dt thousandths of a year.
@@ -132,12 +131,12 @@ fn moved(v: i64, dt: i64) -> i64
     requires { ⌜ (natAbs v ≤ 10000) × (natAbs dt ≤ 120000) ⌝ }
     ensures { λ r. ⌜ r ≡ stepRound (v *ℤ dt) 1000 ⌝ }
 {
-    rounding::quotient::round_div(v * dt, 1000)
+    lifted::over3(v * dt)
 }
 
-fn velocity_ready(step: Step, t: Velocity) -> Ready
+fn velocity_ready(step: Step, t: Velocity) -> Position
     requires { ⌜ (StepOk step) × (step .kind ≡ Kind.Velocity t) ⌝ }
-    ensures { λ r. ⌜ r ≡ readyFor step ⌝ }
+    ensures { λ r. ⌜ r ≡ movedOf t (step .after .epoch -ℤ step .before .epoch) ⌝ }
 {
     let before = step.before;
     let after = step.after;
@@ -145,7 +144,7 @@ fn velocity_ready(step: Step, t: Velocity) -> Ready
     let x = moved(t.vx, dt);
     let y = moved(t.vy, dt);
     let z = moved(t.vz, dt);
-    Ready::Fixed(Position { x: x, y: y, z: z })
+    Position { x: x, y: y, z: z }
 }
 
 // A figure of a row with its rate, dt thousandths of a year on, in thousandths.
@@ -164,9 +163,9 @@ fn shift_over14(t: i64, tv: i64, dt: i64) -> i64
     0 - at_epoch(t, tv, dt) * 100000000000
 }
 
-fn frame_ready(step: Step) -> Ready
+fn frame_ready(step: Step) -> Scale
     requires { ⌜ (StepOk step) × (step .kind ≡ Kind.Frame) ⌝ }
-    ensures { λ r. ⌜ r ≡ readyFor step ⌝ }
+    ensures { λ r. ⌜ r ≡ scaleOf (rowOf (step .before .datum)) (step .before .epoch -ℤ pos 2010000) ⌝ }
 {
     let before = step.before;
     let dt = before.epoch - 2010000;
@@ -175,12 +174,12 @@ fn frame_ready(step: Step) -> Ready
     let ky = shift_over14(f[1], f[4], dt);
     let kz = shift_over14(f[2], f[5], dt);
     let slope = 0 - at_epoch(f[6], f[7], dt);
-    Ready::Scaled(Scale {
+    Scale {
         kx: kx,
         ky: ky,
         kz: kz,
         slope: slope,
-    })
+    }
 }
 
 // A step that is not refused, made ready.
@@ -190,10 +189,10 @@ fn prepare(step: Step) -> Ready
 {
     let kind = step.kind;
     match kind {
-        Kind::Shift(t) => shift_ready(step, t),
-        Kind::Velocity(t) => velocity_ready(step, t),
-        Kind::BursaWolf(t) => bursa_wolf_ready(step, t),
-        Kind::Frame => frame_ready(step),
+        Kind::Shift(t) => Ready::Fixed(shift_ready(t)),
+        Kind::Velocity(t) => Ready::Fixed(velocity_ready(step, t)),
+        Kind::BursaWolf(t) => Ready::Turned(bursa_wolf_ready(step, t)),
+        Kind::Frame => Ready::Scaled(frame_ready(step)),
     }
 }
 
@@ -241,17 +240,6 @@ fn scale_gain(t: Scale, p: Position) -> Position
     Position { x: x, y: y, z: z }
 }
 
-fn ready_gain(r: Ready, p: Position) -> Position
-    requires { ⌜ (ReadyOk r) × (Small 650000000000 p) ⌝ }
-    ensures { λ g. ⌜ g ≡ gain (readyParts r) p ⌝ }
-{
-    match r {
-        Ready::Fixed(g) => g,
-        Ready::Turned(t) => turn_gain(t, p),
-        Ready::Scaled(t) => scale_gain(t, p),
-    }
-}
-
 fn plus(p: Position, g: Position) -> Position
     requires { ⌜ (Small 650000000000 p) × (Small 180000000 g) ⌝ }
     ensures { λ r. ⌜ r ≡ plus p g ⌝ }
@@ -274,28 +262,80 @@ fn minus(p: Position, g: Position) -> Position
     }
 }
 
-// A step forward.
-fn forward_ready(r: Ready, p: Position) -> Position
-    requires { ⌜ (ReadyOk r) × (Small 640000000000 p) ⌝ }
-    ensures { λ q. ⌜ q ≡ forwardBy (readyParts r) p ⌝ }
+// ---- A step forward and its inverse, by what it is ready as. Each form has functions of its own: asked for once, where a step's kind or its row says it, the form
+// is not carried through memory.
+
+fn fixed_forward(g: Position, p: Position) -> Position
+    requires { ⌜ (Small 100000000 g) × (Small 640000000000 p) ⌝ }
+    ensures { λ q. ⌜ q ≡ forwardBy (readyParts (Ready.Fixed g)) p ⌝ }
 {
-    plus(p, ready_gain(r, p))
+    plus(p, g)
+}
+
+fn turn_forward(t: Turn, p: Position) -> Position
+    requires { ⌜ (TurnOk t) × (Small 640000000000 p) ⌝ }
+    ensures { λ q. ⌜ q ≡ forwardBy (readyParts (Ready.Turned t)) p ⌝ }
+{
+    plus(p, turn_gain(t, p))
+}
+
+fn scale_forward(t: Scale, p: Position) -> Position
+    requires { ⌜ (ScaleOk t) × (Small 640000000000 p) ⌝ }
+    ensures { λ q. ⌜ q ≡ forwardBy (readyParts (Ready.Scaled t)) p ⌝ }
+{
+    plus(p, scale_gain(t, p))
+}
+
+// What gains the same everywhere needs one turn: the candidate does not matter.
+fn fixed_back(g: Position, q: Position) -> Position
+    requires { ⌜ (Small 100000000 g) × (Small 640000000000 q) ⌝ }
+    ensures { λ p. ⌜ p ≡ inverseBy (readyParts (Ready.Fixed g)) q ⌝ }
+{
+    minus(q, g)
 }
 
 // One turn of the inverse: q less what is gained at the candidate.
-fn again(r: Ready, q: Position, c: Position) -> Position
-    requires { ⌜ (ReadyOk r) × (Small 640000000000 q) × (Small 650000000000 c) ⌝ }
-    ensures { λ d. ⌜ d ≡ again (readyParts r) q c ⌝ }
+fn turn_again(t: Turn, q: Position, c: Position) -> Position
+    requires { ⌜ (TurnOk t) × (Small 640000000000 q) × (Small 650000000000 c) ⌝ }
+    ensures { λ d. ⌜ d ≡ again (readyParts (Ready.Turned t)) q c ⌝ }
 {
-    minus(q, ready_gain(r, c))
+    minus(q, turn_gain(t, c))
 }
 
-// A step's inverse, three turns from q.
+// Three turns from q.
+fn turn_back(t: Turn, q: Position) -> Position
+    requires { ⌜ (TurnOk t) × (Small 640000000000 q) ⌝ }
+    ensures { λ p. ⌜ p ≡ inverseBy (readyParts (Ready.Turned t)) q ⌝ }
+{
+    let c = turn_again(t, q, q);
+    let d = turn_again(t, q, c);
+    turn_again(t, q, d)
+}
+
+fn scale_again(t: Scale, q: Position, c: Position) -> Position
+    requires { ⌜ (ScaleOk t) × (Small 640000000000 q) × (Small 650000000000 c) ⌝ }
+    ensures { λ d. ⌜ d ≡ again (readyParts (Ready.Scaled t)) q c ⌝ }
+{
+    minus(q, scale_gain(t, c))
+}
+
+fn scale_back(t: Scale, q: Position) -> Position
+    requires { ⌜ (ScaleOk t) × (Small 640000000000 q) ⌝ }
+    ensures { λ p. ⌜ p ≡ inverseBy (readyParts (Ready.Scaled t)) q ⌝ }
+{
+    let c = scale_again(t, q, q);
+    let d = scale_again(t, q, c);
+    scale_again(t, q, d)
+}
+
+// The inverse of a step that is ready as any of the three.
 fn inverse_ready(r: Ready, q: Position) -> Position
     requires { ⌜ (ReadyOk r) × (Small 640000000000 q) ⌝ }
     ensures { λ p. ⌜ p ≡ inverseBy (readyParts r) q ⌝ }
 {
-    let c = again(r, q, q);
-    let d = again(r, q, c);
-    again(r, q, d)
+    match r {
+        Ready::Fixed(g) => fixed_back(g, q),
+        Ready::Turned(t) => turn_back(t, q),
+        Ready::Scaled(t) => scale_back(t, q),
+    }
 }

@@ -8,6 +8,7 @@ ghost use Rattle.chain.specs.Faults.{StepOk, inArea, chainTests, stepsOf
 ghost use Rattle.chain.specs.Convert.{forwardStep, inverseStep, walk, startOf, endOf, movedTo, answerOf, forwardOf, inverseOf};
 use crate::Answer;
 use crate::Chain;
+use crate::Kind;
 use crate::Point;
 use crate::Position;
 use crate::Realization;
@@ -18,18 +19,32 @@ use crate::steps;
 
 pub mod join;
 
+// A step forward, by its kind: what a kind gains is worked out where its kind is known.
 fn forward_step(step: Step, p: Position) -> Position
     requires { ⌜ (StepOk step) × (inArea p ≡ true) ⌝ }
     ensures { λ q. ⌜ q ≡ forwardStep step p ⌝ }
 {
-    steps::forward_ready(steps::prepare(step), p)
+    let kind = step.kind;
+    match kind {
+        Kind::Shift(t) => steps::fixed_forward(steps::shift_ready(t), p),
+        Kind::Velocity(t) => steps::fixed_forward(steps::velocity_ready(step, t), p),
+        Kind::BursaWolf(t) => steps::turn_forward(steps::bursa_wolf_ready(step, t), p),
+        Kind::Frame => steps::scale_forward(steps::frame_ready(step), p),
+    }
 }
 
+// A step's inverse, likewise.
 fn inverse_step(step: Step, q: Position) -> Position
     requires { ⌜ (StepOk step) × (inArea q ≡ true) ⌝ }
     ensures { λ p. ⌜ p ≡ inverseStep step q ⌝ }
 {
-    steps::inverse_ready(steps::prepare(step), q)
+    let kind = step.kind;
+    match kind {
+        Kind::Shift(t) => steps::fixed_back(steps::shift_ready(t), q),
+        Kind::Velocity(t) => steps::fixed_back(steps::velocity_ready(step, t), q),
+        Kind::BursaWolf(t) => steps::turn_back(steps::bursa_wolf_ready(step, t), q),
+        Kind::Frame => steps::scale_back(steps::frame_ready(step), q),
+    }
 }
 
 // The point at another realization and position: its label passes through.

@@ -1,4 +1,4 @@
-// A fraction over 10^11 or 10^14 to the nearest whole number by one division of u = n + lift, which is no signed number: the lift is a multiple of the divisor
+// A fraction over 1,000, 10^11 or 10^14 to the nearest whole number by one division of u = n + lift, which is no signed number: the lift is a multiple of the divisor
 // that no part reaches, and half the divisor. The quotient is the fraction rounded, a half up; only where nothing is left over is it a half, and then
 // `rounding::quotient::settled` decides.
 ghost use mathlib.Core.Path.{_≡_};
@@ -47,4 +47,15 @@ pub fn over14(n: i64) -> i64
     let q = u / 100000000000000;
     let t = lowered(0, q, 80000);
     rounding::quotient::settled(t, u == q * 100000000000000)
+}
+
+// n/1000, a half to the even number. Its lift is small, so that the sum is made as it stands.
+pub fn over3(n: i64) -> i64
+    requires { ⌜ natAbs n ≤ 2000000000 ⌝ }
+    ensures { λ r. ⌜ r ≡ mixed toEven (pos 0) n (pos 1000) ⌝ }
+{
+    let u = (n + 2000000500) as u64;
+    let q = u / 1000;
+    let t = lowered(0, q, 2000000);
+    rounding::quotient::settled(t, u == q * 1000)
 }

@@ -3,13 +3,10 @@ use mathlib.Core.Path.{_≡_, sym, _∙_, ap, ap₂}
 use Prim.Native.Nat.{_≤_}
 use lib.IntN.{ℤ, natAbs}
 use Rattle.rounding.proofs.Machine.{told, rd, to₂}
-use Rattle.chain.specs.declared.Kind.{Kind}
 use Rattle.chain.specs.Faults.{kindRange}
 use Rattle.chain.specs.Parts.{byConvention, rotation11, scaledRotation}
-use Rattle.chain.specs.Ready.{readyKind}
 use Rattle.chain.proofs.Sizes.{bursa-wolf-ok}
 use Rattle.chain.proofs.Prepared.{turn-same}
-use Rattle.chain.specs.declared.steps.Ready.the-variants.{Turned}
 use Rattle.chain.proofs.Sizes.{BursaWolfOk}
 use Rattle.chain.proofs.steps.bursa_wolf_ready.Statement.{statement}
 use Rattle.chain.proofs.steps.bursa_wolf_ready.Tie as tie
@@ -41,7 +38,6 @@ turned-requires-3 c κs =
     in-range (told {z = t .rz} (c .before .struct-told5 .given .1 .1 .1 .1 .1 .1 .0 .1)) (told {z = t .s} (c .struct-told6 .given .1 .1 .1 .1 .1 .1 .1 .0 .1)) (o .rz) (o .s)
 
 returns : tie.Need-returns
-unfolding readyKind
 returns c =
     let s = c .before .before .before .before .before .before .before .before .before .before in
     let t = c .before .before .before .before .before .before .before .before .before .struct-told .given in
@@ -53,7 +49,7 @@ returns c =
     let rx = rd (record { sfits = c .before .before .before .before .before .before .before .turned .ok }) ∙ c .before .before .before .before .before .before .before .turned .ensures ∙ ap₂ by (told (t .1 .1 .1 .1 .0 .1)) sc in
     let ry = rd (record { sfits = c .before .before .before .before .turned2 .ok }) ∙ c .before .before .before .before .turned2 .ensures ∙ ap₂ by (told (t .1 .1 .1 .1 .1 .0 .1)) sc in
     let rz = rd (record { sfits = c .before .turned3 .ok }) ∙ c .before .turned3 .ensures ∙ ap₂ by (told (t .1 .1 .1 .1 .1 .1 .0 .1)) sc in
-    ap Turned (turn-same dx dy dz rx ry rz sc) ∙ ap (λ (k : Kind). readyKind k (s .args .step .before) (s .args .step .after)) (sym (s .pre .1))
+    turn-same dx dy dz rx ry rz sc
 
 pub bursa-wolf-ready-spec : {M : Type 1} → statement M
 bursa-wolf-ready-spec = tie.close (tie.spec turned-requires turned-requires-2 turned-requires-3 returns)

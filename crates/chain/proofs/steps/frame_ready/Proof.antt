@@ -1,5 +1,5 @@
 -- `chain::steps::frame_ready` meets its contract. Assumes nothing.
-use mathlib.Core.Path.{_≡_, refl, sym, _∙_, ap, subst}
+use mathlib.Core.Path.{_≡_, refl, _∙_, ap, subst}
 use mathlib.Core.List.{List}
 use Prim.Native.Nat.{ℕ, _+_, _<_, _≤_}
 use native.Mathlib.Omega.{arith}
@@ -16,10 +16,9 @@ use Rattle.chain.specs.declared.Kind.{Kind}
 use Rattle.chain.specs.Rows.{rowOf, figure}
 use Rattle.chain.specs.Parts.{atEpoch, shiftAt, scaleAt}
 use Rattle.chain.specs.Faults.{KindOk}
-use Rattle.chain.specs.Ready.{overOf, readyKind}
+use Rattle.chain.specs.Ready.{overOf}
 use Rattle.chain.proofs.Sizes.{frame-years, row-ok, RowOk, scale-at-size}
 use Rattle.chain.proofs.Prepared.{scale-same}
-use Rattle.chain.specs.declared.steps.Ready.the-variants.{Scaled}
 use Rattle.chain.proofs.steps.frame_ready.Statement.{statement}
 use Rattle.chain.proofs.steps.frame_ready.Tie as tie
 
@@ -134,19 +133,16 @@ sub-slope : tie.Need-sub-slope
 sub-slope c = fit0- (scale c) (down (c .before .before .before .before .before .before .before .before .before .before .before .before .before .before .before .before .before))
 
 returns : tie.Need-returns
-unfolding readyKind
 returns c =
     let c3 = c .before .before .before in
     let c6 = c3 .before .before .before in
     let c9 = c6 .before .before .before in
     let s = c .before .before .before .before .before .before .before .before .before .before .before .before .before .before .before .before .before in
     let r = c .before .before .before .before .before .before .before .before .before .before .before .before in
-    ap Scaled
-    (scale-same (rd (record { sfits = c9 .shift-over14 .ok }) ∙ c9 .shift-over14 .ensures ∙ shift-given r 0 (lit< tt))
+    scale-same (rd (record { sfits = c9 .shift-over14 .ok }) ∙ c9 .shift-over14 .ensures ∙ shift-given r 0 (lit< tt))
     (rd (record { sfits = c6 .shift-over142 .ok }) ∙ c6 .shift-over142 .ensures ∙ shift-given r 1 (lit< tt))
     (rd (record { sfits = c3 .shift-over143 .ok }) ∙ c3 .shift-over143 .ensures ∙ shift-given r 2 (lit< tt))
-    (rd0- (scale c) (down s)))
-    ∙ ap (λ (k : Kind). readyKind k (s .args .step .before) (s .args .step .after)) (sym (s .pre .1))
+    (rd0- (scale c) (down s))
 
 pub frame-ready-spec : {M : Type 1} → statement M
 frame-ready-spec = tie.close (tie.spec sub-dt row-requires array-copy-out-shift-over14 array-copy-out-shift-over14-2 shift-over14-requires array-copy-out-shift-over14-3 array-copy-out-shift-over14-4 shift-over14-requires-2 array-copy-out-shift-over14-5 array-copy-out-shift-over14-6 shift-over14-requires-3 array-copy-out-at-epoch array-copy-out-at-epoch-2 at-epoch-requires sub-slope returns)

@@ -1,5 +1,5 @@
 -- `chain::steps::velocity_ready` meets its contract. Assumes nothing.
-use mathlib.Core.Path.{_≡_, sym, _∙_, ap, ap₂, subst}
+use mathlib.Core.Path.{_≡_, _∙_, ap₂, subst}
 use Prim.Native.Nat.{_≤_}
 use lib.IntN.{ℤ, natAbs, _-ℤ_, _*ℤ_}
 use mir.Syntax.{w64}
@@ -8,11 +8,10 @@ use Rattle.rounding.proofs.Machine.{told, rd, fits, rd-, fit-, to₂, of₃}
 use lib.Dec.{lit<}
 use Rattle.chain.specs.declared.Kind.{Kind}
 use Rattle.chain.specs.Faults.{KindOk}
-use Rattle.chain.specs.Ready.{position, readyKind}
+use Rattle.chain.specs.Ready.{position}
 use Rattle.chain.specs.Parts.{stepRound}
 use Rattle.chain.proofs.Sizes.{velocity-ok, velocity-years}
 use Rattle.chain.specs.declared.Kind.the-variants.{Velocity}
-use Rattle.chain.specs.declared.steps.Ready.the-variants.{Fixed}
 use Rattle.chain.proofs.Sizes.{VelocityOk}
 use Rattle.chain.proofs.steps.velocity_ready.Statement.{statement}
 use Rattle.chain.proofs.steps.velocity_ready.Tie as tie
@@ -76,16 +75,13 @@ moved-requires-3 c κs =
     to₂ asked (vz s) (dt (c .before .before .before .before .before)) (ranges s .vz, few s)
 
 returns : tie.Need-returns
-unfolding readyKind
 returns c =
     let s = c .before .before .before .before .before .before .before .before .before .before .before .before in
     let y = dt (c .before .before .before .before .before .before) in
     let by : ℤ → ℤ → ℤ = λ u t. stepRound (u *ℤ t) 1000 in
-    ap Fixed
-    (of₃ position (rd (record { sfits = c .before .before .before .before .moved .ok }) ∙ c .before .before .before .before .moved .ensures ∙ ap₂ by (vx s) y)
+    of₃ position (rd (record { sfits = c .before .before .before .before .moved .ok }) ∙ c .before .before .before .before .moved .ensures ∙ ap₂ by (vx s) y)
     (rd (record { sfits = c .before .before .moved2 .ok }) ∙ c .before .before .moved2 .ensures ∙ ap₂ by (vy s) y)
-    (rd (record { sfits = c .moved3 .ok }) ∙ c .moved3 .ensures ∙ ap₂ by (vz s) y))
-    ∙ ap (λ (k : Kind). readyKind k (s .args .step .before) (s .args .step .after)) (sym (s .pre .1))
+    (rd (record { sfits = c .moved3 .ok }) ∙ c .moved3 .ensures ∙ ap₂ by (vz s) y)
 
 pub velocity-ready-spec : {M : Type 1} → statement M
 velocity-ready-spec = tie.close (tie.spec sub-dt moved-requires moved-requires-2 moved-requires-3 returns)

@@ -1,11 +1,12 @@
 // The rows of a prepared chain: a step's figures as eight numbers, and back. The caller's numbers can be anything, so a row says whether a step can have given it.
 ghost use mathlib.Core.Path.{_≡_};
+ghost use mathlib.Core.Bool.{false, _&&_};
 ghost use mathlib.Core.List.{[], _∷_};
 ghost use Prim.Native.Nat.{_*_, _<_};
 ghost use lib.Seq.{sets};
 ghost use Rattle.chain.specs.Axes.{Small};
 ghost use Rattle.chain.specs.Ready.{readyParts};
-ghost use Rattle.chain.specs.Prepared.{numbersOf, readyOf, readyAt, readyRange, rowAt, Stepped};
+ghost use Rattle.chain.specs.Prepared.{numbersOf, formRange, readyOf, readyAt, readyRange, rowAt, Stepped};
 use crate::Position;
 use crate::Prepared;
 use crate::steps;
@@ -123,33 +124,90 @@ pub(crate) fn row_at(numbers: &Prepared, index: usize) -> Row
     }
 }
 
-// A step forward, if no figure is larger than any step gives.
-fn stepped(r: Ready, p: Position) -> Moved
-    requires { ⌜ Small 640000000000 p ⌝ }
-    ensures { λ m. ⌜ Stepped (readyRange r) (readyParts r) p m ⌝ }
+// A row that no step gives leads nowhere.
+fn nowhere(p: Position) -> Moved
+    ensures { λ m. ⌜ m .good ≡ false ⌝ }
 {
-    if !ready_in_range(r) {
-        return Moved {
-            good: false,
-            position: p,
-        };
-    }
     Moved {
-        good: true,
-        position: steps::forward_ready(r, p),
+        good: false,
+        position: p,
     }
 }
 
-// The same. The form is known in each arm, so that it is asked for once, and not by the ranges and by the gain again.
-fn stepped_by_form(r: Ready, p: Position) -> Moved
+// Where a gain that is the same everywhere leads, if it is no larger than any step gives.
+fn fixed_moved(g: Position, p: Position) -> Moved
     requires { ⌜ Small 640000000000 p ⌝ }
-    ensures { λ m. ⌜ Stepped (readyRange r) (readyParts r) p m ⌝ }
+    ensures { λ m. ⌜ Stepped (readyRange (Ready.Fixed g)) (readyParts (Ready.Fixed g)) p m ⌝ }
 {
-    match r {
-        Ready::Fixed(g) => stepped(Ready::Fixed(g), p),
-        Ready::Turned(t) => stepped(Ready::Turned(t), p),
-        Ready::Scaled(t) => stepped(Ready::Scaled(t), p),
+    if !fixed_in_range(g) {
+        return nowhere(p);
     }
+    Moved {
+        good: true,
+        position: steps::fixed_forward(g, p),
+    }
+}
+
+fn turn_moved(t: Turn, p: Position) -> Moved
+    requires { ⌜ Small 640000000000 p ⌝ }
+    ensures { λ m. ⌜ Stepped (readyRange (Ready.Turned t)) (readyParts (Ready.Turned t)) p m ⌝ }
+{
+    if !turn_in_range(t) {
+        return nowhere(p);
+    }
+    Moved {
+        good: true,
+        position: steps::turn_forward(t, p),
+    }
+}
+
+fn scale_moved(t: Scale, p: Position) -> Moved
+    requires { ⌜ Small 640000000000 p ⌝ }
+    ensures { λ m. ⌜ Stepped (readyRange (Ready.Scaled t)) (readyParts (Ready.Scaled t)) p m ⌝ }
+{
+    if !scale_in_range(t) {
+        return nowhere(p);
+    }
+    Moved {
+        good: true,
+        position: steps::scale_forward(t, p),
+    }
+}
+
+// Where eight numbers lead. The form is asked for once, and not by the ranges and by the gain again.
+fn moved_by(form: i64, a: i64, b: i64, c: i64, d: i64, e: i64, f: i64, g: i64, p: Position) -> Moved
+    requires { ⌜ Small 640000000000 p ⌝ }
+    ensures { λ m. ⌜ Stepped (formRange form && readyRange (readyOf form a b c d e f g)) (readyParts (readyOf form a b c d e f g)) p m ⌝ }
+{
+    if !ranges::within(FIXED, form, SCALED) {
+        return nowhere(p);
+    }
+    if ranges::equal(FIXED, form) {
+        return fixed_moved(Position { x: a, y: b, z: c }, p);
+    }
+    if ranges::equal(TURNED, form) {
+        return turn_moved(
+            Turn {
+                dx: a,
+                dy: b,
+                dz: c,
+                rx: d,
+                ry: e,
+                rz: f,
+                s: g,
+            },
+            p,
+        );
+    }
+    scale_moved(
+        Scale {
+            kx: a,
+            ky: b,
+            kz: c,
+            slope: d,
+        },
+        p,
+    )
 }
 
 // A row's step forward, if a step can have given the row.
@@ -158,14 +216,17 @@ pub(crate) fn forward_row(numbers: &Prepared, index: usize, p: Position) -> Move
     ensures { λ m. ⌜ Stepped (rowAt (now (numbers .entry)) index .good) (readyParts (rowAt (now (numbers .entry)) index .ready)) p m ⌝ }
 {
     let at = 8 * index;
-    let form = numbers[at];
-    if !ranges::within(FIXED, form, SCALED) {
-        return Moved {
-            good: false,
-            position: p,
-        };
-    }
-    stepped_by_form(ready_at(numbers, index), p)
+    moved_by(
+        numbers[at],
+        numbers[at + 1],
+        numbers[at + 2],
+        numbers[at + 3],
+        numbers[at + 4],
+        numbers[at + 5],
+        numbers[at + 6],
+        numbers[at + 7],
+        p,
+    )
 }
 
 // Eight numbers into a row.

@@ -1,5 +1,6 @@
 pub mod Answered
 pub mod AtOrigin
+pub mod Codes
 pub mod Finite
 pub mod Formulas
 pub mod GeodeticFinite

@@ -2,52 +2,45 @@
 ghost use mathlib.Core.Path.{_≡_};
 ghost use Rattle.angle.specs.Ellipsoids.{figureOf, ellipsoidOf, primeVertical, arcWith, meridianArc};
 use crate::Ellipsoid;
-use crate::Figure;
 use elementary::sine;
 
-// Codes 1 to 4: GRS80, WGS84, Everest 1830 Modified, Everest 1967.
-const ELLIPSOIDS: [Figure; 4] = [
-    Figure {
-        a: 6378137.0,
-        inverse_flattening: 298.257222101,
-    },
-    Figure {
-        a: 6378137.0,
-        inverse_flattening: 298.257223563,
-    },
-    Figure {
-        a: 6377304.063,
-        inverse_flattening: 300.8017,
-    },
-    Figure {
-        a: 6377298.556,
-        inverse_flattening: 300.8017,
-    },
-];
+// Codes 1 to 4: GRS80, WGS84, Everest 1830 Modified, Everest 1967. Any other code has values that nobody uses: its caller refuses the code. A constant array would be
+// stored anew at each call and each flattening divided; what a match answers is read from a table.
 
-// The row of a code from 1 to 4. Any other code has a row of zeros, which nobody uses: its caller refuses the code.
-fn figure(code: i64) -> Figure
-    ensures { λ r. ⌜ r ≡ figureOf code ⌝ }
+// The semi-major axis of a code, in metres.
+fn axis(code: i64) -> f64
+    ensures { λ r. ⌜ r ≡ figureOf code .a ⌝ }
 {
-    if !ranges::is_ellipsoid(code) {
-        return Figure {
-            a: 0.0,
-            inverse_flattening: 0.0,
-        };
+    match code {
+        1 => 6378137.0,
+        2 => 6378137.0,
+        3 => 6377304.063,
+        4 => 6377298.556,
+        _ => 0.0,
     }
-    let table = ELLIPSOIDS;
-    let i = (code - 1) as usize;
-    table[i]
+}
+
+// The flattening of a code.
+fn flattening(code: i64) -> f64
+    ensures { λ r. ⌜ r ≡ ellipsoidOf code .f ⌝ }
+{
+    match code {
+        1 => 1.0 / 298.257222101,
+        2 => 1.0 / 298.257223563,
+        3 => 1.0 / 300.8017,
+        4 => 1.0 / 300.8017,
+        _ => 1.0 / 0.0,
+    }
 }
 
 // The ellipsoid of a code from 1 to 4. Any other code has an ellipsoid of no use, which its caller refuses.
 pub fn ellipsoid(code: i64) -> Ellipsoid
     ensures { λ r. ⌜ r ≡ ellipsoidOf code ⌝ }
 {
-    let row = figure(code);
-    let f = 1.0 / row.inverse_flattening;
+    let a = axis(code);
+    let f = flattening(code);
     Ellipsoid {
-        a: row.a,
+        a,
         f,
         e2: f * (2.0 - f),
     }

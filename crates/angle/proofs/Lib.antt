@@ -1,4 +1,5 @@
 pub mod Answered
+pub mod Arcs
 pub mod AtOrigin
 pub mod Codes
 pub mod Finite
@@ -7,6 +8,7 @@ pub mod GeodeticFinite
 pub mod GeodeticFormulas
 pub mod GeodeticVectors
 pub mod Made
+pub mod NoFault
 pub mod Outcomes
 pub mod UnitLaws
 pub mod Sizes

@@ -1,6 +1,7 @@
 pub mod Lines
 pub mod Walk
 pub mod Numbers
+pub mod NameBytes
 pub mod Names
 pub mod Answers
 pub mod Capped

@@ -20,3 +20,4 @@ pub mod WrittenNames
 pub mod Clean
 pub mod Back
 pub mod Ahead
+pub mod Counted

@@ -10,6 +10,8 @@ ghost use lib.IntN.{pos, negℤ};
 ghost use Rattle.line.specs.Number.{digits, plain, numberOf};
 ghost use Rattle.line.specs.Reading.{Got, capped, cappedZ, cap, Long, Sized, Digits, Say, Carried};
 
+pub mod counted;
+
 const CAP: u64 = 10000000000000;
 // One digit more on a number below this is still far from wrapping.
 const ROOM: u64 = 100000000000000000;

@@ -21,3 +21,4 @@ pub mod Clean
 pub mod Back
 pub mod Ahead
 pub mod Counted
+pub mod Words

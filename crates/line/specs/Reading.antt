@@ -93,6 +93,19 @@ pub record Digits (k : ℕ) (s : List ℕ) (p : ℕ) : Type 0 where
   pub low : (i : ℕ) → i < k → zeroByte ≤ getD s (p + i) 0
   pub high : (i : ℕ) → i < k → getD s (p + i) 0 ≤ nineByte
 
+-- k numbers below 256 as one, the first lowest
+unfoldable pub together : ℕ → (ℕ → ℕ) → ℕ
+together zero f = 0
+together (suc k) f = together k (λ i. f (suc i)) * 256 + f 0
+
+abbrev pub byteFrom : List ℕ → ℕ → ℕ → ℕ
+byteFrom s p i = getD s (p + i) 0
+
+-- w is the eight bytes from p on
+pub record Word (s : List ℕ) (p w : ℕ) : Type 0 where
+  pub is : w ≡ together 8 (byteFrom s p)
+  pub small : (i : ℕ) → getD s i 0 < 256
+
 -- a field of k digits from place p on, with a tab after it
 pub record Alone (k : ℕ) (s : List ℕ) (p : ℕ) : Type 0 where
   pub inside : p + k < length s

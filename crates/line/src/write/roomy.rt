@@ -82,7 +82,7 @@ fn up_to_eight(out: &mut [u8], at: usize, n: u64) -> usize
     }
 }
 
-// A number of nine digits or more, by what stands before its last eight digits and by these. Few have more than twelve: they are no part of what writes the others.
+// A number of nine digits or more, by what stands before its last eight digits and by these. Few have more than twelve, so this is apart from the others.
 fn very_long(out: &mut [u8], at: usize, high: u64, low: u64) -> usize
     requires { ⌜ (high < 1000000000000) × (low < 100000000) × (at + 20 ≤ length (now out)) ⌝ }
     ensures { λ r. ⌜ Put 20 (now (out .entry)) at (decimal high ++ eight low) (now (out .exit)) r ⌝ }

@@ -9,7 +9,7 @@ use native.Mathlib.Decide.{ℕ-discrete}
 use native.Mathlib.Nat.{add-zero}
 use native.Mathlib.Omega.{arith}
 use Rattle.line.specs.Number.{digits, plain, numberOf}
-use Rattle.line.specs.Reading.{Got, itself, empty, capped, cappedZ, cap, Digits, Say, Alone}
+use Rattle.line.specs.Reading.{Got, itself, empty, capped, cappedZ, cap, Digits, Say, Alone, Led}
 use Rattle.line.proofs.Walk as W
 use Rattle.line.proofs.Numbers as N
 use Rattle.line.proofs.Ahead as L
@@ -35,6 +35,16 @@ single s p a b =
       low = λ i h. (let q : p ≡ p + i = omega arith in rw (← q) a);
       high = λ i h. (let q : p ≡ p + i = omega arith in rw (← q) b);
     }
+
+-- ---- two
+two-say : (s : List ℕ) (p : ℕ) → p + 2 ≤ length s → Digits 2 s p → Say 2 100 s p (getD s p 0 * 10 + getD s (p + 1) 0 - 528)
+two-say s p h d =
+    let l : 48 ≤ getD s p 0 = rw add-zero at (d .low 0 (omega arith)) in
+    let e : (getD s p 0 - 48) * 10 + (getD s (p + 1) 0 - 48) ≡ getD s p 0 * 10 + getD s (p + 1) 0 - 528 = omega (arith, l, d .low 1 (omega arith)) in
+    rw e at (L.both 10 10 (L.digit s p (omega arith) (L.sooner 1 1 d)) (L.digit s (p + 1) (omega arith) (L.later 1 1 d)))
+
+pub double : (s : List ℕ) (p : ℕ) → 48 ≤ getD s p 0 → getD s p 0 ≤ 57 → 48 ≤ getD s (p + 1) 0 → getD s (p + 1) 0 ≤ 57 → Digits 2 s p
+double s p a b c d = L.joined 1 1 s p (single s p a b) (single s (p + 1) c d)
 
 -- ---- a whole field
 pub first-low : {k : ℕ} {s : List ℕ} {p : ℕ} → Alone k s p → 0 < k → 48 ≤ getD s p 0
@@ -78,3 +88,8 @@ several k scale {s} {at} {v} {next} y a p g c z =
     let lo = first-low a p in
     let hi = first-high a p in
     N.above h (unspared (closing k scale y a g c) h (omega arith) hi) (λ q. omega arith)
+
+pub two-digits : {s : List ℕ} {at next : ℕ} → Alone 2 s at → Led s at → Got s itself empty (at + 2) tt next → Got s cappedZ numberOf at (pos (getD s at 0 * 10 + getD s (at + 1) 0 - 528)) next
+two-digits {s} {at} {next} a l g =
+    let y = two-say s at (omega (arith, a .inside)) (a .digits) in
+    several 2 100 y a (omega arith) g (omega (arith, y .less)) l

@@ -112,6 +112,10 @@ pub record Alone (k : ℕ) (s : List ℕ) (p : ℕ) : Type 0 where
   pub tab : getD s (p + k) 0 ≡ tab
   pub digits : Digits k s p
 
+-- the byte at p is not the digit 0
+abbrev pub Led : List ℕ → ℕ → Type 0
+Led s p = getD s p 0 ≡ zeroByte → ⊥
+
 -- what the digits from p on, after a, are told as is told of those from q on, after b
 abbrev pub Onto : List ℕ → ℕ → ℕ → ℕ → ℕ → Type 0
 Onto s p a q b = (v next : ℕ) → Got s capped (digits b) q v next → Got s capped (digits a) p v next

@@ -5,6 +5,7 @@ use crate::field::letter;
 use crate::name::name;
 use crate::number::counted::of_one;
 use crate::number::counted::of_seven;
+use crate::number::counted::of_two;
 use crate::number::number;
 use crate::second_look::fault_of;
 ghost use mathlib.Core.Path.{_≡_};
@@ -26,7 +27,7 @@ fn point_fields(s: &[u8]) -> PointFields
     let at = letter(s, 0, b'P');
     let named = name(s, at);
     let id = named.id;
-    let issue = number(s, named.next);
+    let issue = of_two(s, named.next);
     let order = of_one(s, issue.next);
     let datum = of_one(s, order.next);
     let epoch = of_seven(s, datum.next);

@@ -14,7 +14,7 @@ ghost use mathlib.Core.Bool.{true};
 ghost use Prim.Native.Nat.{_+_, _≤_};
 ghost use lib.ListN.{length};
 ghost use Rattle.line.specs.Number.{numberOf};
-ghost use Rattle.line.specs.Reading.{Got, cappedZ, Digits, Say, Alone};
+ghost use Rattle.line.specs.Reading.{Got, cappedZ, Digits, Say, Alone, Led};
 
 // One digit and a tab?
 fn one_alone(s: &[u8], at: usize) -> bool
@@ -30,6 +30,33 @@ fn one_alone(s: &[u8], at: usize) -> bool
         return false;
     }
     let b = s[at];
+    if b < ZERO {
+        return false;
+    }
+    b <= NINE
+}
+
+// Two digits with no 0 in front, and a tab?
+fn two_alone(s: &[u8], at: usize) -> bool
+    ensures { λ r. ⌜ (r ≡ true → Alone 2 (now (s .entry)) at × Led (now (s .entry)) at) ⌝ }
+{
+    if s.len() < 3 {
+        return false;
+    }
+    if s.len() - 3 < at {
+        return false;
+    }
+    if s[at + 2] != TAB {
+        return false;
+    }
+    let a = s[at];
+    if a <= ZERO {
+        return false;
+    }
+    if NINE < a {
+        return false;
+    }
+    let b = s[at + 1];
     if b < ZERO {
         return false;
     }
@@ -73,6 +100,19 @@ pub fn of_one(s: &[u8], at: usize) -> Integer
         };
     }
     number(s, at)
+}
+
+// The number in the field at `at`: an issue, which mostly has two digits or one.
+pub fn of_two(s: &[u8], at: usize) -> Integer
+    ensures { λ r. ⌜ Got (now (s .entry)) cappedZ numberOf at (r .value) (r .next) ⌝ }
+{
+    if two_alone(s, at) {
+        return Integer {
+            value: above_zero(wide(s[at]) * 10 + wide(s[at + 1]) - 528),
+            next: closed(s, at + 2),
+        };
+    }
+    of_one(s, at)
 }
 
 // The number in the field at `at`: an epoch, which mostly has seven digits.

@@ -59,7 +59,7 @@ pub sooner : (j k : ℕ) {s : List ℕ} {p : ℕ} → Digits (j + k) s p → Dig
 sooner j k d = record { low = λ i h. d .low i (omega arith); high = λ i h. d .high i (omega arith) }
 
 -- ---- one digit, and several
-digit : (s : List ℕ) (p : ℕ) → p < length s → Digits 1 s p → Say 1 10 s p (getD s p 0 - 48)
+pub digit : (s : List ℕ) (p : ℕ) → p < length s → Digits 1 s p → Say 1 10 s p (getD s p 0 - 48)
 digit s p h d =
     let l : 48 ≤ getD s p 0 = rw add-zero at (d .low 0 (omega arith)) in
     let m : getD s p 0 ≤ 57 = rw add-zero at (d .high 0 (omega arith)) in

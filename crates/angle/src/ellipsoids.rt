@@ -3,21 +3,42 @@ ghost use mathlib.Core.Path.{_≡_};
 ghost use Rattle.angle.specs.Ellipsoids.{figureOf, ellipsoidOf, primeVertical, arcWith, meridianArc};
 ghost use Rattle.angle.specs.Terms.{termsOf};
 use crate::Ellipsoid;
+use crate::Figure;
 use crate::Terms;
 use elementary::sine;
 
-// Codes 1 to 4: GRS80, WGS84, Everest 1830 Modified, Everest 1967. Any other code has values that nobody uses: its caller refuses the code.
-// A constant array would be stored anew at each call and each flattening divided; what a match answers is read from a table.
+// Codes 1 to 4: GRS80, WGS84, Everest 1830 Modified, Everest 1967.
+const ELLIPSOIDS: [Figure; 4] = [
+    Figure {
+        a: 6378137.0,
+        inverse_flattening: 298.257222101,
+    },
+    Figure {
+        a: 6378137.0,
+        inverse_flattening: 298.257223563,
+    },
+    Figure {
+        a: 6377304.063,
+        inverse_flattening: 300.8017,
+    },
+    Figure {
+        a: 6377298.556,
+        inverse_flattening: 300.8017,
+    },
+];
+
+// Of the table each arm takes a row that is known, so that the compiler works it out: by an index it would store the table anew at each call, and divide. A code that is
+// not of the table has values that nobody uses: its caller refuses the code.
 
 // The semi-major axis of a code, in metres.
 fn axis(code: i64) -> f64
     ensures { λ r. ⌜ r ≡ figureOf code .a ⌝ }
 {
     match code {
-        1 => 6378137.0,
-        2 => 6378137.0,
-        3 => 6377304.063,
-        4 => 6377298.556,
+        1 => ELLIPSOIDS[0].a,
+        2 => ELLIPSOIDS[1].a,
+        3 => ELLIPSOIDS[2].a,
+        4 => ELLIPSOIDS[3].a,
         _ => 0.0,
     }
 }
@@ -27,10 +48,10 @@ fn flattening(code: i64) -> f64
     ensures { λ r. ⌜ r ≡ ellipsoidOf code .f ⌝ }
 {
     match code {
-        1 => 1.0 / 298.257222101,
-        2 => 1.0 / 298.257223563,
-        3 => 1.0 / 300.8017,
-        4 => 1.0 / 300.8017,
+        1 => 1.0 / ELLIPSOIDS[0].inverse_flattening,
+        2 => 1.0 / ELLIPSOIDS[1].inverse_flattening,
+        3 => 1.0 / ELLIPSOIDS[2].inverse_flattening,
+        4 => 1.0 / ELLIPSOIDS[3].inverse_flattening,
         _ => 1.0 / 0.0,
     }
 }

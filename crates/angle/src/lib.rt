@@ -27,7 +27,7 @@ pub struct Ellipsoid {
     pub e2: f64,
 }
 
-// A row of the table of ellipsoids, as the definitions have it: the semi-major axis in metres, and 1/f.
+// A row of the table of ellipsoids: the semi-major axis in metres, and 1/f.
 struct Figure {
     a: f64,
     inverse_flattening: f64,

@@ -1,5 +1,6 @@
 -- `angle::ellipsoids::flattening` meets its contract: each literal is the f64 nearest to the printed 1/f, which antt computes. Assumes nothing.
 use mathlib.Core.Path.{_≡_, refl, ap, _∙_}
+use borrow.Author.Needs.{needs}
 use Prim.Native.Nat.{ℕ}
 use lib.IntN.{ℤ, pos}
 use lib.Ieee.{Float, binary64, ofBits, round}
@@ -33,6 +34,18 @@ zero-is : f64 0x3ff0_0000_0000_0000 ⊘ f64 0 ≡ shape (row (# 0) (# 0)) .f
 unfolding shape round ofBits
 zero-is = refl
 
+element-copy-out-result : tie.Need-element-copy-out-result
+element-copy-out-result c = search needs
+
+element-copy-out-result-2 : tie.Need-element-copy-out-result-2
+element-copy-out-result-2 c = search needs
+
+element-copy-out-result-3 : tie.Need-element-copy-out-result-3
+element-copy-out-result-3 c = search needs
+
+element-copy-out-result-4 : tie.Need-element-copy-out-result-4
+element-copy-out-result-4 c = search needs
+
 returns : tie.Need-returns
 returns c = grs80 ∙ ap (λ (y : ℤ). ellipsoidOf y .f) (code-is (c .before .args .code) 1 (c .before .fits .code) (c .match .keys1))
 
@@ -52,4 +65,15 @@ returns-5 c =
     zero-is ∙ ap (λ (r : Figure). shape r .f) (no-row (c .before .args .code) (r .0 .0 .0 .1) (r .0 .0 .1) (r .0 .1) (r .1))
 
 pub flattening-spec : {M : Type 1} → statement M
-flattening-spec = tie.close (tie.spec returns returns-2 returns-3 returns-4 returns-5)
+flattening-spec =
+    tie.close
+    (tie.spec
+    element-copy-out-result
+    element-copy-out-result-2
+    element-copy-out-result-3
+    element-copy-out-result-4
+    returns
+    returns-2
+    returns-3
+    returns-4
+    returns-5)

@@ -58,8 +58,8 @@ fn apart_radians(longitude: i64, origin: i64) -> f64
     radians((longitude - origin) as f64)
 }
 
-// The meridian's length to an origin's latitude. Two functions call it, so that the compiler leaves it a function: as a part of a single call it
-// would be worked out side by side with that of the point, which then waits for it.
+// The meridian's length to an origin's latitude. It stands apart from `made`, which the compiler then puts into its callers: with it, a single
+// call got its origin through memory.
 fn origin_arc(code: i64, latitude: i64) -> f64
     requires { ⌜ latitudeRange latitude ≡ true ⌝ }
     ensures { λ r. ⌜ r ≡ meridianArc (ellipsoidOf code) (Units·radians latitude) ⌝ }

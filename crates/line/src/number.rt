@@ -8,7 +8,7 @@ ghost use Prim.Native.Nat.{_+_, _≤_, _<_};
 ghost use lib.ListN.{length};
 ghost use lib.IntN.{pos, negℤ};
 ghost use Rattle.line.specs.Number.{digits, plain, numberOf};
-ghost use Rattle.line.specs.Reading.{Got, capped, cappedZ, cap, Long, Sized, Digits, Word, Say, Carried};
+ghost use Rattle.line.specs.Reading.{Got, capped, cappedZ, cap, Long, Sized, Digits, Word, Onto, Say, Carried};
 
 pub mod counted;
 
@@ -158,12 +158,39 @@ fn ahead(s: &[u8], at: usize, first: u64) -> Natural
     }
 }
 
+// Up to four digits more, which stay below the cap: with no test of it, and in a row in the compiled code.
+fn few(s: &[u8], at: usize, first: u64) -> Natural
+    requires { ⌜ first < 1000000000 ⌝ }
+    ensures { λ r. ⌜ Onto (now (s .entry)) at first (r .next) (r .value) × (r .value < 10000000000000) ⌝ }
+{
+    let mut a = first;
+    let mut i = at;
+    let mut left: u64 = 4;
+    while 0 < left {
+        if s.len() <= i {
+            break;
+        }
+        let b = s[i];
+        if b < ZERO {
+            break;
+        }
+        if NINE < b {
+            break;
+        }
+        a = a * 10 + (wide(b) - 48);
+        i = i + 1;
+        left = left - 1;
+    }
+    Natural { value: a, next: i }
+}
+
 // The digits from `at` to the field's end, after a first digit.
 fn magnitude(s: &[u8], at: usize, first: u64) -> Natural
     requires { ⌜ first < 10 ⌝ }
     ensures { λ r. ⌜ Sized (now (s .entry)) (digits first) at (r .value) (r .next) ⌝ }
 {
-    let begun = ahead(s, at, first);
+    let nine = ahead(s, at, first);
+    let begun = few(s, nine.next, nine.value);
     let mut a = begun.value;
     let mut i = begun.next;
     while i < s.len() {

@@ -1,11 +1,14 @@
 pub mod Answered
+pub mod Arcs
 pub mod AtOrigin
+pub mod Codes
 pub mod Finite
 pub mod Formulas
 pub mod GeodeticFinite
 pub mod GeodeticFormulas
 pub mod GeodeticVectors
 pub mod Made
+pub mod NoFault
 pub mod Outcomes
 pub mod UnitLaws
 pub mod Sizes

@@ -5,12 +5,13 @@ use native.Mathlib.Omega.{arith}
 use lib.IntN.{ℤ}
 use Rattle.refusal.specs.Order.{first, unless}
 use Rattle.angle.specs.Ranges.{originTests, pointTests, originFault}
-use Rattle.angle.specs.Cassini.{originMade, originOf, cassiniAt, cassiniFromOf, cassiniOf, cassiniMillimetresFromOf, cassiniMillimetresOf}
+use Rattle.angle.specs.Cassini.{originMade, originOf, cassiniAt, cassiniFromOf, cassiniOf, inMillimetres, cassiniMillimetresFromOf, cassiniMillimetresOf}
 use Rattle.angle.specs.declared.Origin.{Origin}
 use Rattle.angle.specs.declared.OriginNumbers.{OriginNumbers}
 use Rattle.angle.specs.declared.OriginAnswer.the-variants.{Made}
 use Rattle.angle.specs.declared.OriginAnswer.the-variants as answer
 use Rattle.angle.specs.declared.Projected.the-variants.{Refused}
+use Rattle.angle.specs.declared.ProjectedMillimetres.the-variants as millimetres
 use Rattle.refusal.proofs.Orders.{passed, stop, on, unless-some}
 
 -- a refusal has its number, and there is one; an origin that is made is the one that was asked, and there is no fault
@@ -39,6 +40,10 @@ module _ (o : OriginNumbers) (lat lon : ℤ) where
       ∙ ap (λ (f : ℕ). unless f Refused (cassiniAt (originMade o) lat lon)) (sym (on (originTests o) (pointTests (o .longitude) lat lon) (passed (originTests o) tt (p .0))))
 
   -- the same in whole millimetres
+  pub by-refusal-millimetres : (n : ℕ) → originOf o ≡ answer.Refused n → millimetres.Refused n ≡ cassiniMillimetresOf o lat lon
+  unfolding cassiniMillimetresOf inMillimetres
+  by-refusal-millimetres n h = ap inMillimetres (by-refusal n h)
+
   pub by-origin-millimetres : (x : Origin) → originOf o ≡ Made x → cassiniMillimetresFromOf x lat lon ≡ cassiniMillimetresOf o lat lon
   unfolding cassiniMillimetresFromOf cassiniMillimetresOf
   by-origin-millimetres x h = rw (by-origin x h)

@@ -33,6 +33,23 @@ struct Figure {
     inverse_flattening: f64,
 }
 
+// What an ellipsoid's e2 alone decides: the four factors of the meridian's length, and the second eccentricity squared.
+struct Terms {
+    m0: f64,
+    m2: f64,
+    m4: f64,
+    m6: f64,
+    second: f64,
+}
+
+// What a latitude alone decides: itself in radians, its sine and cosine, and the radius of curvature in the prime vertical there, in metres.
+struct Parallel {
+    phi: f64,
+    sine: f64,
+    cosine: f64,
+    nu: f64,
+}
+
 // A state origin as it is written: the ellipsoid's code (1 to 4), its latitude and longitude, its false easting and northing.
 pub struct OriginNumbers {
     pub ellipsoid: i64,

@@ -1,12 +1,12 @@
 -- Digits several at a time. Assumes nothing.
-use Prim.Native.Nat.{ℕ, _+_, _*_, _-_, _≤_, _<_}
+use Prim.Native.Nat.{ℕ, zero, suc, _+_, _*_, _-_, _^_, _≤_, _<_}
 use mathlib.Core.Path.{_≡_, refl, sym}
 use mathlib.Core.List.{List}
 use mathlib.Core.Bool.{Bool, true, false, not, _||_}
 use lib.Dec.{ltb}
 use lib.ListN.{length, getD}
 use native.Mathlib.Decide.{decLt}
-use native.Mathlib.Nat.{add-zero, mul-le-mul-right}
+use native.Mathlib.Nat.{add-zero, mul-le-mul-right, pow-suc}
 use native.Mathlib.Omega.{arith}
 use borrow.Author.Tests.{ltb-false}
 use Rattle.line.specs.Reading.{Digits, Say, Carried}
@@ -59,7 +59,7 @@ pub sooner : (j k : ℕ) {s : List ℕ} {p : ℕ} → Digits (j + k) s p → Dig
 sooner j k d = record { low = λ i h. d .low i (omega arith); high = λ i h. d .high i (omega arith) }
 
 -- ---- one digit, and several
-digit : (s : List ℕ) (p : ℕ) → p < length s → Digits 1 s p → Say 1 10 s p (getD s p 0 - 48)
+pub digit : (s : List ℕ) (p : ℕ) → p < length s → Digits 1 s p → Say 1 10 s p (getD s p 0 - 48)
 digit s p h d =
     let l : 48 ≤ getD s p 0 = rw add-zero at (d .low 0 (omega arith)) in
     let m : getD s p 0 ≤ 57 = rw add-zero at (d .high 0 (omega arith)) in
@@ -98,3 +98,21 @@ unmoved s p a h = record { same = λ v n g. g; small = h }
 
 pub carry : (x : ℕ) {k : ℕ} {s : List ℕ} {p a q b v : ℕ} → Carried s p a q b → Say k x s q v → b * x + v < 1000000000 → Carried s p a (q + k) (b * x + v)
 carry x {b = b} c d h = record { same = λ v n g. c .same v n (d .says b v n g); small = h }
+
+-- ---- up to four digits more, of which l are still to come
+pub grown : (l a d : ℕ) → 0 < l → l ≤ 4 → a < 10 ^ (13 - l) → d ≤ 9 → a * 10 + d < 10 ^ (13 - (l - 1))
+grown l a d h m b e =
+    let q : 13 - (l - 1) ≡ suc (13 - l) = omega arith in
+    let p = pow-suc 10 (13 - l) in
+    rw q (omega arith)
+
+most : (l : ℕ) → l ≤ 4 → 10 ^ (13 - l) ≤ 10000000000000
+most zero h = omega arith
+most (suc zero) h = omega arith
+most (suc (suc zero)) h = omega arith
+most (suc (suc (suc zero))) h = omega arith
+most (suc (suc (suc (suc zero)))) h = omega arith
+most (suc (suc (suc (suc (suc l))))) h = absurd (omega arith)
+
+pub below-cap : (l a : ℕ) → l ≤ 4 → a < 10 ^ (13 - l) → a < 10000000000000
+below-cap l a m b = omega (arith, most l m)

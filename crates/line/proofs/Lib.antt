@@ -1,6 +1,7 @@
 pub mod Lines
 pub mod Walk
 pub mod Numbers
+pub mod NameBytes
 pub mod Names
 pub mod Answers
 pub mod Capped
@@ -19,3 +20,5 @@ pub mod WrittenNames
 pub mod Clean
 pub mod Back
 pub mod Ahead
+pub mod Counted
+pub mod Words

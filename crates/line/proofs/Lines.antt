@@ -62,6 +62,13 @@ either {s} {p} {a = true} {b} j k f g e = let w : _≡_ {A = ℕ} 0 1 = cc in ab
 pub other : (s : List ℕ) (p : ℕ) → (getD s p 0 ≡ lineFeed → ⊥) → Clear 1 s p
 other s p e = one s p (ne-eqb (getD s p 0) lineFeed e)
 
+pub stands : (s : List ℕ) (p : ℕ) → Onward s p (p + 0)
+stands s p = record { ends = ap (lineEnd s) (add-zero p) }
+
+-- one byte more of k
+pub further : (s : List ℕ) (p k : ℕ) → Onward s p (p + k) → p + k < length s → (getD s (p + k) 0 ≡ lineFeed → ⊥) → Onward s p (p + (k + 1))
+further s p k o h e = let q : p + k + 1 ≡ p + (k + 1) = omega arith in rw q at (skip 1 s p (p + k) o (omega arith) (other s (p + k) e))
+
 pub onto : {s : List ℕ} {p q r : ℕ} → Onward s p q → Onward s q r → Onward s p r
 onto a b = record { ends = b .ends ∙ a .ends }
 

@@ -21,7 +21,7 @@ use Rattle.line.specs.declared.GridHeader.{GridHeader}
 use Rattle.line.specs.declared.Parts.{Parts}
 use Rattle.line.specs.Fields.{fields, front, head, Form, filled}
 use Rattle.line.specs.Name.{word, allNameBytes, isNameByte}
-use Rattle.line.specs.Bytes.{zeroByte, nineByte}
+use Rattle.line.specs.Bytes.{tab, zeroByte, nineByte}
 use Rattle.line.specs.Number.{digits}
 
 -- the fields of s from place `at` on; none past the end
@@ -92,6 +92,29 @@ Long s at next = (a : ℕ) → cap ≤ a → Got s capped (digits a) at cap next
 pub record Digits (k : ℕ) (s : List ℕ) (p : ℕ) : Type 0 where
   pub low : (i : ℕ) → i < k → zeroByte ≤ getD s (p + i) 0
   pub high : (i : ℕ) → i < k → getD s (p + i) 0 ≤ nineByte
+
+-- k numbers below 256 as one, the first lowest
+unfoldable pub together : ℕ → (ℕ → ℕ) → ℕ
+together zero f = 0
+together (suc k) f = together k (λ i. f (suc i)) * 256 + f 0
+
+abbrev pub byteFrom : List ℕ → ℕ → ℕ → ℕ
+byteFrom s p i = getD s (p + i) 0
+
+-- w is the eight bytes from p on
+pub record Word (s : List ℕ) (p w : ℕ) : Type 0 where
+  pub is : w ≡ together 8 (byteFrom s p)
+  pub small : (i : ℕ) → getD s i 0 < 256
+
+-- a field of k digits from place p on, with a tab after it
+pub record Alone (k : ℕ) (s : List ℕ) (p : ℕ) : Type 0 where
+  pub inside : p + k < length s
+  pub tab : getD s (p + k) 0 ≡ tab
+  pub digits : Digits k s p
+
+-- the byte at p is not the digit 0
+abbrev pub Led : List ℕ → ℕ → Type 0
+Led s p = getD s p 0 ≡ zeroByte → ⊥
 
 -- what the digits from p on, after a, are told as is told of those from q on, after b
 abbrev pub Onto : List ℕ → ℕ → ℕ → ℕ → ℕ → Type 0

@@ -1,4 +1,4 @@
-// Where the lines of an input end: sixteen bytes are passed at a time, then four, then one.
+// Where the lines of an input end: sixteen bytes are passed at a time, then one.
 use crate::field::LINE_FEED;
 ghost use mathlib.Core.Path.{_≡_};
 ghost use mathlib.Core.Bool.{false};
@@ -45,23 +45,6 @@ fn past_sixteens(input: &[u8], from: usize) -> usize
     place
 }
 
-// The same, less than four bytes on.
-fn past_fours(input: &[u8], from: usize) -> usize
-    ensures { λ r. ⌜ Onward (now (input .entry)) from r ⌝ }
-{
-    let mut place = from;
-    while place < input.len() {
-        if input.len() - place < 4 {
-            break;
-        }
-        if among_four(input, place) {
-            break;
-        }
-        place = place + 4;
-    }
-    place
-}
-
 // Where the line that goes on at `from` ends, a byte at a time.
 fn end_near(input: &[u8], from: usize) -> usize
     ensures { λ r. ⌜ r ≡ lineEnd (now (input .entry)) from ⌝ }
@@ -76,16 +59,30 @@ fn end_near(input: &[u8], from: usize) -> usize
     place
 }
 
+// The same where sixteen bytes are left: their number is fixed, so the compiler sets the sixteen tests in a row, with no test of the input's end between them.
+fn end_in_sixteen(input: &[u8], from: usize) -> usize
+    requires { ⌜ from + 16 ≤ length (now input) ⌝ }
+    ensures { λ r. ⌜ r ≡ lineEnd (now (input .entry)) from ⌝ }
+{
+    let mut clear: usize = 0;
+    while clear < 16 {
+        if input[from + clear] == LINE_FEED {
+            return from + clear + 1;
+        }
+        clear = clear + 1;
+    }
+    end_near(input, from + 16)
+}
+
 // Where the line that begins at `from` ends: past its line feed, or at the end of the input. At or past the end of the input it is `from` itself.
 pub fn line_end(input: &[u8], from: usize) -> usize
     ensures { λ r. ⌜ r ≡ lineEnd (now (input .entry)) from ⌝ }
 {
-    if from < input.len() {
-        if input[from] == LINE_FEED {
-            return from + 1;
+    let near = past_sixteens(input, from);
+    if near < input.len() {
+        if 16 <= input.len() - near {
+            return end_in_sixteen(input, near);
         }
     }
-    let near = past_sixteens(input, from);
-    let nearer = past_fours(input, near);
-    end_near(input, nearer)
+    end_near(input, near)
 }

@@ -5,6 +5,9 @@ ghost use mathlib.Core.Path.{_≡_};
 ghost use Rattle.line.specs.Name.{isNameByte, nameOf};
 ghost use Rattle.line.specs.Reading.{Got, Packed, itself};
 
+// The bytes of a name, each as the bit at its own place, less 64 from there on.
+const NAME_BYTES: u64 = 287984085681307646;
+
 // A name, and where the next field begins.
 pub struct Named {
     pub id: chain::Id,
@@ -23,22 +26,17 @@ fn wide(b: u8) -> u64
     b as u64
 }
 
+// By one bit for each byte from the hyphen to Z: fewer tests than by the three kinds of byte.
 fn is_name_byte(b: u8) -> bool
     ensures { λ r. ⌜ r ≡ isNameByte b ⌝ }
 {
-    if b == 45 {
-        return true;
-    }
-    if b < 48 {
+    if b < 45 {
         return false;
     }
-    if b <= 57 {
-        return true;
-    }
-    if b < 65 {
+    if 90 < b {
         return false;
     }
-    b <= 90
+    (NAME_BYTES >> (b % 64)) % 2 == 1
 }
 
 // The bytes of a name from `at` on, at most eight.

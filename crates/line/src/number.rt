@@ -8,7 +8,9 @@ ghost use Prim.Native.Nat.{_+_, _≤_, _<_};
 ghost use lib.ListN.{length};
 ghost use lib.IntN.{pos, negℤ};
 ghost use Rattle.line.specs.Number.{digits, plain, numberOf};
-ghost use Rattle.line.specs.Reading.{Got, capped, cappedZ, cap, Long, Sized, Digits, Say, Carried};
+ghost use Rattle.line.specs.Reading.{Got, capped, cappedZ, cap, Long, Sized, Digits, Word, Onto, Say, Carried};
+
+pub mod counted;
 
 const CAP: u64 = 10000000000000;
 // One digit more on a number below this is still far from wrapping.
@@ -19,6 +21,15 @@ const MINUS: u8 = 45;
 const ZERO: u8 = 48;
 
 const NINE: u8 = 57;
+
+// The digit 0 in each of eight bytes; 6 in each; the higher half of each; and every second byte.
+const ZEROS: u64 = 3472328296227680304;
+
+const SIXES: u64 = 434041037028460038;
+
+const HIGHER_HALVES: u64 = 17361641481138401520;
+
+const EVERY_SECOND: u64 = 71777214294589695;
 
 // A number with its sign, and where the next field begins.
 pub struct Integer {
@@ -76,11 +87,31 @@ fn other_four(s: &[u8], at: usize) -> bool
         | ((d < ZERO) | (NINE < d))
 }
 
+// Eight bytes as one number, the first lowest: one load in the compiled code.
+fn word(s: &[u8], at: usize) -> u64
+    requires { ⌜ at + 8 ≤ length (now s) ⌝ }
+    ensures { λ r. ⌜ Word (now (s .entry)) at r ⌝ }
+{
+    wide(s[at])
+        + wide(s[at + 1]) * 256
+        + wide(s[at + 2]) * 65536
+        + wide(s[at + 3]) * 16777216
+        + wide(s[at + 4]) * 4294967296
+        + wide(s[at + 5]) * 1099511627776
+        + wide(s[at + 6]) * 281474976710656
+        + wide(s[at + 7]) * 72057594037927936
+}
+
+// Is one of eight bytes no digit? A digit has 3 in its higher half, and still has with 6 more.
 fn other_eight(s: &[u8], at: usize) -> bool
     requires { ⌜ at + 8 ≤ length (now s) ⌝ }
     ensures { λ r. ⌜ (r ≡ false → Digits 8 (now (s .entry)) at) ⌝ }
 {
-    other_four(s, at) | other_four(s, at + 4)
+    let w = word(s, at);
+    if w & HIGHER_HALVES != ZEROS {
+        return true;
+    }
+    (w + SIXES) & HIGHER_HALVES != ZEROS
 }
 
 // What four digits say: what each byte is above the digit 0 is taken off once.
@@ -95,11 +126,15 @@ fn four(s: &[u8], at: usize) -> u64
     a * 1000 + b * 100 + c * 10 + d - 53328
 }
 
+// What eight digits say: side by side in one number, two become one of up to 99, then two of these one of up to 9999.
 fn eight(s: &[u8], at: usize) -> u64
     requires { ⌜ (at + 8 ≤ length (now s)) × Digits 8 (now s) at ⌝ }
     ensures { λ r. ⌜ Say 8 100000000 (now (s .entry)) at r ⌝ }
 {
-    four(s, at) * 10000 + four(s, at + 4)
+    let digits = word(s, at) - ZEROS;
+    let pairs = (digits * 10 + digits / 256) & EVERY_SECOND;
+    let fours = pairs * 100 + pairs / 65536;
+    fours % 65536 * 10000 + fours / 4294967296 % 65536
 }
 
 // The digits from `at` on, after a first digit: eight of them at once where there are eight, else none.
@@ -107,8 +142,8 @@ fn ahead(s: &[u8], at: usize, first: u64) -> Natural
     requires { ⌜ first < 10 ⌝ }
     ensures { λ r. ⌜ Carried (now (s .entry)) at first (r .next) (r .value) ⌝ }
 {
-    if at < s.len() {
-        if 8 <= s.len() - at {
+    if 8 <= s.len() {
+        if at <= s.len() - 8 {
             if !other_eight(s, at) {
                 return Natural {
                     value: first * 100000000 + eight(s, at),
@@ -123,12 +158,39 @@ fn ahead(s: &[u8], at: usize, first: u64) -> Natural
     }
 }
 
+// Up to four digits more, which stay below the cap: with no test of it, and in a row in the compiled code.
+fn few(s: &[u8], at: usize, first: u64) -> Natural
+    requires { ⌜ first < 1000000000 ⌝ }
+    ensures { λ r. ⌜ Onto (now (s .entry)) at first (r .next) (r .value) × (r .value < 10000000000000) ⌝ }
+{
+    let mut a = first;
+    let mut i = at;
+    let mut left: u64 = 4;
+    while 0 < left {
+        if s.len() <= i {
+            break;
+        }
+        let b = s[i];
+        if b < ZERO {
+            break;
+        }
+        if NINE < b {
+            break;
+        }
+        a = a * 10 + (wide(b) - 48);
+        i = i + 1;
+        left = left - 1;
+    }
+    Natural { value: a, next: i }
+}
+
 // The digits from `at` to the field's end, after a first digit.
 fn magnitude(s: &[u8], at: usize, first: u64) -> Natural
     requires { ⌜ first < 10 ⌝ }
     ensures { λ r. ⌜ Sized (now (s .entry)) (digits first) at (r .value) (r .next) ⌝ }
 {
-    let begun = ahead(s, at, first);
+    let nine = ahead(s, at, first);
+    let begun = few(s, nine.next, nine.value);
     let mut a = begun.value;
     let mut i = begun.next;
     while i < s.len() {

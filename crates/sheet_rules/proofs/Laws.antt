@@ -1,13 +1,13 @@
 -- What the chain says of a step is what the sheet says, and the state after a line holds the sheet after it. Assumes nothing.
-use mathlib.Core.Path.{_≡_, refl, sym, _∙_, ap}
+use mathlib.Core.Path.{_≡_, refl, sym, _∙_, ap, subst, subst⁻¹}
 use mathlib.Core.Bool.{Bool, true, false}
 use mathlib.Core.List.{List, [], _∷_, _++_}
 use Prim.Native.Nat.{ℕ, zero, suc, _+_, _<_}
 use native.Mathlib.Omega.{arith}
 use lib.IntN.{ℤ, pos}
 use lib.Dec.{eqb}
-use lib.ListN.{replicate, length, length-append}
-use borrow.Author.Tests.{eq-eqb, ne-eqb}
+use lib.ListN.{replicate, length, getD, length-append}
+use borrow.Author.Tests.{eq-eqb, eqb-true, ne-eqb}
 use Rattle.refusal.specs.Numbers as refusal
 use Rattle.refusal.specs.Order.{Test, first, unless}
 use Rattle.refusal.proofs.Orders.{unless-none, unless-some}
@@ -25,13 +25,16 @@ use Rattle.line.specs.declared.StepLine.{StepLine}
 use Rattle.line.specs.declared.EditionLine.the-variants as edition-line
 use Rattle.line.specs.declared.EditionLine.{EditionLine}
 use Rattle.line.specs.Bytes.{letterS, letterP, letterE}
-use Rattle.line.specs.Readers.{readStep, readEdition}
+use Rattle.line.specs.Readers.{readStep, readPoint, readEdition}
+use Rattle.line.specs.Text.{Wrote}
 use Rattle.listing.proofs.Fold.{by-letters}
 use Rattle.sheet_rules.specs.declared.State.{State}
+use Rattle.sheet_rules.specs.declared.Reply.{Reply}
 use Rattle.sheet_rules.specs.declared.Reply.the-variants as reply
 use Rattle.sheet_rules.specs.declared.Decided.{Decided}
-use Rattle.sheet_rules.specs.Sheet.{Sheet, fresh, nextOf, refuse, malformed, stepTests, stepReply, afterStep, withStep, withoutStep, editionTests, editionReply, afterEdition, withEdition}
-use Rattle.sheet_rules.specs.State.{Holds, Gave, afterIn, refusedIn}
+use Rattle.sheet_rules.specs.declared.Printed.{Printed}
+use Rattle.sheet_rules.specs.Sheet.{Sheet, fresh, replyText, replyOf, nextOf, pointReply, afterPoint, refuse, malformed, stepTests, stepReply, afterStep, withStep, withoutStep, editionTests, editionReply, afterEdition, withEdition}
+use Rattle.sheet_rules.specs.State.{Holds, Gave, Shows, Shown, afterIn, refusedIn}
 
 -- a refusal's number is not 0
 no-number : {n : ℕ} → suc n ≡ 0 → ⊥
@@ -156,6 +159,21 @@ module _ {st : State} {l : List ℤ} {s : Sheet} (h : Holds st l s) (a b c d : B
   -- a converted point
   pub gave-point : (p : Point) (r : Decided) → r .reply ≡ reply.Point p → r .state ≡ afterIn st a b → Gave (reply.Point p) (record { line = s .line + 1; profile = s .profile; steps = s .steps; refused = c; closed = d }) l r
   gave-point p r ea er = record { reply = ea; holds = rw er (hold-after h a b c d e f) }
+
+-- what was decided, once it is printed
+pub shown : {a : Reply} {n : Sheet} {l : List ℤ} {d : Decided} {before after : List ℕ} {at : ℕ} {r : Printed} → Gave a n l d → Shows d before at after r → Shown a n l before at after r
+shown {n = n} {l} {before = before} {after} {at} {r} g w = record {
+  wrote = subst (λ (x : Reply). Wrote before at (replyText x) after (r .at)) (g .reply) (w .0);
+  holds = subst⁻¹ (λ (st : State). Holds st l n) (w .1) (g .holds);
+}
+
+-- a line that begins with P, as the rules have it
+pub point-line-shown :
+    (s : Sheet) (line : List ℕ) → eqb (getD line 0 0) letterP ≡ true → {l : List ℤ} {before after : List ℕ} {at : ℕ} {r : Printed} →
+    Shown (pointReply s (readPoint (s .profile) line)) (afterPoint s (readPoint (s .profile) line)) l before at after r →
+    Wrote before at (replyText (replyOf s line)) after (r .at) × Holds (r .state) l (nextOf s line)
+unfolding replyOf nextOf
+point-line-shown s line p x = rw (ne-eqb (getD line 0 0) letterS (λ e. omega (arith, eqb-true (getD line 0 0) letterP p, e)), p) (x .wrote, x .holds)
 
 -- ---- a point of a sheet that holds, and the sheet that nothing is read of
 -- what the prepared chain answered, the chain answers

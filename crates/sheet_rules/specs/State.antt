@@ -9,8 +9,10 @@ use Rattle.chain.specs.Prepared as prepared
 use Rattle.sheet_rules.specs.declared.State.{State}
 use Rattle.sheet_rules.specs.declared.Reply.{Reply}
 use Rattle.sheet_rules.specs.declared.Reply.the-variants as reply
+use Rattle.line.specs.Text.{Wrote}
 use Rattle.sheet_rules.specs.declared.Decided.{Decided}
-use Rattle.sheet_rules.specs.Sheet.{Sheet}
+use Rattle.sheet_rules.specs.declared.Printed.{Printed}
+use Rattle.sheet_rules.specs.Sheet.{Sheet, replyText}
 
 -- the state and the numbers hold the sheet
 pub record Holds (st : State) (numbers : List ℤ) (s : Sheet) : Type 0 where
@@ -37,3 +39,13 @@ passedIn st k = record { line = st .line + k; profile = st .profile; refused = s
 
 unfoldable pub refusedIn : State → ℕ → ℕ → Bool → Bool → Decided
 refusedIn st number place refused closed = record { reply = reply.Refused (st .line) number place; state = afterIn st refused closed }
+
+-- ---- a line decided and printed at once
+-- what was decided is printed, and held
+abbrev pub Shows : Decided → List ℕ → ℕ → List ℕ → Printed → Type 0
+Shows d before at after r = Wrote before at (replyText (d .reply)) after (r .at) × (r .state ≡ d .state)
+
+-- the reply is printed, and the sheet after it held
+pub record Shown (answer : Reply) (next : Sheet) (numbers : List ℤ) (before : List ℕ) (at : ℕ) (after : List ℕ) (r : Printed) : Type 0 where
+  pub wrote : Wrote before at (replyText answer) after (r .at)
+  pub holds : Holds (r .state) numbers next

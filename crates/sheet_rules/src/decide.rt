@@ -2,7 +2,8 @@
 ghost use mathlib.Core.Path.{_≡_};
 ghost use Prim.Native.Nat.{_<_, _≤_};
 ghost use lib.IntN.{ℤ};
-ghost use lib.ListN.{length};
+ghost use lib.Dec.{eqb};
+ghost use lib.ListN.{length, getD};
 ghost use mathlib.Core.List.{List};
 ghost use Rattle.chain.specs.Faults.{pointFault, stepFault};
 ghost use Rattle.line.specs.Readers.{readPoint, readStep, readEdition};
@@ -25,6 +26,17 @@ use line::StepLine;
 
 pub mod standing;
 pub mod whole;
+
+// Whether a line begins with a letter. Of no bytes the first counts as 0, no line's letter.
+fn begins_with(text: &[u8], letter: u8) -> bool
+    requires { ⌜ 0 < letter ⌝ }
+    ensures { λ r. ⌜ r ≡ eqb (getD (now (text .entry)) 0 0) letter ⌝ }
+{
+    if text.len() == 0 {
+        return false;
+    }
+    text[0] == letter
+}
 
 // The state after a line.
 fn after(state: State, refused: bool, closed: bool) -> State

@@ -34,6 +34,12 @@ struct Decided {
     state: State,
 }
 
+// What is printed for a line: the place past it, and the state after it.
+struct Printed {
+    at: usize,
+    state: State,
+}
+
 // Where a sheet stands between two lines, by value. Its chain is steps, as a caller can keep them and hand them back.
 pub struct Standing {
     // The number of the line to come, from 1; 1,000,001 where no more lines are read.

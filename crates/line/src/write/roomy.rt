@@ -82,22 +82,44 @@ fn up_to_eight(out: &mut [u8], at: usize, n: u64) -> usize
     }
 }
 
+// A number of nine digits or more, by what stands before its last eight digits and by these. Few have more than twelve, so this is apart from the others.
+fn very_long(out: &mut [u8], at: usize, high: u64, low: u64) -> usize
+    requires { ⌜ (high < 1000000000000) × (low < 100000000) × (at + 20 ≤ length (now out)) ⌝ }
+    ensures { λ r. ⌜ Put 20 (now (out .entry)) at (decimal high ++ eight low) (now (out .exit)) r ⌝ }
+{
+    if high < HUNDRED_MILLION {
+        let a = up_to_eight(out, at, high);
+        return eight_digits(out, a, low);
+    }
+    let a = up_to_four(out, at, high / HUNDRED_MILLION);
+    let b = eight_digits(out, a, high % HUNDRED_MILLION);
+    eight_digits(out, b, low)
+}
+
+// A number of nine digits or more: nine to twelve as up to four and eight.
+fn long(out: &mut [u8], at: usize, n: u64) -> usize
+    requires { ⌜ (100000000 ≤ n) × (at + 20 ≤ length (now out)) ⌝ }
+    ensures { λ r. ⌜ Put 20 (now (out .entry)) at (decimal n) (now (out .exit)) r ⌝ }
+{
+    let high = n / HUNDRED_MILLION;
+    let low = n % HUNDRED_MILLION;
+    if high < 10000 {
+        let a = up_to_four(out, at, high);
+        return eight_digits(out, a, low);
+    }
+    very_long(out, at, high, low)
+}
+
 // Any number.
 pub fn digits(out: &mut [u8], at: usize, n: u64) -> usize
     requires { ⌜ at + 20 ≤ length (now out) ⌝ }
     ensures { λ r. ⌜ Put 20 (now (out .entry)) at (decimal n) (now (out .exit)) r ⌝ }
 {
     if n < HUNDRED_MILLION {
-        return up_to_eight(out, at, n);
+        up_to_eight(out, at, n)
+    } else {
+        long(out, at, n)
     }
-    let h = n / HUNDRED_MILLION;
-    if h < HUNDRED_MILLION {
-        let a = up_to_eight(out, at, h);
-        return eight_digits(out, a, n % HUNDRED_MILLION);
-    }
-    let a = up_to_four(out, at, h / HUNDRED_MILLION);
-    let b = eight_digits(out, a, h % HUNDRED_MILLION);
-    eight_digits(out, b, n % HUNDRED_MILLION)
 }
 
 // Any number; issue, order and datum mostly have one digit.

@@ -24,6 +24,7 @@ use crate::Response;
 use crate::Standing;
 use crate::State;
 use crate::Verdict;
+use crate::decide::begins_with;
 use crate::decide::decide;
 use crate::decide::malformed;
 use chain::Answer;
@@ -90,17 +91,6 @@ fn with_step(chain: Chain, step: Step) -> Chain
         length: n + 1,
         profile: chain.profile,
     }
-}
-
-// Whether a line begins with a letter. Of no bytes the first counts as 0, no line's letter.
-fn begins_with(text: &[u8], letter: u8) -> bool
-    requires { ⌜ 0 < letter ⌝ }
-    ensures { λ r. ⌜ r ≡ eqb (getD (now (text .entry)) 0 0) letter ⌝ }
-{
-    if text.len() == 0 {
-        return false;
-    }
-    text[0] == letter
 }
 
 // The chain after a line with this reply. Of the lines that begin with S only an accepted step prints nothing.

@@ -9,7 +9,10 @@ ghost use lib.IntN.{pos};
 ghost use lib.ListN.{replicate};
 use crate::Reply;
 use crate::State;
+use crate::decide::begins_with;
 use crate::decide::decide;
+
+mod printed;
 
 const LINE_FEED: u8 = 10;
 
@@ -70,10 +73,16 @@ pub fn sheet(input: &[u8], out: &mut [u8]) -> usize
             from = from + lines;
         } else {
             let end = line::line_end(input, from);
-            let decided = decide(state, &mut numbers, &input[from..end]);
-            let reply = decided.reply;
-            at = write_reply(out, at, reply);
-            state = decided.state;
+            if begins_with(&input[from..end], b'P') {
+                let done = printed::print_point(state, &numbers, &input[from..end], out, at);
+                at = done.at;
+                state = done.state;
+            } else {
+                let decided = decide(state, &mut numbers, &input[from..end]);
+                let reply = decided.reply;
+                at = write_reply(out, at, reply);
+                state = decided.state;
+            }
             from = end;
         }
     }

@@ -15,7 +15,7 @@ sine-requires-3 : tie.Need-sine-requires-3
 sine-requires-3 c κs = search needs
 
 arc-with-requires : tie.Need-arc-with-requires
-arc-with-requires c κs = search needs
+arc-with-requires c κs = c .before .before .before .pre
 
 returns : tie.Need-returns
 unfolding meridianArc round ofBits

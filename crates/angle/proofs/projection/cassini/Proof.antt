@@ -1,44 +1,111 @@
--- `angle::projection::cassini` meets its contract: the origin decides first, and then the point on it. Assumes nothing.
+-- `angle::projection::cassini` meets its contract: the origin's faults decide, then the point's, and then the formulas. Assumes nothing.
 use borrow.Author.Needs.{needs}
-use mathlib.Core.Path.{_≡_, sym, _∙_}
+use mathlib.Core.Path.{_≡_, sym, ap, _∙_}
+use Prim.Native.Nat.{ℕ}
+use lib.IntN.{ℤ}
 use mir.Syntax.{w64}
-use mir.Val.{toZ, ofZ}
+use mir.Val.{SFits, toZ, ofZ}
 use mir.ValLaws.{toZ-ofZ}
-use Rattle.angle.proofs.Made.{by-refusal, by-origin}
+use Rattle.refusal.specs.Order.{first, unless}
+use Rattle.angle.specs.Ranges.{originTests, pointTests, originFault}
+use Rattle.angle.specs.Cassini.{originMade, cassiniAt, cassiniOf}
+use Rattle.angle.specs.declared.OriginNumbers.{OriginNumbers}
+use Rattle.angle.specs.declared.Projected.{Projected}
+use Rattle.angle.specs.declared.Projected.the-variants.{Refused}
+use Rattle.refusal.proofs.Orders.{passed, stop, on, unless-some, unless-none}
+use Rattle.angle.proofs.NoFault.{point-near}
 use Rattle.angle.proofs.projection.cassini.Statement.{statement}
 use Rattle.angle.proofs.projection.cassini.Tie as tie
 
-make-origin-requires : tie.Need-make-origin-requires
-make-origin-requires c κs = search needs
+-- ---- the answer by the faults
+module _ (o : OriginNumbers) (lat lon : ℤ) where
+  abbrev fault : ℕ
+  fault = first (pointTests (o .longitude) lat lon)
 
-enum-known-n : tie.Need-enum-known-n
-enum-known-n c = search needs
+  abbrev laid : Projected
+  laid = cassiniAt (originMade o) lat lon
 
-enum-known-made : tie.Need-enum-known-made
-enum-known-made c = search needs
+  by-origin : (originFault o ≡ 0 → ⊥) → Refused (originFault o) ≡ cassiniOf o lat lon
+  unfolding cassiniOf originFault
+  by-origin h =
+      sym (unless-some (first (originTests o)) Refused laid h)
+      ∙ ap (λ (f : ℕ). unless f Refused laid) (sym (stop (originTests o) (pointTests (o .longitude) lat lon) h))
 
-cassini-from-requires : tie.Need-cassini-from-requires
-cassini-from-requires c κs = search needs
+  -- where the origin has no fault the point decides
+  by-point : originFault o ≡ 0 → unless fault Refused laid ≡ cassiniOf o lat lon
+  unfolding cassiniOf originFault
+  by-point h = ap (λ (f : ℕ). unless f Refused laid) (sym (on (originTests o) (pointTests (o .longitude) lat lon) (passed (originTests o) tt h)))
+
+-- ---- the faults on the way
+origin-fault-requires : tie.Need-origin-fault-requires
+origin-fault-requires c κs = search needs
 
 returns : tie.Need-returns
 returns c =
-    let a = c .before .before .before .before .args in
-    by-refusal (a .o) (a .latitude) (a .longitude) _ (sym (c .before .before .before .make-origin .ensures) ∙ c .before .n .given .1)
+    let d = c .before in
+    let a = d .before .args in
+    ap Refused (d .origin-fault .ensures)
+    ∙ by-origin (a .o) (a .latitude) (a .longitude) (λ (z : originFault (a .o) ≡ 0). c .if1 .taken (d .origin-fault .ensures ∙ z))
+
+sound : (c : tie.Else1) → originFault (c .before .before .args .o) ≡ 0
+sound c = sym (c .before .origin-fault .ensures) ∙ c .if1 .left
+
+point-fault-requires : tie.Need-point-fault-requires
+point-fault-requires c κs = search needs
+
+module _ (c : tie.After-point-fault) where
+  point : ℕ
+  point = let a = c .before .before .before .before .args in fault (a .o) (a .latitude) (a .longitude)
+
+  point-is : c .point-fault .result ≡ point
+  unfolding point
+  point-is =
+      let d = c .before .before .before .before in
+      let a = d .args in
+      let f : SFits w64 (a .o .longitude) = search needs in
+      let o : toZ w64 (ofZ w64 (a .o .longitude)) ≡ a .o .longitude = toZ-ofZ w64 (a .o .longitude) f in
+      let lat : toZ w64 (ofZ w64 (a .latitude)) ≡ a .latitude = toZ-ofZ w64 (a .latitude) (d .fits .latitude) in
+      let lon : toZ w64 (ofZ w64 (a .longitude)) ≡ a .longitude = toZ-ofZ w64 (a .longitude) (d .fits .longitude) in
+      cc (c .point-fault .ensures)
 
 returns-2 : tie.Need-returns-2
+unfolding point
 returns-2 c =
-    let a = c .before .before .before .before .before in
-    let lat : toZ w64 (ofZ w64 (a .args .latitude)) ≡ a .args .latitude = toZ-ofZ w64 (a .args .latitude) (a .fits .latitude) in
-    let lon : toZ w64 (ofZ w64 (a .args .longitude)) ≡ a .args .longitude = toZ-ofZ w64 (a .args .longitude) (a .fits .longitude) in
-    cc (by-origin (a .args .o) (a .args .latitude) (a .args .longitude) _ (sym (c .before .before .before .before .make-origin .ensures) ∙ c .before .before .made .given .1))
+    let d = c .before in
+    let a = d .before .before .before .before .args in
+    ap Refused (point-is d)
+    ∙ sym (unless-some (point d) Refused (laid (a .o) (a .latitude) (a .longitude)) (λ (z : point d ≡ 0). c .if2 .taken (point-is d ∙ z)))
+    ∙ by-point (a .o) (a .latitude) (a .longitude) (sound (d .before .before))
+
+none : (c : tie.Else2) → point (c .before) ≡ 0
+none c = sym (point-is (c .before)) ∙ c .if2 .left
+
+place-once-requires : tie.Need-place-once-requires
+unfolding point
+place-once-requires c κs =
+    let d = c .before .before .before in
+    let s = d .before .before in
+    let p = point-near (s .args .o .longitude) (s .args .latitude) (s .args .longitude) (none c) in
+    rw (toZ-ofZ w64 (s .args .latitude) (s .fits .latitude), toZ-ofZ w64 (s .args .longitude) (s .fits .longitude)) (sound d, p .0, p .1)
+
+returns-3 : tie.Need-returns-3
+unfolding point
+returns-3 c =
+    let e = c .before in
+    let d = e .before .before .before in
+    let s = d .before .before in
+    let a = s .args in
+    let lat : toZ w64 (ofZ w64 (a .latitude)) ≡ a .latitude = toZ-ofZ w64 (a .latitude) (s .fits .latitude) in
+    let lon : toZ w64 (ofZ w64 (a .longitude)) ≡ a .longitude = toZ-ofZ w64 (a .longitude) (s .fits .longitude) in
+    cc (unless-none (point (e .before)) Refused (laid (a .o) (a .latitude) (a .longitude)) (none e), by-point (a .o) (a .latitude) (a .longitude) (sound d))
 
 pub cassini-spec : {M : Type 1} → statement M
 cassini-spec =
     tie.close
     (tie.spec
-    make-origin-requires
-    enum-known-n
-    enum-known-made
-    cassini-from-requires
+    origin-fault-requires
     returns
-    returns-2)
+    point-fault-requires
+    returns-2
+    place-once-requires
+    returns-3)

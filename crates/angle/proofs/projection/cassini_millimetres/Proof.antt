@@ -1,26 +1,45 @@
--- `angle::projection::cassini_millimetres` meets its contract: what `cassini` answers, in millimetres. Assumes nothing.
+-- `angle::projection::cassini_millimetres` meets its contract: the origin decides first, and then the point on it. Assumes nothing.
 use borrow.Author.Needs.{needs}
-use mathlib.Core.Path.{_≡_}
+use mathlib.Core.Path.{_≡_, sym, _∙_}
 use mir.Syntax.{w64}
 use mir.Val.{toZ, ofZ}
 use mir.ValLaws.{toZ-ofZ}
-use Rattle.angle.specs.Cassini.{cassiniMillimetresOf}
+use Rattle.angle.proofs.Made.{by-refusal-millimetres, by-origin-millimetres}
 use Rattle.angle.proofs.projection.cassini_millimetres.Statement.{statement}
 use Rattle.angle.proofs.projection.cassini_millimetres.Tie as tie
 
-cassini-requires : tie.Need-cassini-requires
-cassini-requires c κs = search needs
+make-origin-requires : tie.Need-make-origin-requires
+make-origin-requires c κs = search needs
 
-in-millimetres-requires : tie.Need-in-millimetres-requires
-in-millimetres-requires c κs = search needs
+enum-known-n : tie.Need-enum-known-n
+enum-known-n c = search needs
+
+enum-known-made : tie.Need-enum-known-made
+enum-known-made c = search needs
+
+cassini-millimetres-from-requires : tie.Need-cassini-millimetres-from-requires
+cassini-millimetres-from-requires c κs = search needs
 
 returns : tie.Need-returns
-unfolding cassiniMillimetresOf
 returns c =
-    let a = c .before .before in
+    let a = c .before .before .before .before .args in
+    by-refusal-millimetres (a .o) (a .latitude) (a .longitude) _ (sym (c .before .before .before .make-origin .ensures) ∙ c .before .n .given .1)
+
+returns-2 : tie.Need-returns-2
+returns-2 c =
+    let a = c .before .before .before .before .before in
     let lat : toZ w64 (ofZ w64 (a .args .latitude)) ≡ a .args .latitude = toZ-ofZ w64 (a .args .latitude) (a .fits .latitude) in
     let lon : toZ w64 (ofZ w64 (a .args .longitude)) ≡ a .args .longitude = toZ-ofZ w64 (a .args .longitude) (a .fits .longitude) in
-    cc
+    let h = sym (c .before .before .before .before .make-origin .ensures) ∙ c .before .before .made .given .1 in
+    cc (by-origin-millimetres (a .args .o) (a .args .latitude) (a .args .longitude) _ h)
 
 pub cassini-millimetres-spec : {M : Type 1} → statement M
-cassini-millimetres-spec = tie.close (tie.spec cassini-requires in-millimetres-requires returns)
+cassini-millimetres-spec =
+    tie.close
+    (tie.spec
+    make-origin-requires
+    enum-known-n
+    enum-known-made
+    cassini-millimetres-from-requires
+    returns
+    returns-2)

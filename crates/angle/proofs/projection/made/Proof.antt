@@ -4,64 +4,42 @@ use borrow.Author.Tests.{not-false}
 use mir.Syntax.{w64}
 use mir.Val.{SFits}
 use mir.ValLaws.{toZ-ofZ}
-use Rattle.angle.specs.Units.{radians}
 use Rattle.angle.specs.Ranges.{originTests, originFault}
 use Rattle.angle.specs.Cassini.{originMade}
 use Rattle.refusal.proofs.Orders.{Passed, passed}
-use Rattle.angle.proofs.Tests.{read-back}
-use Rattle.ranges.proofs.Ranges.{natural}
-use Rattle.angle.proofs.Wholes.{natural-upto, in-float}
 use Rattle.angle.proofs.projection.made.Statement.{statement}
 use Rattle.angle.proofs.projection.made.Tie as tie
 
 tests : (c : tie.Start) → Passed (originTests (c .args .o))
 unfolding originFault
-tests c = passed (originTests (c .args .o)) tt (c .pre)
+tests c = passed (originTests (c .args .o)) tt (c .pre .0)
 
 ellipsoid-requires : tie.Need-ellipsoid-requires
 ellipsoid-requires c κs = search needs
 
-int-to-float-radians : tie.Need-int-to-float-radians
-int-to-float-radians c =
-    let z = c .before .before .before .before .args .o .latitude in
-    let f : SFits w64 z = search needs in
-    read-back z f (in-float 2880000000 z tt (natural-upto (natural 0 z 2880000000 (not-false _ (tests (c .before .before .before .before) .1 .1 .1 .0)))))
-
-radians-requires : tie.Need-radians-requires
-radians-requires c κs = search needs
-
-meridian-arc-requires : tie.Need-meridian-arc-requires
-meridian-arc-requires c κs = search needs
-
 metres-requires : tie.Need-metres-requires
 metres-requires c κs =
-    let f : SFits w64 (c .before .before .before .before .before .before .before .args .o .«false_easting») = search needs in
-    rw (toZ-ofZ w64 (c .before .before .before .before .before .before .before .args .o .«false_easting») f) (not-false _ (tests (c .before .before .before .before .before .before .before) .1 .0))
+    let d = c .before .before .before in
+    let f : SFits w64 (d .args .o .«false_easting») = search needs in
+    rw (toZ-ofZ w64 (d .args .o .«false_easting») f) (not-false _ (tests d .1 .0))
 
 metres-requires-2 : tie.Need-metres-requires-2
 metres-requires-2 c κs =
-    let f : SFits w64 (c .before .before .before .before .before .before .before .before .before .args .o .«false_northing») = search needs in
-    rw (toZ-ofZ w64 (c .before .before .before .before .before .before .before .before .before .args .o .«false_northing») f) (not-false _ (tests (c .before .before .before .before .before .before .before .before .before) .1 .1 .0))
+    let d = c .before .before .before .before .before in
+    let f : SFits w64 (d .args .o .«false_northing») = search needs in
+    rw (toZ-ofZ w64 (d .args .o .«false_northing») f) (not-false _ (tests d .1 .1 .0))
 
 returns : tie.Need-returns
-unfolding originMade radians
+unfolding originMade
 returns c =
-    let o = c .before .before .before .before .before .before .before .before .before .before .before .args .o in
+    let d = c .before .before .before .before .before .before .before in
+    let o = d .args .o in
+    let h = d .pre .1 in
     let p : SFits w64 (o .ellipsoid) = search needs in
-    let q : SFits w64 (o .latitude) = search needs in
     let r : SFits w64 (o .longitude) = search needs in
     let s : SFits w64 (o .«false_easting») = search needs in
     let t : SFits w64 (o .«false_northing») = search needs in
-    cc (toZ-ofZ w64 (o .ellipsoid) p, toZ-ofZ w64 (o .latitude) q, toZ-ofZ w64 (o .longitude) r, toZ-ofZ w64 (o .«false_easting») s, toZ-ofZ w64 (o .«false_northing») t)
+    cc (toZ-ofZ w64 (o .ellipsoid) p, toZ-ofZ w64 (o .longitude) r, toZ-ofZ w64 (o .«false_easting») s, toZ-ofZ w64 (o .«false_northing») t)
 
 pub made-spec : {M : Type 1} → statement M
-made-spec =
-    tie.close
-    (tie.spec
-    ellipsoid-requires
-    int-to-float-radians
-    radians-requires
-    meridian-arc-requires
-    metres-requires
-    metres-requires-2
-    returns)
+made-spec = tie.close (tie.spec ellipsoid-requires metres-requires metres-requires-2 returns)

@@ -1,27 +1,49 @@
 -- `line::number::eight` meets its contract. Assumes nothing.
-use Rattle.line.proofs.Ahead as L
+use Prim.Native.Nat.{_+_, _*_, _-_, _/_}
+use native.Mathlib.Omega.{arith}
+use lib.Bits.{and-le-r}
+use Rattle.line.proofs.Words as W
 use borrow.Author.Needs.{needs}
 use Rattle.line.proofs.number.eight.Statement.{statement}
 use Rattle.line.proofs.number.eight.Tie as tie
 
-four-requires : tie.Need-four-requires
-four-requires c κs = (search needs, L.sooner 4 4 (c .before .pre .1))
+word-requires : tie.Need-word-requires
+word-requires c κs = search needs
+
+sub-digits : tie.Need-sub-digits
+sub-digits c = W.none-below (c .word .ensures) (c .before .before .pre .1)
+
+mul-pairs : tie.Need-mul-pairs
+mul-pairs c = omega (arith, W.digits-small (c .word .ensures) (c .before .before .pre .1))
+
+add-pairs : tie.Need-add-pairs
+add-pairs c = omega (arith, W.digits-small (c .word .ensures) (c .before .before .pre .1))
+
+mul-fours : tie.Need-mul-fours
+mul-fours c = let u = c .word .result - 3472328296227680304 in omega (arith, and-le-r (u * 10 + u / 256) 71777214294589695)
+
+add-fours : tie.Need-add-fours
+add-fours c = let u = c .word .result - 3472328296227680304 in omega (arith, and-le-r (u * 10 + u / 256) 71777214294589695)
 
 mul-result : tie.Need-mul-result
 mul-result c = search needs
-
-add-four : tie.Need-add-four
-add-four c = search needs
-
-four-requires-2 : tie.Need-four-requires-2
-four-requires-2 c κs = (search needs, L.later 4 4 (c .before .before .pre .1))
 
 add-result : tie.Need-add-result
 add-result c = search needs
 
 returns : tie.Need-returns
-returns c = L.both 10000 10000 (c .before .four .ensures) (c .four2 .ensures)
+returns c = W.value (c .before .before .pre .0) (c .word .ensures) (c .before .before .pre .1)
 
 pub eight-spec : {M : Type 1} → statement M
 eight-spec =
-    tie.close (tie.spec four-requires mul-result add-four four-requires-2 add-result returns)
+    tie.close
+    (tie.spec
+    word-requires
+    sub-digits
+    mul-pairs
+    add-pairs
+    mul-fours
+    add-fours
+    mul-result
+    add-result
+    returns)

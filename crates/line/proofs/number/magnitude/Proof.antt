@@ -19,8 +19,11 @@ abbrev μ-loop : tie.MeasureT-loop
 ahead-requires : tie.Need-ahead-requires Inv-loop μ-loop
 ahead-requires c κs = search needs
 
+few-requires : tie.Need-few-requires Inv-loop μ-loop
+few-requires c κs = c .ahead .ensures .small
+
 loop-holds : tie.Need-loop-holds Inv-loop μ-loop
-loop-holds c = let b = c .ahead .ensures in (omega (arith, b .small), b .same)
+loop-holds c = let b = c .few .ensures in (omega (arith, b .1), λ v n g. c .before .ahead .ensures .same v n (b .0 v n g))
 
 shared-slice-read-b : tie.Need-shared-slice-read-b Inv-loop μ-loop
 shared-slice-read-b c = search needs
@@ -72,6 +75,7 @@ magnitude-spec =
     Inv-loop
     μ-loop
     ahead-requires
+    few-requires
     loop-holds
     shared-slice-read-b
     rest-requires

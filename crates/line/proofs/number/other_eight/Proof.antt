@@ -1,21 +1,24 @@
 -- `line::number::other_eight` meets its contract. Assumes nothing.
-use Rattle.line.proofs.Ahead as L
+use mathlib.Core.Path.{_≡_, sym}
+use native.Mathlib.Omega.{arith}
+use borrow.Author.Tests.{eqb-true, not-false}
+use Rattle.line.proofs.Capped.{never}
+use Rattle.line.proofs.Words as W
 use borrow.Author.Needs.{needs}
 use Rattle.line.proofs.number.other_eight.Statement.{statement}
 use Rattle.line.proofs.number.other_eight.Tie as tie
 
-other-four-requires : tie.Need-other-four-requires
-other-four-requires c κs = search needs
-
-add-other-four : tie.Need-add-other-four
-add-other-four c = search needs
-
-other-four-requires-2 : tie.Need-other-four-requires-2
-other-four-requires-2 c κs = search needs
+word-requires : tie.Need-word-requires
+word-requires c κs = search needs
 
 returns : tie.Need-returns
-returns c = L.either 4 4 (c .before .other-four .ensures) (c .other-four2 .ensures)
+returns c = λ e. absurd (never (sym e))
+
+add-result : tie.Need-add-result
+add-result c = omega (arith, W.room (c .before .word .ensures) (c .if1 .left))
+
+returns-2 : tie.Need-returns-2
+returns-2 c = λ e. W.there (c .before .word .ensures) (c .if1 .left) (eqb-true _ _ (not-false _ e))
 
 pub other-eight-spec : {M : Type 1} → statement M
-other-eight-spec =
-    tie.close (tie.spec other-four-requires add-other-four other-four-requires-2 returns)
+other-eight-spec = tie.close (tie.spec word-requires returns add-result returns-2)

@@ -18,6 +18,18 @@ letter-requires c κs = search needs
 name-requires : tie.Need-name-requires
 name-requires c κs = search needs
 
+of-two-requires : tie.Need-of-two-requires
+of-two-requires c κs = search needs
+
+of-one-requires : tie.Need-of-one-requires
+of-one-requires c κs = search needs
+
+of-one-requires-2 : tie.Need-of-one-requires-2
+of-one-requires-2 c κs = search needs
+
+of-seven-requires : tie.Need-of-seven-requires
+of-seven-requires c κs = search needs
+
 number-requires : tie.Need-number-requires
 number-requires c κs = search needs
 
@@ -26,18 +38,6 @@ number-requires-2 c κs = search needs
 
 number-requires-3 : tie.Need-number-requires-3
 number-requires-3 c κs = search needs
-
-number-requires-4 : tie.Need-number-requires-4
-number-requires-4 c κs = search needs
-
-number-requires-5 : tie.Need-number-requires-5
-number-requires-5 c κs = search needs
-
-number-requires-6 : tie.Need-number-requires-6
-number-requires-6 c κs = search needs
-
-number-requires-7 : tie.Need-number-requires-7
-number-requires-7 c κs = search needs
 
 -- a number, as the machine reads it
 told : {z : ℤ} → mag z < 9223372036854775808 → toZ w64 (ofZ w64 z) ≡ z
@@ -49,13 +49,13 @@ returns c =
     let c7 = c .before .before .before .before .before .before .before in
     let c12 = c7 .before .before .before .before .before in
     let n1 = c12 .before .before .before .name in
-    let n2 = c12 .before .number in
-    let n3 = c12 .number2 in
-    let n4 = c7 .before .before .before .before .number3 in
-    let n5 = c7 .before .before .before .number4 in
-    let n6 = c7 .before .before .number5 in
-    let n7 = c7 .before .number6 in
-    let n8 = c7 .number7 in
+    let n2 = c12 .before .of-two in
+    let n3 = c12 .of-one in
+    let n4 = c7 .before .before .before .before .of-one2 in
+    let n5 = c7 .before .before .before .of-seven in
+    let n6 = c7 .before .before .number in
+    let n7 = c7 .before .number2 in
+    let n8 = c7 .number3 in
     let e2 = told (n2 .ok .1 .1 .0 .1) in
     let e3 = told (n3 .ok .1 .1 .0 .1) in
     let e4 = told (n4 .ok .1 .1 .0 .1) in
@@ -88,11 +88,11 @@ point-fields-spec =
     (tie.spec
     letter-requires
     name-requires
+    of-two-requires
+    of-one-requires
+    of-one-requires-2
+    of-seven-requires
     number-requires
     number-requires-2
     number-requires-3
-    number-requires-4
-    number-requires-5
-    number-requires-6
-    number-requires-7
     returns)

@@ -1,15 +1,16 @@
 -- `sheet_rules::decide::whole::sheet` meets its contract. Assumes nothing.
 use Prim.Native.Nat.{_-_}
-use mathlib.Core.Path.{refl}
+use mathlib.Core.Path.{refl, sym, _∙_}
 use native.Mathlib.Omega.{arith}
 use lib.ListN.{length}
 use Rattle.line.proofs.Lines.{piece}
 use Rattle.line.proofs.BareLines.{row-inside}
 use Rattle.listing.proofs.Fold.{printed-long}
 use Rattle.listing.proofs.Room.{prints}
-use Rattle.listing.proofs.Loop.{Midway, starts, goes-on, goes-past, ends}
+use Rattle.listing.proofs.Loop.{Midway, starts, goes-printed, goes-on, goes-past, ends}
 use Rattle.sheet_rules.specs.Sheet.{Sheet, fresh, rules, sheetOf}
 use Rattle.sheet_rules.specs.State.{Holds}
+use Rattle.sheet_rules.proofs.Laws.{point-line-shown}
 use Rattle.sheet_rules.proofs.Room.{roomy}
 use Rattle.sheet_rules.proofs.BareLines.{bare, hold-feeds}
 use borrow.Author.Needs.{needs}
@@ -59,26 +60,56 @@ loop-again c = goes-past rules _ fresh refl _ _ bare _ (λ s h. (h .line, rw (c 
 line-end-requires : tie.Need-line-end-requires Inv-loop μ-loop
 line-end-requires c κs = search needs
 
+sub-begins-with : tie.Need-sub-begins-with Inv-loop μ-loop
+sub-begins-with c = let l = piece _ _ _ (c .line-end .ensures) (omega arith) in omega arith
+
+part-begins-with-start : tie.Need-part-begins-with-start Inv-loop μ-loop
+part-begins-with-start c = let l = piece _ _ _ (c .line-end .ensures) (omega arith) in omega arith
+
+part-begins-with-end : tie.Need-part-begins-with-end Inv-loop μ-loop
+part-begins-with-end c = let l = piece _ _ _ (c .line-end .ensures) (omega arith) in omega arith
+
+begins-with-requires : tie.Need-begins-with-requires Inv-loop μ-loop
+begins-with-requires c κs = search needs
+
+sub-print-point : tie.Need-sub-print-point Inv-loop μ-loop
+sub-print-point c = let l = piece _ _ _ (c .before .before .before .before .line-end .ensures) (omega arith) in omega arith
+
+part-print-point-start : tie.Need-part-print-point-start Inv-loop μ-loop
+part-print-point-start c = let l = piece _ _ _ (c .before .before .before .before .line-end .ensures) (omega arith) in omega arith
+
+part-print-point-end : tie.Need-part-print-point-end Inv-loop μ-loop
+part-print-point-end c = let l = piece _ _ _ (c .before .before .before .before .line-end .ensures) (omega arith) in omega arith
+
+print-point-requires : tie.Need-print-point-requires Inv-loop μ-loop
+print-point-requires c κs = let k = c .before .before .before .before .before .before .before .before .before .before .loop .inv in omega (arith, k .counted, k .held .line, c .before .before .before .before .before .before .before .before .before .loop-test .taken, c .before .before .before .before .before .before .before .before .before .before .before .before .if1 .left)
+
 sub-decide : tie.Need-sub-decide Inv-loop μ-loop
-sub-decide c = let l = piece _ _ _ (c .before .line-end .ensures) (omega arith) in omega arith
+sub-decide c = let l = piece _ _ _ (c .before .before .before .before .line-end .ensures) (omega arith) in omega arith
 
 part-decide-start : tie.Need-part-decide-start Inv-loop μ-loop
-part-decide-start c = let l = piece _ _ _ (c .before .line-end .ensures) (omega arith) in omega arith
+part-decide-start c = let l = piece _ _ _ (c .before .before .before .before .line-end .ensures) (omega arith) in omega arith
 
 part-decide-end : tie.Need-part-decide-end Inv-loop μ-loop
-part-decide-end c = let l = piece _ _ _ (c .before .line-end .ensures) (omega arith) in omega arith
+part-decide-end c = let l = piece _ _ _ (c .before .before .before .before .line-end .ensures) (omega arith) in omega arith
 
 decide-requires : tie.Need-decide-requires Inv-loop μ-loop
-decide-requires c κs = let l = piece _ _ _ (c .before .before .line-end .ensures) (omega arith) in let k = c .before .before .before .before .before .before .loop .inv in (omega (arith, k .counted, k .held .line, k .inside, c .before .before .before .before .before .before .before .before .if1 .left), omega (arith, l .some, l .size))
+decide-requires c κs = let l = piece _ _ _ (c .before .before .before .before .before .line-end .ensures) (omega arith) in let k = c .before .before .before .before .before .before .before .before .before .loop .inv in (omega (arith, k .counted, k .held .line, k .inside, c .before .before .before .before .before .before .before .before .before .before .before .if1 .left), omega (arith, l .some, l .size))
 
 write-reply-requires : tie.Need-write-reply-requires Inv-loop μ-loop
 write-reply-requires c κs = search needs
 
 loop-less-2 : tie.Need-loop-less-2 Inv-loop μ-loop
-loop-less-2 c = let l = piece _ _ _ (c .before .before .before .before .before .before .before .before .line-end .ensures) (omega arith) in omega arith
+loop-less-2 c = let l = piece _ _ _ (c .before .before .before .before .before .before .before .before .before .before .line-end .ensures) (omega arith) in omega arith
 
 loop-again-2 : tie.Need-loop-again-2 Inv-loop μ-loop
-loop-again-2 c = goes-on rules _ fresh refl _ _ roomy _ _ (c .before .before .before .before .before .before .before .before .line-end .ensures) (omega (arith, c .before .before .before .before .before .before .before .before .before .before .before .loop-test .taken)) (λ s h. let g = c .before .before .before .before .before .decide .ensures s h in (g .reply, g .holds)) (c .before .before .before .write-reply .ensures) (c .before .before .before .before .before .before .before .before .before .before .before .before .loop .inv)
+loop-again-2 c = goes-printed rules _ fresh refl _ _ roomy _ (c .before .before .before .before .before .before .before .before .before .before .line-end .ensures) (omega (arith, c .before .before .before .before .before .before .before .before .before .before .before .before .before .loop-test .taken)) (λ s h. point-line-shown s _ (sym (c .before .before .before .before .before .before .before .before .begins-with .ensures) ∙ c .before .before .before .before .before .before .before .if3 .taken) (c .before .before .before .print-point .ensures s h)) (c .before .before .before .before .before .before .before .before .before .before .before .before .before .before .loop .inv)
+
+loop-less-3 : tie.Need-loop-less-3 Inv-loop μ-loop
+loop-less-3 c = let l = piece _ _ _ (c .before .before .before .before .before .before .before .before .before .before .before .line-end .ensures) (omega arith) in omega arith
+
+loop-again-3 : tie.Need-loop-again-3 Inv-loop μ-loop
+loop-again-3 c = goes-on rules _ fresh refl _ _ roomy _ _ (c .before .before .before .before .before .before .before .before .before .before .before .line-end .ensures) (omega (arith, c .before .before .before .before .before .before .before .before .before .before .before .before .before .before .loop-test .taken)) (λ s h. let g = c .before .before .before .before .before .decide .ensures s h in (g .reply, g .holds)) (c .before .before .before .write-reply .ensures) (c .before .before .before .before .before .before .before .before .before .before .before .before .before .before .before .loop .inv)
 
 same-length-2 : tie.Need-same-length-2 Inv-loop μ-loop
 same-length-2 c = c .before .loop .inv .size
@@ -105,6 +136,14 @@ sheet-spec =
     loop-less
     loop-again
     line-end-requires
+    sub-begins-with
+    part-begins-with-start
+    part-begins-with-end
+    begins-with-requires
+    sub-print-point
+    part-print-point-start
+    part-print-point-end
+    print-point-requires
     sub-decide
     part-decide-start
     part-decide-end
@@ -112,5 +151,7 @@ sheet-spec =
     write-reply-requires
     loop-less-2
     loop-again-2
+    loop-less-3
+    loop-again-3
     same-length-2
     returns-2)

@@ -1,11 +1,11 @@
--- `sheet_rules::decide::standing::begins_with` meets its contract. Of no bytes the first is 0, no line's letter. Assumes nothing.
+-- `sheet_rules::decide::begins_with` meets its contract. Of no bytes the first is 0, no line's letter. Assumes nothing.
 use mathlib.Core.Path.{_≡_, sym}
 use native.Mathlib.Omega.{arith}
 use borrow.Author.Tests.{ne-eqb}
 use lib.ListN.{length, getD, List·getD-eq-default}
 use borrow.Author.Needs.{needs}
-use Rattle.sheet_rules.proofs.decide.standing.begins_with.Statement.{statement}
-use Rattle.sheet_rules.proofs.decide.standing.begins_with.Tie as tie
+use Rattle.sheet_rules.proofs.decide.begins_with.Statement.{statement}
+use Rattle.sheet_rules.proofs.decide.begins_with.Tie as tie
 
 returns : tie.Need-returns
 returns c =

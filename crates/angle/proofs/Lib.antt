@@ -15,3 +15,4 @@ pub mod Sizes
 pub mod Tests
 pub mod Vectors
 pub mod Wholes
+pub mod Carried

@@ -22,3 +22,4 @@ pub mod Back
 pub mod Ahead
 pub mod Counted
 pub mod Words
+pub mod Unread

@@ -23,3 +23,4 @@ pub mod Ahead
 pub mod Counted
 pub mod Words
 pub mod Unread
+pub mod InARow

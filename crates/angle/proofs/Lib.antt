@@ -16,3 +16,4 @@ pub mod Tests
 pub mod Vectors
 pub mod Wholes
 pub mod Carried
+pub mod Past

@@ -69,7 +69,7 @@ module _ {carried : ℤ → ℤ} (c : Carries carried) where
   pub careful-point : (y : ℤ) → Careful (pointFault y) (carriedPoint carried)
   unfolding pointFault
   careful-point y =
-      careful-first (λ p. first ((not (agrees (p .realization)) gives refusal.epoch) ∷ (not (hasDatum y (p .realization)) gives refusal.profile) ∷ [])) 2 (λ e. omega arith) sure-point
+      careful-first (λ p. first ((not (agrees (p .realization)) gives refusal.epoch) ∷ (not (hasDatum y (p .realization)) gives refusal.profile) ∷ [])) refusal.range (λ e. omega arith) sure-point
 
   -- ---- steps
   sure-kind : Sure (carriedKind carried) kindRange
@@ -111,4 +111,4 @@ module _ {carried : ℤ → ℤ} (c : Carries carried) where
   careful-step y =
       careful-first
       (λ s. first ((not (agrees (s .before) && agrees (s .after)) gives refusal.epoch) ∷ (not (hasStep y s) gives refusal.profile) ∷ (not (kindRule (s .kind) (s .before) (s .after)) gives refusal.kind) ∷ []))
-      2 (λ e. omega arith) sure-step
+      refusal.range (λ e. omega arith) sure-step

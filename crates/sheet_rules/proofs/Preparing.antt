@@ -11,6 +11,7 @@ use lib.Dec.{ltb, leb, eqb}
 use lib.IntN.{ℤ, pos}
 use lib.ListN.{length, take, drop, getD, replicate}
 use lib.Seq.{take-suc, take-length, length-take-le}
+use Rattle.refusal.specs.Numbers as refusal
 use Rattle.refusal.specs.Order.{first, pick}
 use Rattle.ranges.specs.Ranges.{profileRange}
 use Rattle.refusal.proofs.Orders.{head-holds, step-passed}
@@ -35,7 +36,7 @@ parted (x ∷ xs) (suc n) (suc i) d h k = let p = parted xs n i d (NatL.le-of-su
 steps-good : (c : Chain) → first (chainTests c) ≡ 0 → first (stepsTests (c .profile) (stepsOf c)) ≡ 0
 steps-good c e =
     let p = head-holds (profileRange (c .profile)) _ _ e in
-    step-passed (ltb 8 (c .length)) 6 (first (stepsTests (c .profile) (stepsOf c))) tt (p .1) .1
+    step-passed (ltb 8 (c .length)) refusal.ninth (first (stepsTests (c .profile) (stepsOf c))) tt (p .1) .1
 
 good-steps : (c : Chain) → profileRange (c .profile) ≡ true → c .length ≤ 8 → first (stepsTests (c .profile) (stepsOf c)) ≡ 0 → first (chainTests c) ≡ 0
 good-steps c p short e = rw (p, le-ltb 8 (c .length) short) e
@@ -80,5 +81,5 @@ pub all-prepared : (c : Chain) → c .length ≤ 8 → (l : List ℤ) → prepar
 all-prepared c short l held =
     let g = rw (take-length (stepsOf c)) at (held .sound) in
     let p = head-holds (profileRange (c .profile)) _ _ g in
-    let f = step-passed (ltb 8 (length (stepsOf c))) 6 (first (stepsTests (c .profile) (stepsOf c))) tt (p .1) in
+    let f = step-passed (ltb 8 (length (stepsOf c))) refusal.ninth (first (stepsTests (c .profile) (stepsOf c))) tt (p .1) in
     record { told = sym (eq-eqb (first (chainTests c)) 0 (good-steps c (p .0) short (f .1))); holds = λ _. held }

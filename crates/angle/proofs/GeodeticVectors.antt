@@ -6,14 +6,13 @@ use Prim.Native.Nat.{ℕ}
 use lib.IntN.{pos, negsuc}
 use lib.Ieee.{Float, binary64, round, neg, sub, add, mul, div, ofInt, ofBits}
 use Rattle.elementary.specs.Floats.{_⊗_, _⊘_, _⊕_, #, whole}
-use Rattle.elementary.specs.Series.{sineOf, cosineOf, arctanSmallOf}
+use Rattle.elementary.specs.Series.{arctanSmallOf}
 use Rattle.elementary.specs.Root.{rootOf}
-use Rattle.rounding.specs.Decimals.{roundedOf}
-use Rattle.ranges.specs.Ranges.{within}
 use Rattle.refusal.specs.Numbers.{range, geodetic}
 use Rattle.refusal.specs.Numbers as numbers
+use Rattle.angle.specs.Worked.{openAngles}
 use Rattle.angle.specs.Units.{seconds}
-use Rattle.angle.specs.Ellipsoids.{ellipsoidOf, primeVertical}
+use Rattle.angle.specs.Ellipsoids.{ellipsoidOf}
 use Rattle.angle.specs.Geodetic.{tangentOf, heightOf, inRanges, placed, inAngles, geodeticUnitsOf}
 use Rattle.angle.specs.declared.GeodeticUnits.{GeodeticUnits}
 use Rattle.angle.specs.declared.GeodeticUnits.the-variants.{Units, Refused}
@@ -40,7 +39,7 @@ expected =
     f64 0x3fc736fbe0adb301 ∷ f64 0x41582d8033c61601 ∷ f64 0x4125b88839096bba ∷ f64 0x3fbcf123b8787117 ∷ f64 0x3fbcd1d02fa4b4ca ∷ f64 0x403213fb1c380000 ∷ f64 0x3fc6f71428fa5def ∷ f64 0x40d6ad246bf29556 ∷ f64 0x40e211e19fd58e4e ∷ []
 
 worked : found ≡ expected
-unfolding found expected ellipsoidOf tangentOf heightOf primeVertical seconds rootOf sineOf cosineOf arctanSmallOf round neg sub add mul div ofInt ofBits
+unfolding found expected tangentOf heightOf openAngles round neg sub add mul div ofInt ofBits
 worked = refl
 
 -- in units; and a code, a position and a result that are refused
@@ -53,5 +52,5 @@ answers =
     ∷ []
 
 answered : answers ≡ (Units (pos 2322056909) (pos 36100705076) (pos 1807805) ∷ Refused range ∷ Refused numbers.area ∷ Refused geodetic ∷ [])
-unfolding answers geodeticUnitsOf within inAngles placed inRanges roundedOf round ofBits
+unfolding answers geodeticUnitsOf inAngles placed inRanges openAngles round ofBits
 answered = refl

@@ -15,3 +15,5 @@ pub mod Sizes
 pub mod Tests
 pub mod Vectors
 pub mod Wholes
+pub mod Carried
+pub mod Past

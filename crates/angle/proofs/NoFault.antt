@@ -1,13 +1,18 @@
 -- What it means that an origin and a point on it have no fault. Assumes nothing.
 use borrow.Author.Tests.{not-false}
-use mathlib.Core.Path.{_≡_}
+use mathlib.Core.Path.{_≡_, refl}
 use mathlib.Core.Bool.{true}
 use lib.IntN.{ℤ}
 use Rattle.refusal.specs.Order.{first}
 use Rattle.ranges.specs.Ranges.{latitudeRange}
-use Rattle.angle.specs.Ranges.{nearby, originTests, pointTests, originFault}
+use Rattle.angle.specs.Ranges.{nearby, angleTests, originTests, pointTests, anglesFault, originFault}
 use Rattle.angle.specs.declared.OriginNumbers.{OriginNumbers}
 use Rattle.refusal.proofs.Orders.{passed}
+
+-- what two angles are refused for, by their tests
+pub angles-first : (lat lon : ℤ) → anglesFault lat lon ≡ first (angleTests lat lon)
+unfolding anglesFault
+angles-first lat lon = refl
 
 -- an origin's latitude is in its range
 pub origin-latitude : (o : OriginNumbers) → originFault o ≡ 0 → latitudeRange (o .latitude) ≡ true

@@ -6,10 +6,8 @@ use lib.IntN.{ℤ, pos, negsuc}
 use lib.Ieee.{Float, binary64, add, sub, mul, div, neg, round, ofInt, ofBits}
 use Rattle.refusal.specs.Numbers.{range, geodetic}
 use Rattle.refusal.specs.Numbers as numbers
-use Rattle.angle.specs.Units.{radians, metres}
-use Rattle.ranges.specs.Ranges.{within}
-use Rattle.elementary.specs.Series.{sineOf, cosineOf}
-use Rattle.angle.specs.Ellipsoids.{primeVertical, meridianArc}
+use Rattle.angle.specs.Worked.{openAngles}
+use Rattle.angle.specs.Ellipsoids.{meridianArc}
 use Rattle.angle.specs.Cartesian.{cartesianOf}
 use Rattle.angle.specs.Cassini.{cassiniOf}
 use Rattle.angle.specs.declared.OriginNumbers.{OriginNumbers}
@@ -90,5 +88,5 @@ record Worked : Type 0 where
   points : found-points points ≡ laid-points points
 
 worked : Worked
-unfolding cartesianOf cassiniOf within radians metres sineOf cosineOf primeVertical meridianArc add sub mul div neg round ofInt ofBits
+unfolding cartesianOf cassiniOf meridianArc openAngles add sub mul div neg round ofInt ofBits
 worked = record { positions = refl; points = refl }

@@ -9,7 +9,7 @@ use lib.ListN.{length, take, drop, set, length-drop, length-take}
 use lib.Seq.{sets}
 use Rattle.refusal.specs.Numbers as refusal
 use Rattle.ranges.specs.Ranges.{within, equal}
-use Rattle.ranges.proofs.Ranges.{both, all, Natural, natural}
+use Rattle.ranges.proofs.Ranges.{both, all, above, Natural, natural, equal-self}
 use Rattle.line.specs.Lines.{lineEnd}
 use Rattle.sheet_rules.specs.OneLine.{soundStanding}
 use Rattle.sheet_stream.specs.declared.Fed.{Fed}
@@ -35,12 +35,11 @@ head-stored (a0 ∷ a1 ∷ a2 ∷ a3 ∷ a4 ∷ a5 ∷ a6 ∷ ns) l c = λ p q r
 
 -- a flag, and a count, are the numbers that they were read from
 flag-back : (z : ℤ) → isFlag z ≡ true → bit (flag z) ≡ z
-unfolding within
 flag-back z e = let n = natural 0 z 1 e in rw (n .is) (go (n .n) (n .high))
   where
     go : (m : ℕ) → m ≤ 1 → bit (flag (pos m)) ≡ pos m
-    go zero h = refl
-    go (suc zero) h = refl
+    go zero h = rw (equal-self (pos 0))
+    go (suc zero) h = rw (above (pos 0) (pos 1) (pos 0) refl)
     go (suc (suc m)) h = absurd (omega arith)
 
 count-back : (z : ℤ) (hi : ℕ) → Natural 0 z hi → pos (natAbs z) ≡ z

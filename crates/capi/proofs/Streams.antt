@@ -16,7 +16,7 @@ use mir.ValLaws.{toZ-pos}
 use Rattle.refusal.specs.Numbers as refusal
 use Rattle.refusal.specs.Order.{pick}
 use Rattle.ranges.specs.Ranges.{within}
-use Rattle.ranges.proofs.Ranges.{both, all, Natural, natural, natural-holds}
+use Rattle.ranges.proofs.Ranges.{both, all, Natural, natural, natural-holds, equal-self}
 use Rattle.chain.specs.declared.Step.{Step}
 use Rattle.chain.specs.declared.Chain.{Chain}
 use Rattle.chain.specs.declared.Shift.{Shift}
@@ -82,8 +82,8 @@ countable ns bytes l e =
 
 -- the state that C begins with
 pub fresh-from-c : FreshFromC
-unfolding streamFrom chainIn chainFrom placeFrom within
-fresh-from-c = refl
+unfolding streamFrom chainIn chainFrom placeFrom
+fresh-from-c = rw (equal-self (pos 0))
 
 -- ---- bytes copied one after the other
 pub one-more : (to from : List ℕ) (i : ℕ) → i < length to → i < length from → take i to ≡ take i from → take (i + 1) (set to i (getD from i 0)) ≡ take (i + 1) from

@@ -39,6 +39,24 @@ fn give_millimetres(answer: ProjectedMillimetres, out: &mut [i64]) -> i64
     }
 }
 
+fn origin_from(
+    ellipsoid: i64,
+    latitude: i64,
+    longitude: i64,
+    false_easting: i64,
+    false_northing: i64,
+) -> OriginNumbers
+    ensures { λ r. ⌜ r ≡ originFrom ellipsoid latitude longitude «false_easting» «false_northing» ⌝ }
+{
+    OriginNumbers {
+        ellipsoid,
+        latitude,
+        longitude,
+        false_easting,
+        false_northing,
+    }
+}
+
 // Easting and northing in metres.
 #[no_mangle]
 pub extern "C" fn swivelcrane_cassini(
@@ -56,13 +74,13 @@ pub extern "C" fn swivelcrane_cassini(
     if out.len() != 2 {
         return WRONG_LENGTH;
     }
-    let origin = OriginNumbers {
+    let origin = origin_from(
         ellipsoid,
-        latitude: origin_latitude,
-        longitude: origin_longitude,
+        origin_latitude,
+        origin_longitude,
         false_easting,
         false_northing,
-    };
+    );
     give_metres(angle::cassini(origin, latitude, longitude), out)
 }
 
@@ -83,12 +101,12 @@ pub extern "C" fn swivelcrane_cassini_millimetres(
     if out.len() != 2 {
         return WRONG_LENGTH;
     }
-    let origin = OriginNumbers {
+    let origin = origin_from(
         ellipsoid,
-        latitude: origin_latitude,
-        longitude: origin_longitude,
+        origin_latitude,
+        origin_longitude,
         false_easting,
         false_northing,
-    };
+    );
     give_millimetres(angle::cassini_millimetres(origin, latitude, longitude), out)
 }

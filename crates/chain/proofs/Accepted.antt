@@ -6,6 +6,7 @@ use Prim.Native.Nat.{ℕ, zero, suc, _≤_}
 use lib.IntN.{ℤ}
 use borrow.Author.Tests.{ltb-false}
 use lib.Dec.{T, ltb}
+use Rattle.refusal.specs.Numbers as refusal
 use Rattle.refusal.specs.Order.{first, unless}
 use Rattle.refusal.proofs.Orders.{numbered, passed, step-passed, head-holds, stop, on, both-pass, unless-some}
 use Rattle.chain.specs.declared.Realization.{Realization}
@@ -47,7 +48,7 @@ module _ (y : ℤ) where
     each-later s [] e = tt
     each-later s (t ∷ ts) e =
         let f = both-pass (stepTests y t) (joinTest s t ∷ laterTests y t ts) tt e in
-        (alone t (f .0), each-later t ts (head-holds (sameRealization (s .after) (t .before)) 4 (first (laterTests y t ts)) (f .1) .1))
+        (alone t (f .0), each-later t ts (head-holds (sameRealization (s .after) (t .before)) _ (first (laterTests y t ts)) (f .1) .1))
 
     each-step : (ss : List Step) → first (stepsTests y ss) ≡ 0 → Each P ss
     unfolding stepFault
@@ -63,7 +64,7 @@ module _ (y : ℤ) where
 pub chain-passed : (c : Chain) → first (chainTests c) ≡ 0 → (c .length ≤ 8) × (first (stepsTests (c .profile) (stepsOf c)) ≡ 0)
 chain-passed c e =
     let m = head-holds (profileRange (c .profile)) _ _ e in
-    let n = step-passed (ltb 8 (c .length)) 6 (first (stepsTests (c .profile) (stepsOf c))) tt (m .1) in
+    let n = step-passed (ltb 8 (c .length)) refusal.ninth (first (stepsTests (c .profile) (stepsOf c))) tt (m .1) in
     (ltb-false 8 (c .length) (n .0), n .1)
 
 pub chain-holds : (c : Chain) → first (chainTests c) ≡ 0 → (c .length ≤ 8) × Sound (stepsOf c)
@@ -82,8 +83,8 @@ accepted c p wanted e =
     let f = both-pass (chainTests c) (pointTests (c .profile) p ++ placeTests p wanted) (numbered-steps (c .profile) (stepsOf c)) e in
     let n = chain-passed c (f .0) in
     let g = both-pass (pointTests (c .profile) p) (placeTests p wanted) tt (f .1) in
-    let h = head-holds (sameRealization (p .realization) wanted) 8 _ (g .1) in
-    record { short = n .0; sound = sound-steps (c .profile) (stepsOf c) (n .1); held = held-steps (c .profile) (stepsOf c) (n .1); here = h .0; area = head-holds (inArea (p .position)) 9 0 (h .1) .0 }
+    let h = head-holds (sameRealization (p .realization) wanted) _ _ (g .1) in
+    record { short = n .0; sound = sound-steps (c .profile) (stepsOf c) (n .1); held = held-steps (c .profile) (stepsOf c) (n .1); here = h .0; area = head-holds (inArea (p .position)) _ 0 (h .1) .0 }
 
 -- ---- how the code answers: the chain decides first, then the point, then the walk
 abbrev pub entry : ℤ → Point → Realization → ℕ
@@ -92,7 +93,7 @@ entry y p wanted = first (pointTests y p ++ placeTests p wanted)
 pub entry-area : (y : ℤ) (p : Point) (wanted : Realization) → entry y p wanted ≡ 0 → inArea (p .position) ≡ true
 entry-area y p wanted e =
     let g = both-pass (pointTests y p) (placeTests p wanted) tt e in
-    head-holds (inArea (p .position)) 9 0 (head-holds (sameRealization (p .realization) wanted) 8 _ (g .1) .1) .0
+    head-holds (inArea (p .position)) _ 0 (head-holds (sameRealization (p .realization) wanted) _ _ (g .1) .1) .0
 
 module _ (c : Chain) (p : Point) (wanted reached : Realization) (w : Walk) where
   all-numbered : T (numbered (chainTests c))

@@ -1,13 +1,17 @@
 -- Where a chain starts and ends, and what a conversion in each direction that was not refused went by. Assumes nothing.
-use mathlib.Core.Path.{_≡_, sym, ap}
+use mathlib.Core.Path.{_≡_, refl, sym, ap}
 use mathlib.Core.Bool.{true}
 use mathlib.Core.List.{List, [], _∷_, reverse}
+use Rattle.chain.specs.declared.Position.{Position}
 use Rattle.chain.specs.declared.Realization.{Realization}
+use Rattle.chain.specs.declared.Kind.{Kind}
 use Rattle.chain.specs.declared.Point.{Point}
 use Rattle.chain.specs.declared.Step.{Step}
 use Rattle.chain.specs.declared.Chain.{Chain}
 use Rattle.chain.specs.declared.Answer.the-variants.{Converted}
 use Rattle.chain.specs.Faults.{sameRealization, stepsOf}
+use Rattle.chain.specs.Case as cases
+use Rattle.chain.specs.Case.{answer}
 use Rattle.chain.specs.Convert.{walk, forwardStep, inverseStep, startOf, endOf, forwardOf, inverseOf}
 use Rattle.chain.proofs.Within.{same-is}
 use Rattle.chain.proofs.Accepted.{Conversion, converted}
@@ -25,6 +29,11 @@ module _ (r e : Realization) where
   unfolding startOf endOf
   end-home [] h i = (ap (λ (t : Realization). t .datum) i, ap (λ (t : Realization). t .epoch) i)
   end-home (s ∷ ss) h i = let f = same-is r (endOf (s .after) ss) h in (sym (f .0), sym (f .1))
+
+-- ---- a worked case forward is a conversion
+pub forward-case : (k : Kind) (r a : Realization) (p q : Position) → answer (cases.case cases.forward k r a p q) ≡ forwardOf (cases.chain k r a) (cases.point r p)
+unfolding answer
+forward-case k r a p q = refl
 
 -- ---- what a conversion that was not refused went by
 module _ (c : Chain) (p q : Point) where

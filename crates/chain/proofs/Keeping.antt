@@ -19,7 +19,7 @@ use Rattle.chain.specs.declared.Point.{Point}
 use Rattle.chain.specs.declared.Step.{Step}
 use Rattle.chain.specs.declared.Answer.{Answer}
 use Rattle.chain.specs.declared.Answer.the-variants.{Refused}
-use Rattle.chain.specs.Faults.{StepOk, latest, stepFault, pointFault, profileFault, sameRealization, pointTests, stepTests, stepsTests, chainTests}
+use Rattle.chain.specs.Faults.{StepOk, latest, stepFault, pointFault, profileFault, sameRealization, pointTests, stepTests, joinTest, laterTests, stepsTests, chainTests}
 use Rattle.chain.specs.Parts.{forwardBy, inverseBy}
 use Rattle.chain.specs.Convert.{forwardStep, inverseStep, startOf, endOf, joins, moreTests, placeTests, convert, forwardOf, inverseOf}
 use Rattle.chain.specs.Ready.{readyFor}
@@ -52,7 +52,22 @@ eight-steps n = go (leb 8 n) refl
     go true e = let a = many-steps n (leb-true 8 n e) in rw a
     go false e = let a = few-steps n 7 (omega (arith, leb-false 8 n e)) in rw a
 
--- what a chain is refused for
+-- ---- a step in the middle of good steps
+later-at : (y : ℤ) (s : Step) (a : List Step) (t : Step) (b : List Step) → first (laterTests y s (a ++ (t ∷ b))) ≡ 0 → (stepFault y t ≡ 0) × (sameRealization (endOf (s .after) a) (t .before) ≡ true)
+unfolding stepFault endOf
+later-at y s [] t b e =
+    let p = both-pass (stepTests y t) (joinTest s t ∷ laterTests y t b) tt e in
+    (p .0, head-holds (sameRealization (s .after) (t .before)) _ (first (laterTests y t b)) (p .1) .0)
+later-at y s (u ∷ us) t b e =
+    let p = both-pass (stepTests y u) (joinTest s u ∷ laterTests y u (us ++ (t ∷ b))) tt e in
+    later-at y u us t b (head-holds (sameRealization (s .after) (u .before)) _ (first (laterTests y u (us ++ (t ∷ b)))) (p .1) .1)
+
+pub steps-at : (y : ℤ) (a : List Step) (t : Step) (b : List Step) → first (stepsTests y (a ++ (t ∷ b))) ≡ 0 → (stepFault y t ≡ 0) × (joins a t ≡ true)
+unfolding stepFault endOf
+steps-at y [] t b e = (both-pass (stepTests y t) (laterTests y t b) tt e .0, same-self (t .before))
+steps-at y (s ∷ ss) t b e = later-at y s ss t b (both-pass (stepTests y s) (laterTests y s (ss ++ (t ∷ b))) tt e .1)
+
+-- ---- what a chain is refused for
 abbrev ownTests : ℤ → ℕ → List Step → List Test
 ownTests y n ss = (not (profileRange y) gives refusal.range) ∷ (ltb 8 n gives refusal.ninth) ∷ stepsTests y ss
 
@@ -62,7 +77,7 @@ module _ (y : ℤ) (l : List ℤ) (ss : List Step) (holds : Holds y l ss) where
   short =
       let g = rw (take-length ss) at (holds .sound) in
       let f = head-holds (profileRange y) _ _ g in
-      ltb-false 8 (length ss) (step-passed (ltb 8 (length ss)) 6 (first (stepsTests y ss)) tt (f .1) .0)
+      ltb-false 8 (length ss) (step-passed (ltb 8 (length ss)) refusal.ninth (first (stepsTests y ss)) tt (f .1) .0)
 
   module _ (p : Point) where
     tests : (n : ℕ) (given wanted : Realization) → n ≤ 8 → (equal (pos 0) (pos n) || sameRealization (p .realization) given) ≡ sameRealization (p .realization) wanted → first (preparedTests (pos n) given p) ≡ first (placeTests p wanted)
@@ -124,7 +139,7 @@ pub sound-more : (y : ℤ) (ss : List Step) (t : Step) → first (chainTests (ch
 sound-more y ss t e h f j =
     let g = rw (take-length ss) at e in
     let m = head-holds (profileRange y) _ _ g in
-    let n = step-passed (ltb 8 (length ss)) 6 (first (stepsTests y ss)) tt (m .1) in
+    let n = step-passed (ltb 8 (length ss)) refusal.ninth (first (stepsTests y ss)) tt (m .1) in
     let a : ltb 8 (length (ss ++ (t ∷ []))) ≡ false = le-ltb 8 (length (ss ++ (t ∷ []))) (simp length-append (omega arith)) in
     rw (take-length (ss ++ (t ∷ [])), m .0, a) (steps-joined y ss (t ∷ []) (n .1) (alone-passes y t f) j)
 

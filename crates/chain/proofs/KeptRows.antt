@@ -1,16 +1,17 @@
 -- The rows of a prepared chain: what the numbers written there say, that a step's figures are in range, and rows one after another. Assumes nothing.
 use mathlib.Core.Path.{_≡_, refl, _∙_, ap, ap₂}
-use mathlib.Core.Bool.{true, _&&_}
+use mathlib.Core.Bool.{true, false, _&&_}
 use mathlib.Core.List.{List, [], _∷_, _++_, reverse, reverseAux-eq}
 use Prim.Native.Nat.{ℕ, zero, suc, _+_, _*_, _<_, _≤_}
 use native.Mathlib.Nat.{add-zero}
 use native.Mathlib.Omega.{arith}
+use borrow.Author.Tests.{lt-ltb}
 use lib.IntN.{ℤ, pos, natAbs}
 use lib.ListN.{length, getD, set, length-set}
 use lib.Seq.{sets, getD-set-same, getD-set-other}
 use Rattle.refusal.specs.Order.{first}
-use Rattle.ranges.specs.Ranges.{within, upTo, shiftRange, scaleRange}
-use Rattle.ranges.proofs.Ranges.{natural-holds, both, all, up-to, up-to-holds}
+use Rattle.ranges.specs.Ranges.{equal, upTo, shiftRange, scaleRange}
+use Rattle.ranges.proofs.Ranges.{natural-holds, both, all, above, equal-self, up-to, up-to-holds}
 use Rattle.chain.specs.declared.Realization.{Realization}
 use Rattle.chain.specs.declared.Step.{Step}
 use Rattle.chain.specs.declared.steps.Ready.{Ready}
@@ -57,12 +58,16 @@ numbers-length (Fixed g) = refl
 numbers-length (Turned t) = refl
 numbers-length (Scaled t) = refl
 
+-- a form that comes later
+other-form : (n m : ℕ) → n < m → equal (pos n) (pos m) ≡ false
+other-form n m h = above (pos n) (pos m) (pos n) (lt-ltb n m h)
+
 -- the numbers of a step say it
 says : (r : Ready) → readyAt (numbersOf r) 0 ≡ r
-unfolding readyAt within
-says (Fixed g) = refl
-says (Turned t) = refl
-says (Scaled t) = refl
+unfolding readyAt
+says (Fixed g) = rw (equal-self (pos 0))
+says (Turned t) = rw (other-form 0 1 (omega arith), equal-self (pos 1))
+says (Scaled t) = rw (other-form 0 2 (omega arith), other-form 1 2 (omega arith))
 
 known : (r : Ready) → formRange (number (numbersOf r) 0 0) ≡ true
 known (Fixed g) = natural-holds 0 0 2 (omega arith) (omega arith)

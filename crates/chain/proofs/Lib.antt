@@ -21,3 +21,4 @@ pub mod Legs
 pub mod Lifting
 pub mod Readying
 pub mod RowLaws
+pub mod Carried

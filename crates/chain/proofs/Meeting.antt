@@ -95,7 +95,7 @@ module _ (y : ℤ) where
       first-append (stepTests y t) (joinTest s t ∷ laterTests y t ts) tt ∙ rw (p .0, j) (p .1)
   later-joined s (u ∷ us) t ts e f j =
       let p = both-pass (stepTests y u) (joinTest s u ∷ laterTests y u us) tt e in
-      let q = head-holds (sameRealization (s .after) (u .before)) 4 (first (laterTests y u us)) (p .1) in
+      let q = head-holds (sameRealization (s .after) (u .before)) _ (first (laterTests y u us)) (p .1) in
       first-append (stepTests y u) (joinTest s u ∷ laterTests y u (us ++ (t ∷ ts))) tt ∙ rw (p .0, q .0) (later-joined u us t ts (q .1) f j)
 
   pub steps-joined : (ss ts : List Step) → first (stepsTests y ss) ≡ 0 → first (stepsTests y ts) ≡ 0 → meet ss ts ≡ true → first (stepsTests y (ss ++ ts)) ≡ 0

@@ -1,6 +1,5 @@
 -- A chain made ready holds its steps, and a point by it is the single conversion by the chain. Assumes nothing.
 use mathlib.Core.Path.{_≡_, refl, sym, _∙_, ap, subst}
-use mathlib.Core.Bool.{true}
 use mathlib.Core.List.{List, [], _∷_, _++_, reverse, append-nil, append-assoc}
 use Prim.Native.Nat.{ℕ, zero, suc, _≤_}
 use native.Mathlib.Omega.{arith}
@@ -9,7 +8,7 @@ use lib.IntN.{ℤ}
 use lib.ListN.{length, length-take, length-append}
 use lib.Seq.{take-length}
 use Rattle.refusal.specs.Order.{first, unless}
-use Rattle.refusal.proofs.Orders.{first-append, both-pass, head-holds, passed, stop, on, unless-some, unless-none}
+use Rattle.refusal.proofs.Orders.{first-append, head-holds, passed, stop, on, unless-some, unless-none}
 use Rattle.ranges.specs.Ranges.{profileRange}
 use Rattle.chain.specs.declared.Realization.{Realization}
 use Rattle.chain.specs.declared.Point.{Point}
@@ -20,34 +19,19 @@ use Rattle.chain.specs.declared.Answer.{Answer}
 use Rattle.chain.specs.declared.Answer.the-variants.{Converted, Refused}
 use Rattle.chain.specs.declared.Direction.{Direction}
 use Rattle.chain.specs.declared.Direction.the-variants.{Forward, Inverse}
-use Rattle.chain.specs.Faults.{stepFault, pointFault, sameRealization, pointTests, stepTests, joinTest, laterTests, stepsTests, chainTests, stepsOf}
-use Rattle.chain.specs.Convert.{Walk, walk, forwardStep, inverseStep, answerOf, startOf, endOf, joins, moreTests, placeTests, convert, forwardOf, inverseOf}
+use Rattle.chain.specs.Faults.{stepFault, pointFault, pointTests, stepTests, stepsTests, chainTests, stepsOf}
+use Rattle.chain.specs.Convert.{Walk, walk, forwardStep, inverseStep, answerOf, startOf, endOf, moreTests, placeTests, convert, forwardOf, inverseOf}
 use Rattle.chain.specs.Prepared.{extendedBy, chainOf, Holds}
 use Rattle.chain.specs.PointRow.{convertOf, noNumbers, extendedAll, readyOf, convertPrepared, convertReady}
-use Rattle.chain.proofs.Within.{same-self}
 use Rattle.chain.proofs.Accepted.{numbered-steps, chain-passed, entry, by-chain, by-point}
-use Rattle.chain.proofs.Keeping.{extended-holds, holds-none, prepared-forward, prepared-inverse}
+use Rattle.chain.proofs.Keeping.{steps-at, extended-holds, holds-none, prepared-forward, prepared-inverse}
 
--- ---- of steps that pass, each passes by itself and begins where those before it end
+-- ---- of steps that pass, each passes after those before it
 module _ (y : ℤ) (t : Step) (ts : List Step) where
-  later-next : (s : Step) (ss : List Step) → first (laterTests y s (ss ++ (t ∷ ts))) ≡ 0 → (stepFault y t ≡ 0) × (sameRealization (endOf (s .after) ss) (t .before) ≡ true)
-  unfolding stepFault endOf
-  later-next s [] e =
-      let p = both-pass (stepTests y t) (joinTest s t ∷ laterTests y t ts) tt e in
-      (p .0, head-holds (sameRealization (s .after) (t .before)) 4 (first (laterTests y t ts)) (p .1) .0)
-  later-next s (u ∷ us) e =
-      let p = both-pass (stepTests y u) (joinTest s u ∷ laterTests y u (us ++ (t ∷ ts))) tt e in
-      later-next u us (head-holds (sameRealization (s .after) (u .before)) 4 (first (laterTests y u (us ++ (t ∷ ts)))) (p .1) .1)
-
-  steps-next : (ss : List Step) → first (stepsTests y (ss ++ (t ∷ ts))) ≡ 0 → (stepFault y t ≡ 0) × (joins ss t ≡ true)
-  unfolding stepFault endOf
-  steps-next [] e = (both-pass (stepTests y t) (laterTests y t ts) tt e .0, same-self (t .before))
-  steps-next (s ∷ ss) e = later-next s ss (both-pass (stepTests y s) (laterTests y s (ss ++ (t ∷ ts))) tt e .1)
-
   next-passes : (ss : List Step) → first (stepsTests y (ss ++ (t ∷ ts))) ≡ 0 → length (ss ++ (t ∷ ts)) ≤ 8 → first (stepTests y t ++ moreTests ss t) ≡ 0
   unfolding stepFault
   next-passes ss e k =
-      let n = steps-next ss e in
+      let n = steps-at y ss t ts e in
       let few = lt-leb 8 (length ss) (omega (arith, length-append ss (t ∷ ts))) in
       first-append (stepTests y t) (moreTests ss t) tt ∙ rw (n .0, n .1, few)
 

@@ -15,8 +15,8 @@ use Rattle.chain.specs.declared.Chain.{Chain}
 use Rattle.chain.specs.declared.Answer.{Answer}
 use Rattle.chain.specs.declared.Answer.the-variants.{Converted}
 use Rattle.ranges.specs.Ranges.{within}
-use Rattle.rounding.specs.Nearest.{toEven, rounded}
-use Rattle.chain.specs.Faults.{realizationRange, agrees, sameRealization, hasDatum, hasKind, hasStep, givenPosition, inArea, labelRange, pointRange, kindRange, stepRange, kindRule}
+use Rattle.rounding.specs.Worked.{openRounding}
+use Rattle.chain.specs.Faults.{realizationRange, agrees, sameRealization, hasDatum, hasKind, hasStep, givenPosition, inArea, labelRange, pointRange, pointFault, kindRange, stepRange, stepFault, kindRule}
 use Rattle.chain.specs.Rows.{rowIndex, rowOf}
 use Rattle.chain.specs.Parts.{stepRound, linear, part, gain, shiftParts, velocityParts, rotation11, scaledRotation, bursaWolfParts, atEpoch, frameParts, kindParts, plus, minus, forwardBy, again, inverseBy}
 use Rattle.chain.specs.Convert.{walk, startOf, endOf, answerOf, convert, forwardOf, inverseOf}
@@ -61,7 +61,7 @@ pub record Case : Type 0 where
 
 -- what is answered. Opened, it computes: the line names all that a conversion is worked out by, so that a proof that works cases out names this alone
 unfoldable pub answer : Case → Answer
-unfolding toEven rounded within realizationRange agrees sameRealization hasDatum hasKind hasStep givenPosition inArea labelRange pointRange kindRange stepRange kindRule rowIndex rowOf stepRound linear part gain shiftParts velocityParts rotation11 scaledRotation bursaWolfParts atEpoch frameParts kindParts plus minus forwardBy again inverseBy walk startOf endOf answerOf convert forwardOf inverseOf
+unfolding openRounding within realizationRange agrees sameRealization hasDatum hasKind hasStep givenPosition inArea labelRange pointRange pointFault kindRange stepRange stepFault kindRule rowIndex rowOf stepRound linear part gain shiftParts velocityParts rotation11 scaledRotation bursaWolfParts atEpoch frameParts kindParts plus minus forwardBy again inverseBy walk startOf endOf answerOf convert forwardOf inverseOf
 answer c = over (c .way)
   where
     over : Way → Answer

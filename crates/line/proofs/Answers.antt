@@ -8,6 +8,7 @@ use lib.Seq.{length-take-le}
 use native.Mathlib.Decide.{ℕ-discrete}
 use native.Mathlib.Omega.{arith}
 use borrow.Author.Tests.{eq-eqb, ne-eqb}
+use Rattle.ranges.proofs.Carried.{Careful}
 use Rattle.line.specs.Fields.{body, fields, Form, filled, inBody, said}
 use Rattle.line.specs.Readers.{judged, readAs}
 use Rattle.line.specs.Reading.{TellsLine, Told, Framed}
@@ -53,11 +54,6 @@ module _ {A R : Type 0} (answer : Option A → R) (form : Form A) (line : List �
         go (some a) t = e a (t .0)
 
 -- ---- a line whose record is judged by its fault
--- a fault that cannot tell a record from the record as it is carried, and finds none only where the two are one
-pub record Careful {A : Type 0} (faultOf : A → ℕ) (carried : A → A) : Type 0 where
-  pub same : (a : A) → faultOf (carried a) ≡ faultOf a
-  pub kept : (a : A) → faultOf a ≡ 0 → carried a ≡ a
-
 module _ {A R : Type 0} (faultOf : A → ℕ) (good : A → R) (refused : ℕ → R) where
   judged-none : (a : A) → faultOf a ≡ 0 → judged faultOf good refused a ≡ good a
   judged-none a e = rw (eq-eqb (faultOf a) 0 e)

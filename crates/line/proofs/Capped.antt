@@ -2,33 +2,20 @@
 -- it is. So a fault of a carried record is the fault of the record, and where there is none the two are one.
 use Prim.Native.Nat.{ℕ, suc, _≤_, _<_, min}
 use mathlib.Core.Path.{_≡_, refl, sym, ap, _∙_}
-use mathlib.Core.Bool.{Bool, true, false, not, _&&_, _||_}
+use mathlib.Core.Bool.{Bool, true, false}
 use lib.IntN.{ℤ, pos, negsuc, negℤ, natAbs}
 use lib.Signed.{leZ}
 use native.Mathlib.Decide.{decLt}
 use native.Mathlib.Omega.{arith}
 use borrow.Author.Tests.{le-leb, lt-leb}
-use Rattle.refusal.specs.Order.{pick}
 use Rattle.ranges.specs.Ranges.{within}
 use Rattle.ranges.proofs.Ranges.{alike, sized}
+use Rattle.ranges.proofs.Carried.{Sure}
 use Rattle.line.specs.Reading.{cap, cappedZ}
-use Rattle.line.proofs.Answers.{Careful}
 
 -- ---- bools
 pub never : _≡_ {A = Bool} false true → ⊥
 never q = let w : _≡_ {A = ℕ} 0 1 = cc in omega arith
-
-pub both : {a b c d : Bool} → a ≡ c → b ≡ d → (a && b) ≡ (c && d)
-both e f = rw (e, f)
-
-pub halves : (a b : Bool) → (a && b) ≡ true → (a ≡ true) × (b ≡ true)
-halves true b e = (refl, e)
-halves false b e = absurd (never e)
-
--- ---- a test that cannot tell a value from the value as it is carried, and passes only where the two are one
-pub record Sure {A : Type 0} (carried : A → A) (test : A → Bool) : Type 0 where
-  pub same : (a : A) → test (carried a) ≡ test a
-  pub kept : (a : A) → test a ≡ true → carried a ≡ a
 
 -- ---- a number
 kept-pos : (n : ℕ) → n < cap → cappedZ (pos n) ≡ pos n
@@ -93,30 +80,3 @@ sure-within lo hi l h =
       same = λ z. alike lo hi (cappedZ z) z (above-same lo z l) (below-same z hi h);
       kept = λ z e. kept-size z (sized lo z hi 9999999999999 (omega arith) (omega arith) e);
     }
-
-pub sure-either : {A : Type 0} {carried : A → A} {s t : A → Bool} → Sure carried s → Sure carried t → Sure carried (λ a. s a || t a)
-sure-either {A} {carried} {s} {t} p q =
-    record { same = λ a. rw (p .same a, q .same a); kept = λ a e. go a (s a) refl e }
-  where
-    go : (a : A) (b : Bool) → s a ≡ b → (b || t a) ≡ true → carried a ≡ a
-    go a true e f = p .kept a e
-    go a false e f = q .kept a f
-
--- ---- faults
--- no fault: the first test passes, and so do the rest
-pub passed : (t : Bool) (n m : ℕ) → (n ≡ 0 → ⊥) → pick t n m ≡ 0 → (t ≡ false) × (m ≡ 0)
-passed true n m z e = absurd (z e)
-passed false n m z e = (refl, e)
-
--- the first test of a fault is sure: so is the fault
-pub careful-first : {A : Type 0} {carried : A → A} {test : A → Bool} (rest : A → ℕ) (n : ℕ) → (n ≡ 0 → ⊥) → Sure carried test
-    → Careful (λ a. pick (not (test a)) n (rest a)) carried
-careful-first {A} {carried} {test} rest n z p = record { same = λ a. same a (test a) refl; kept = λ a e. kept a (test a) refl e }
-  where
-    same : (a : A) (b : Bool) → test a ≡ b → pick (not (test (carried a))) n (rest (carried a)) ≡ pick (not (test a)) n (rest a)
-    same a true e = ap (λ (x : A). pick (not (test x)) n (rest x)) (p .kept a e)
-    same a false e = rw (p .same a, e)
-
-    kept : (a : A) (b : Bool) → test a ≡ b → pick (not b) n (rest a) ≡ 0 → carried a ≡ a
-    kept a true e q = p .kept a e
-    kept a false e q = absurd (z q)

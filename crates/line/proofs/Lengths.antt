@@ -20,9 +20,9 @@ use Rattle.line.specs.Text.{decimal, integer, highest, letters, nameText
 use Rattle.line.proofs.Texts as T
 
 -- ---- numbers and names
-len-pow : (k n : ℕ) → n < 10 ^ suc k → length (decimal n) ≤ suc k
-len-pow zero n h = omega (arith, ap length (T.decimal-one n h))
-len-pow (suc k) n h = go (decLt n 10) (λ l. len-pow k (n / 10) l)
+pub length-decimal : (k n : ℕ) → n < 10 ^ suc k → length (decimal n) ≤ suc k
+length-decimal zero n h = omega (arith, ap length (T.decimal-one n h))
+length-decimal (suc k) n h = go (decLt n 10) (λ l. length-decimal k (n / 10) l)
   where
     go : Dec (n < 10) → (n / 10 < 10 ^ suc k → length (decimal (n / 10)) ≤ suc k) → length (decimal n) ≤ suc (suc k)
     go (yes l) on = omega (arith, ap length (T.decimal-one n l))
@@ -33,8 +33,8 @@ len-pow (suc k) n h = go (decLt n 10) (λ l. len-pow k (n / 10) l)
 
 pub length-integer : (k : ℕ) (z : ℤ) → natAbs z < 10 ^ suc k → length (integer z) ≤ suc (suc k)
 unfolding integer
-length-integer k (pos n) h = omega (arith, len-pow k n h)
-length-integer k (negsuc n) h = omega (arith, len-pow k (suc n) h)
+length-integer k (pos n) h = omega (arith, length-decimal k n h)
+length-integer k (negsuc n) h = omega (arith, length-decimal k (suc n) h)
 
 -- a number that cannot be negative
 length-plus : (k : ℕ) (a b : ℕ) (z : ℤ) → b < 10 ^ suc k → within (pos a) z (pos b) ≡ true → length (integer z) ≤ suc k
@@ -42,7 +42,7 @@ unfolding integer
 length-plus k a b z h e =
     let p = natural a z b e in
     let l = p .high in
-    rw (p .is) (len-pow k (p .n) (omega arith))
+    rw (p .is) (length-decimal k (p .n) (omega arith))
 
 length-letters : (k w : ℕ) → length (letters k w) ≤ k
 unfolding letters
@@ -87,4 +87,4 @@ length-projected id e n h k =
 -- a refusal line of a line number below 100,000: at most 12 bytes and the digits of the place
 pub length-refusal : (line number place k : ℕ) → line < 100000 → number < 100 → place < 10 ^ suc k → length (refusalText line number place) ≤ 12 + suc k
 length-refusal line number place k h i j =
-    rw (sym (T.refusal-is line number place)) (simp length-append (omega (arith, len-pow 4 line h, len-pow 1 number i, len-pow k place j)))
+    rw (sym (T.refusal-is line number place)) (simp length-append (omega (arith, length-decimal 4 line h, length-decimal 1 number i, length-decimal k place j)))

@@ -22,3 +22,5 @@ pub mod Back
 pub mod Ahead
 pub mod Counted
 pub mod Words
+pub mod Unread
+pub mod InARow

@@ -16,6 +16,27 @@ use Rattle.line.specs.Bytes.{lineFeed}
 use Rattle.line.specs.Fields.{front}
 use Rattle.line.specs.Lines.{lines, firstLength, lineEnd, Clear, Onward}
 
+-- ---- byte by byte
+pub no-lines : lines [] ≡ []
+unfolding lines
+no-lines = refl
+
+pub lines-on : (b : ℕ) (s : List ℕ) → lines (b ∷ s) ≡ pick (eqb b lineFeed) ((b ∷ []) ∷ lines s) (front b (lines s))
+unfolding lines
+lines-on b s = refl
+
+pub first-none : firstLength [] ≡ 0
+unfolding firstLength
+first-none = refl
+
+pub first-on : (b : ℕ) (s : List ℕ) → firstLength (b ∷ s) ≡ pick (eqb b lineFeed) 1 (suc (firstLength s))
+unfolding firstLength
+first-on b s = refl
+
+pub first-end : (s : List ℕ) → lineEnd s 0 ≡ firstLength s
+unfolding lineEnd
+first-end s = omega arith
+
 -- ---- the first line's length, by its first byte
 pub length-feed : (s : List ℕ) (i : ℕ) → i < length s → getD s i 0 ≡ lineFeed → firstLength (drop i s) ≡ 1
 unfolding firstLength
@@ -95,7 +116,7 @@ first-line (b ∷ c ∷ s) h = go (eqb b lineFeed) (first-line (c ∷ s) (omega 
     go true ih = refl
     go false ih = ap (front b) ih
 
-first-some : (s : List ℕ) → 0 < length s → 0 < firstLength s
+pub first-some : (s : List ℕ) → 0 < length s → 0 < firstLength s
 unfolding firstLength
 first-some [] h = absurd (omega arith)
 first-some (b ∷ s) h = go (eqb b lineFeed)
@@ -104,7 +125,7 @@ first-some (b ∷ s) h = go (eqb b lineFeed)
     go true = omega arith
     go false = omega arith
 
-first-fits : (s : List ℕ) → firstLength s ≤ length s
+pub first-fits : (s : List ℕ) → firstLength s ≤ length s
 unfolding firstLength
 first-fits [] = omega arith
 first-fits (b ∷ s) = go (eqb b lineFeed) (first-fits s)
@@ -155,6 +176,17 @@ total-lines (b ∷ s) = go (eqb b lineFeed) (total-lines s)
     go : (t : Bool) → total (lines s) ≡ length s → total (pick t ((b ∷ []) ∷ lines s) (front b (lines s))) ≡ suc (length s)
     go true h = omega arith
     go false h = omega (arith, total-front b (lines s))
+
+-- at most as many lines as bytes
+pub count-lines : (s : List ℕ) → length (lines s) ≤ length s
+unfolding lines
+count-lines [] = omega arith
+count-lines (b ∷ s) = go (eqb b lineFeed) (lines s) (count-lines s)
+  where
+    go : (t : Bool) (ls : List (List ℕ)) → length ls ≤ length s → length (pick t ((b ∷ []) ∷ ls) (front b ls)) ≤ suc (length s)
+    go true ls h = omega (arith, h)
+    go false [] h = omega arith
+    go false (l ∷ ls) h = omega (arith, h)
 
 -- past the end there are none
 pub lines-none : (s : List ℕ) (p : ℕ) → length s ≤ p → lines (drop p s) ≡ []

@@ -32,19 +32,20 @@ sets-out [] l i h = refl
 sets-out (v ∷ vs) l i h =
     ap (λ (m : List ℕ). sets m (suc i) vs) (set-out l i v h) ∙ sets-out vs l (suc i) (omega arith)
 
+-- nothing gets longer or shorter
+pub same-size : {l : List ℕ} {at : ℕ} {vs m : List ℕ} {r : ℕ} → Wrote l at vs m r → length m ≡ length l
+same-size {l} {at} {vs} w = ap length (w .list) ∙ length-sets l at vs
+
 pub «then» : {l : List ℕ} {at : ℕ} {vs m : List ℕ} {r : ℕ} {ws k : List ℕ} {q : ℕ} → Wrote l at vs m r → Wrote m r ws k q → Wrote l at (vs ++ ws) k q
 «then» {l} {at} {vs} {m} {r} {ws} {k} {q} a b =
-    record { place = omega (arith, a .place, b .place, size, length-append vs ws); list = b .list ∙ go (decLe (at + length vs) (length l)) }
+    record { place = omega (arith, a .place, b .place, same-size a, length-append vs ws); list = b .list ∙ go (decLe (at + length vs) (length l)) }
   where
-    size : length m ≡ length l
-    size = ap length (a .list) ∙ length-sets l at vs
-
     go : Dec (at + length vs ≤ length l) → sets m r ws ≡ sets l at (vs ++ ws)
     go (yes h) =
         let e : r ≡ at + length vs = omega (arith, a .place) in
         rw (e, a .list) (sym (sets-append vs ws l at))
     go (no h) =
-        sets-out ws m r (omega (arith, a .place, size)) ∙ a .list
+        sets-out ws m r (omega (arith, a .place, same-size a)) ∙ a .list
         ∙ sym (sets-append vs ws l at ∙ sets-out ws (sets l at vs) (at + length vs) (omega (arith, length-sets l at vs)))
 
 -- nothing written

@@ -12,3 +12,4 @@ pub mod Lot
 pub mod Later
 pub mod Reading
 pub mod SecondLook
+pub mod Worked

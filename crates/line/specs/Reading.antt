@@ -8,14 +8,12 @@ use lib.Dec.{leb}
 use lib.IntN.{ℤ, pos, negsuc, negℤ}
 use lib.ListN.{length, getD, take, drop}
 use Rattle.refusal.specs.Order.{pick}
-use Rattle.chain.specs.declared.Realization.{Realization}
-use Rattle.chain.specs.declared.Position.{Position}
-use Rattle.chain.specs.declared.Label.{Label}
 use Rattle.chain.specs.declared.Point.{Point}
 use Rattle.chain.specs.declared.Kind.{Kind}
-use Rattle.chain.specs.declared.Kind.the-variants.{Shift, Velocity, BursaWolf, Frame}
 use Rattle.chain.specs.declared.Step.{Step}
+use Rattle.chain.specs.Carried.{carriedPoint, carriedKind, carriedStep}
 use Rattle.angle.specs.declared.OriginNumbers.{OriginNumbers}
+use Rattle.angle.specs.Carried.{carriedOrigin}
 use Rattle.line.specs.declared.Geodetic.{Geodetic}
 use Rattle.line.specs.declared.GridHeader.{GridHeader}
 use Rattle.line.specs.declared.Parts.{Parts}
@@ -158,52 +156,17 @@ pub record Packed (s : List ℕ) (at v next : ℕ) : Type 0 where
   pub last : 0 < left → isNameByte (getD s next 0) ≡ false
 
 -- ---- records with their numbers as they are carried
-abbrev pub cappedRealization : Realization → Realization
-cappedRealization r = record { datum = cappedZ (r .datum); epoch = cappedZ (r .epoch) }
-
-abbrev pub cappedPosition : Position → Position
-cappedPosition p = record { x = cappedZ (p .x); y = cappedZ (p .y); z = cappedZ (p .z) }
-
-abbrev pub cappedLabel : Label → Label
-cappedLabel l = record { id = l .id; issue = cappedZ (l .issue); order = cappedZ (l .order) }
-
 abbrev pub cappedPoint : Point → Point
-cappedPoint p =
-    record {
-      label = cappedLabel (p .label);
-      realization = cappedRealization (p .realization);
-      position = cappedPosition (p .position);
-    }
+cappedPoint = carriedPoint cappedZ
 
 abbrev pub cappedKind : Kind → Kind
-cappedKind (Shift t) = Shift (record { dx = cappedZ (t .dx); dy = cappedZ (t .dy); dz = cappedZ (t .dz) })
-cappedKind (Velocity t) = Velocity (record { vx = cappedZ (t .vx); vy = cappedZ (t .vy); vz = cappedZ (t .vz) })
-cappedKind (BursaWolf t) =
-    BursaWolf
-    (record {
-      convention = t .convention;
-      dx = cappedZ (t .dx);
-      dy = cappedZ (t .dy);
-      dz = cappedZ (t .dz);
-      rx = cappedZ (t .rx);
-      ry = cappedZ (t .ry);
-      rz = cappedZ (t .rz);
-      s = cappedZ (t .s);
-    })
-cappedKind Frame = Frame
+cappedKind = carriedKind cappedZ
 
 abbrev pub cappedStep : Step → Step
-cappedStep s = record { kind = cappedKind (s .kind); before = cappedRealization (s .before); after = cappedRealization (s .after) }
+cappedStep = carriedStep cappedZ
 
 abbrev pub cappedOrigin : OriginNumbers → OriginNumbers
-cappedOrigin o =
-    record {
-      ellipsoid = cappedZ (o .ellipsoid);
-      latitude = cappedZ (o .latitude);
-      longitude = cappedZ (o .longitude);
-      «false_easting» = cappedZ (o .«false_easting»);
-      «false_northing» = cappedZ (o .«false_northing»);
-    }
+cappedOrigin = carriedOrigin cappedZ
 
 abbrev pub cappedGeodetic : Geodetic → Geodetic
 cappedGeodetic g = record { id = g .id; latitude = cappedZ (g .latitude); longitude = cappedZ (g .longitude) }

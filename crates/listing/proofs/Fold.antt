@@ -1,6 +1,6 @@
 -- The laws of a program's run over the lines of its input. Assumes nothing.
 use Prim.Native.Nat.{ℕ, zero, suc, _+_, _-_, _≤_, _<_}
-use mathlib.Core.Path.{_≡_, sym, subst}
+use mathlib.Core.Path.{_≡_, refl, sym, subst, _∙_}
 use mathlib.Core.Bool.{Bool, true, false}
 use mathlib.Core.List.{List, [], _∷_, _++_, append-assoc}
 use lib.Dec.{eqb}
@@ -13,7 +13,7 @@ use Rattle.refusal.specs.Order.{pick}
 use Rattle.line.specs.Bytes.{lineFeed}
 use Rattle.line.specs.Lines.{lines, lineEnd}
 use Rattle.line.specs.BareLines.{Feed, feedsText}
-use Rattle.line.proofs.BareLines.{feed-line}
+use Rattle.line.proofs.BareLines.{feed-line, feeds-none, feeds-on}
 use Rattle.line.specs.Text.{Wrote, refusalText}
 use Rattle.line.proofs.Lines.{piece, lines-none}
 use Rattle.line.proofs.Texts.{«then», nothing}
@@ -52,6 +52,12 @@ unfoldable pub afterFeeds : {S R : Type 0} → Rules S R → ℕ → S → S
 afterFeeds r zero s = s
 afterFeeds r (suc k) s = afterFeeds r k (r .next s (lineFeed ∷ []))
 
+-- what each of them adds, k of them add
+pub after-feeds : {S R : Type 0} (r : Rules S R) (by : ℕ → S → S) → ((s : S) → by 0 s ≡ s) → ((k : ℕ) (s : S) → by (suc k) s ≡ by k (r .next s (lineFeed ∷ []))) → (k : ℕ) (s : S) → afterFeeds r k s ≡ by k s
+unfolding afterFeeds
+after-feeds r by none one zero s = sym (none s)
+after-feeds r by none one (suc k) s = after-feeds r by none one k (r .next s (lineFeed ∷ [])) ∙ sym (one k s)
+
 -- a program that knows no such line: it refuses each by its letter, and counts it
 pub record Bare {S R : Type 0} (r : Rules S R) (number : S → ℕ) : Type 0 where
   pub refused : (s : S) → r .text (r .reply s (lineFeed ∷ [])) ≡ refusalText (number s) refusal.letter 0
@@ -59,13 +65,13 @@ pub record Bare {S R : Type 0} (r : Rules S R) (number : S → ℕ) : Type 0 whe
 
 module _ {S R : Type 0} {r : Rules S R} {number : S → ℕ} (bare : Bare r number) where
   run-feeds : (k p : ℕ) (s : S) (input : List ℕ) → ((i : ℕ) → i < k → Feed input (p + i)) → run r s (lines (drop p input)) ≡ feedsText k (number s) ++ run r (afterFeeds r k s) (lines (drop (p + k) input))
-  unfolding run feedsText afterFeeds
-  run-feeds zero p s input each = rw add-zero
+  unfolding run afterFeeds
+  run-feeds zero p s input each = rw (add-zero, feeds-none 0 (number s) refl)
   run-feeds (suc k) p s input each =
       let first : Feed input p = subst (Feed input) (add-zero p) (each 0 (omega arith)) in
       let e : p + suc k ≡ p + 1 + k = omega arith in
       let others = run-feeds k (p + 1) (r .next s (lineFeed ∷ [])) input (λ i h. let f : p + suc i ≡ p + 1 + i = omega arith in subst (Feed input) f (each (suc i) (omega arith))) in
-      rw (feed-line input p first, bare .refused s, others, bare .counted s, e) (sym (append-assoc (refusalText (number s) refusal.letter 0) (feedsText k (number s + 1)) _))
+      rw (feed-line input p first, bare .refused s, others, bare .counted s, e, feeds-on (suc k) (number s) k (number s + 1) (omega arith) (omega arith) refl) (sym (append-assoc (refusalText (number s) refusal.letter 0) (feedsText k (number s + 1)) _))
 
   pub feeds-counted : (k : ℕ) (s : S) → number (afterFeeds r k s) ≡ number s + k
   unfolding afterFeeds

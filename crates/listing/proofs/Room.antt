@@ -16,7 +16,7 @@ use Rattle.line.specs.Lines.{lines}
 use Rattle.line.specs.Text.{Wrote, refusalText}
 use Rattle.line.proofs.Lines.{total, total-lines, Some, some-lines}
 use Rattle.line.proofs.Lengths.{length-refusal}
-use Rattle.listing.specs.Fold.{Rules, run, longestInput, printed, roomFor, Prints}
+use Rattle.listing.specs.Fold.{Rules, run, longestInput, shortInput, printed, roomFor, Prints}
 
 -- a refusal fits wherever a line has a byte and a number of at most five digits: in a line of one byte a place has one digit, and two bytes have room for three
 pub refusal-fits : (l : List ℕ) (line n place : ℕ) → 0 < length l → line < 100000 → n < 100 → place ≤ length l → place ≤ longestLine → length (refusalText line n place) ≤ 13 * length l
@@ -25,6 +25,15 @@ refusal-fits l line n place some few h inside low = go (decLt place 10)
     go : Dec (place < 10) → length (refusalText line n place) ≤ 13 * length l
     go (yes d) = omega (arith, length-refusal line n place 0 few h (omega arith))
     go (no d) = omega (arith, length-refusal line n place 2 few h (omega arith))
+
+-- the largest room is enough for any input, and the short one for a short input
+pub any-fits : (n : ℕ) → roomFor n ≤ 851977
+unfolding roomFor
+any-fits n = omega arith
+
+pub short-fits : (n : ℕ) → n ≤ shortInput → roomFor n ≤ 53257
+unfolding roomFor
+short-fits n h = omega arith
 
 -- a program that counts its lines, and replies to each within the line's room
 pub record Roomy {S R : Type 0} (r : Rules S R) (number : S → ℕ) : Type 0 where

@@ -19,6 +19,7 @@ use Rattle.bounds.proofs.Formula.{All, none, also, value, tested, proved, Fine,
 use Rattle.bounds.proofs.Zero.{ranged, wholes, told-among, whole-among, ofInt-among}
 use Rattle.elementary.specs.Floats.{near, whole}
 use Rattle.angle.specs.Units.{k}
+use Rattle.angle.proofs.UnitLaws.{k-is}
 use Rattle.angle.specs.declared.Projected.the-variants.{Refused}
 use Rattle.angle.proofs.Sizes.{axis, eccentricity, shaped}
 use Rattle.angle.proofs.Wholes.{upto}
@@ -52,8 +53,8 @@ abbrev planeB : Ends
 planeB = record { lo = near 0 1; hi = near 30000000 1; side = untold }
 
 plane-tests : T (tested accepted eastF planeB) × T (tested accepted northF planeB)
-unfolding tested round neg div k
-plane-tests = (tt, tt)
+unfolding tested round neg div
+plane-tests = rw k-is (tt, tt)
 
 -- ---- the whole numbers as f64s
 latitude-finite : T (finite (round binary64 false 2880000000 1))

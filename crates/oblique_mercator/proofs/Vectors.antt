@@ -7,16 +7,10 @@ use lib.IntN.{ℤ, pos, negsuc}
 use lib.Ieee.{Float, nan, binary64, round, neg, add, sub, mul, div, lt, le, eq, ofInt, ofBits}
 use Rattle.refusal.specs.Numbers.{range, geodetic}
 use Rattle.refusal.specs.Numbers as numbers
-use Rattle.ranges.specs.Ranges.{within}
-use Rattle.rounding.specs.Decimals.{roundedOf}
 use Rattle.elementary.specs.Floats.{#}
-use Rattle.elementary.specs.Series.{sineOf, cosineOf}
-use Rattle.elementary.specs.Half.{arctangentOf, arcsineOf}
-use Rattle.elementary.specs.Hyperbolic.{sinhOf, coshOf, artanhOf}
 use Rattle.elementary.proofs.Same.{sames-are}
-use Rattle.angle.specs.Units.{radians, metres, seconds}
-use Rattle.angle.specs.Ellipsoids.{ellipsoidOf}
 use Rattle.angle.specs.declared.Projected.{Projected}
+use Rattle.angle.specs.Worked.{openAngles}
 use Rattle.angle.specs.declared.Projected.the-variants as projected
 use Rattle.oblique_mercator.specs.Parameters.{reduced, parametersRange}
 use Rattle.oblique_mercator.specs.Projection.{isometricOf, centreOf, naturalOf, seriesOf, projectionMade, projectionOf}
@@ -150,14 +144,6 @@ record Worked : Type 0 where
   laid : all (λ (e : Example). plane (planeAt (e .made) (e .latitude) (e .longitude))) examples ≡ all (λ (e : Example). e .easting ∷ e .northing ∷ []) examples
   back : map (λ (e : Example). reverseAt (e .made) (e .easting) (e .northing)) examples ≡ map (λ (e : Example). angles.Units (e .latitude) (e .longitude)) examples
 
-worked : Worked
-unfolding projectionMade centreOf naturalOf seriesOf isometricOf reduced planeAt planeOf reverseAt turnedOf gateOf foundOf latitudeOf inUnits placed inRanges within roundedOf radians metres seconds ellipsoidOf sineOf cosineOf sinhOf coshOf arctangentOf artanhOf arcsineOf round neg add sub mul div lt le eq ofInt ofBits
-worked = record {
-  made = sames-are (all (λ (e : Example). fields (projectionMade (e .given))) examples) (all (λ (e : Example). fields (e .made)) examples) tt;
-  laid = sames-are (all (λ (e : Example). plane (planeAt (e .made) (e .latitude) (e .longitude))) examples) (all (λ (e : Example). e .easting ∷ e .northing ∷ []) examples) tt;
-  back = refl;
-}
-
 -- ---- refusals: the parameters first, then the angles; 23 before 12, for a NaN too; the far side of the earth is 12
 abbrev bad : Parameters
 bad = record { ellipsoid = pos 4; latitude = pos 0; longitude = pos 41400000000; azimuth = pos 19193695370; rectified = pos 19126836850; scale = pos 99984000000; «false_easting» = pos 0; «false_northing» = pos 0 }
@@ -177,6 +163,18 @@ record InOrder : Type 0 where
   there : refused ≡ (projected.Refused range ∷ projected.Refused geodetic ∷ projected.Refused geodetic ∷ [])
   back : back-refused ≡ (angles.Refused range ∷ angles.Refused numbers.plane ∷ angles.Refused numbers.plane ∷ angles.Refused geodetic ∷ [])
 
-in-order : InOrder
-unfolding refused back-refused forwardOf reverseOf projectionOf parametersRange forwardFromOf reverseFromOf inPlane reverseAt turnedOf gateOf within round neg add sub mul lt le eq ofBits
-in-order = record { there = refl; back = refl }
+-- ---- each worked out
+record Vectors : Type 0 where
+  examples-worked : Worked
+  in-order : InOrder
+
+vectors : Vectors
+unfolding projectionMade centreOf naturalOf seriesOf isometricOf reduced planeAt planeOf reverseAt turnedOf gateOf foundOf latitudeOf inUnits placed inRanges refused back-refused forwardOf reverseOf projectionOf parametersRange forwardFromOf reverseFromOf inPlane openAngles round neg add sub mul div lt le eq ofInt ofBits
+vectors = record {
+  examples-worked = record {
+    made = sames-are (all (λ (e : Example). fields (projectionMade (e .given))) examples) (all (λ (e : Example). fields (e .made)) examples) tt;
+    laid = sames-are (all (λ (e : Example). plane (planeAt (e .made) (e .latitude) (e .longitude))) examples) (all (λ (e : Example). e .easting ∷ e .northing ∷ []) examples) tt;
+    back = refl;
+  };
+  in-order = record { there = refl; back = refl };
+}

@@ -13,7 +13,7 @@ use lib.Seq.{drop-nil, take-length, take-append-seam, length-take-le, set-split}
 use Rattle.refusal.specs.Numbers as refusal
 use Rattle.refusal.specs.Order.{first, pick, unless, _gives_}
 use Rattle.refusal.proofs.Orders.{head-holds, step-passed, unless-none}
-use Rattle.ranges.specs.Ranges.{within, profileRange}
+use Rattle.ranges.specs.Ranges.{profileRange}
 use Rattle.chain.specs.declared.Step.{Step}
 use Rattle.chain.specs.declared.Point.{Point}
 use Rattle.chain.specs.declared.Chain.{Chain}
@@ -23,7 +23,7 @@ use Rattle.chain.specs.Faults.{stepFault, stepsTests, chainTests, stepsOf}
 use Rattle.chain.specs.Convert.{forwardOf, joins, moreTests}
 use Rattle.chain.specs.Prepared as prepared
 use Rattle.chain.specs.Prepared.{chainOf}
-use Rattle.chain.proofs.Keeping.{sound-more}
+use Rattle.chain.proofs.Keeping.{sound-more, holds-fresh}
 use Rattle.line.specs.declared.Fault.{Fault}
 use Rattle.line.specs.declared.PointLine.{PointLine}
 use Rattle.line.specs.declared.PointLine.the-variants as point-line
@@ -253,8 +253,7 @@ sound-made st p = rw (lt-ltb (st .chain .length) (st .line) (p .from), le-leb (s
 
 -- nothing read yet
 pub fresh-sound : (places : List Step) → Sound (freshAt places)
-unfolding within
-fresh-sound places = record { from = omega arith; to = omega arith; chain = refl }
+fresh-sound places = record { from = omega arith; to = omega arith; chain = holds-fresh .sound }
 
 -- ---- it stays sound
 abbrev Good : ℤ → List Step → Type 0

@@ -11,33 +11,20 @@ use lib.Dec.{ltb, leb, eqb}
 use lib.IntN.{ℤ, pos}
 use lib.ListN.{length, take, drop, getD, replicate}
 use lib.Seq.{take-suc, take-length, length-take-le}
+use Rattle.refusal.specs.Numbers as refusal
 use Rattle.refusal.specs.Order.{first, pick}
 use Rattle.ranges.specs.Ranges.{profileRange}
-use Rattle.refusal.proofs.Orders.{both-pass, head-holds, step-passed}
+use Rattle.refusal.proofs.Orders.{head-holds, step-passed}
 use Rattle.chain.specs.declared.Step.{Step}
 use Rattle.chain.specs.declared.Chain.{Chain}
-use Rattle.chain.specs.Faults.{stepFault, sameRealization, stepTests, joinTest, laterTests, stepsTests, chainTests, stepsOf}
-use Rattle.chain.specs.Convert.{endOf, joins, moreTests}
+use Rattle.chain.specs.Faults.{stepsTests, chainTests, stepsOf}
+use Rattle.chain.specs.Convert.{joins, moreTests}
 use Rattle.chain.specs.Prepared as prepared
 use Rattle.chain.specs.Prepared.{extendFault, extendedBy, chainOf}
-use Rattle.chain.proofs.Keeping.{same-self, holds-none, extend-joins, extend-holds}
+use Rattle.chain.proofs.Keeping.{holds-none, steps-at, extend-joins, extend-holds}
 use Rattle.sheet_rules.specs.OneLine.{Prepares}
 
--- ---- a step in the middle of good steps
-later-at : (y : ℤ) (s : Step) (a : List Step) (t : Step) (b : List Step) → first (laterTests y s (a ++ (t ∷ b))) ≡ 0 → (stepFault y t ≡ 0) × (sameRealization (endOf (s .after) a) (t .before) ≡ true)
-unfolding stepFault endOf
-later-at y s [] t b e =
-    let p = both-pass (stepTests y t) (joinTest s t ∷ laterTests y t b) tt e in
-    (p .0, head-holds (sameRealization (s .after) (t .before)) 4 (first (laterTests y t b)) (p .1) .0)
-later-at y s (u ∷ us) t b e =
-    let p = both-pass (stepTests y u) (joinTest s u ∷ laterTests y u (us ++ (t ∷ b))) tt e in
-    later-at y u us t b (head-holds (sameRealization (s .after) (u .before)) 4 (first (laterTests y u (us ++ (t ∷ b)))) (p .1) .1)
-
-steps-at : (y : ℤ) (a : List Step) (t : Step) (b : List Step) → first (stepsTests y (a ++ (t ∷ b))) ≡ 0 → (stepFault y t ≡ 0) × (joins a t ≡ true)
-unfolding stepFault endOf
-steps-at y [] t b e = (both-pass (stepTests y t) (laterTests y t b) tt e .0, same-self (t .before))
-steps-at y (s ∷ ss) t b e = later-at y s ss t b (both-pass (stepTests y s) (laterTests y s (ss ++ (t ∷ b))) tt e .1)
-
+-- ---- the steps of a chain, one by one
 -- the first n of a list, parted at a place below n
 parted : (l : List Step) (n i : ℕ) (d : Step) → i < n → i < length l → (b : List Step) × (take n l ≡ take i l ++ (getD l i d ∷ b))
 parted [] n i d h k = absurd (NatL.not-suc-le-zero k)
@@ -49,7 +36,7 @@ parted (x ∷ xs) (suc n) (suc i) d h k = let p = parted xs n i d (NatL.le-of-su
 steps-good : (c : Chain) → first (chainTests c) ≡ 0 → first (stepsTests (c .profile) (stepsOf c)) ≡ 0
 steps-good c e =
     let p = head-holds (profileRange (c .profile)) _ _ e in
-    step-passed (ltb 8 (c .length)) 6 (first (stepsTests (c .profile) (stepsOf c))) tt (p .1) .1
+    step-passed (ltb 8 (c .length)) refusal.ninth (first (stepsTests (c .profile) (stepsOf c))) tt (p .1) .1
 
 good-steps : (c : Chain) → profileRange (c .profile) ≡ true → c .length ≤ 8 → first (stepsTests (c .profile) (stepsOf c)) ≡ 0 → first (chainTests c) ≡ 0
 good-steps c p short e = rw (p, le-ltb 8 (c .length) short) e
@@ -94,5 +81,5 @@ pub all-prepared : (c : Chain) → c .length ≤ 8 → (l : List ℤ) → prepar
 all-prepared c short l held =
     let g = rw (take-length (stepsOf c)) at (held .sound) in
     let p = head-holds (profileRange (c .profile)) _ _ g in
-    let f = step-passed (ltb 8 (length (stepsOf c))) 6 (first (stepsTests (c .profile) (stepsOf c))) tt (p .1) in
+    let f = step-passed (ltb 8 (length (stepsOf c))) refusal.ninth (first (stepsTests (c .profile) (stepsOf c))) tt (p .1) in
     record { told = sym (eq-eqb (first (chainTests c)) 0 (good-steps c (p .0) short (f .1))); holds = λ _. held }

@@ -4,7 +4,6 @@ use mathlib.Core.Bool.{Bool, true, false}
 use mathlib.Core.List.{List}
 use Prim.Native.Nat.{ℕ, zero, suc, _*_, _<_, _≤_}
 use native.Mathlib.Omega.{arith}
-use lib.IntN.{pos}
 use lib.ListN.{length, length-append}
 use Rattle.refusal.specs.Numbers as refusal
 use Rattle.refusal.specs.Order.{pick, first, unless}
@@ -23,8 +22,8 @@ use Rattle.line.specs.declared.PointLine.the-variants as point-line
 use Rattle.line.specs.declared.EditionLine.{EditionLine}
 use Rattle.line.specs.Bytes.{letterS, letterP, letterE}
 use Rattle.line.specs.Readers.{strangeFault, readPoint, readStep, readEdition}
-use Rattle.line.specs.Text.{decimal, integer, refusalText}
-use Rattle.line.proofs.Lengths.{length-integer, length-point}
+use Rattle.line.specs.Text.{decimal, refusalText}
+use Rattle.line.proofs.Lengths.{length-decimal, length-point}
 use Rattle.line.proofs.Texts.{refusal-is}
 use Rattle.line.proofs.Readers.{Small, strange-small, point-outcome, step-outcome, edition-outcome}
 use Rattle.listing.proofs.Fold.{by-letters, printed-lines}
@@ -78,9 +77,8 @@ short s l some few =
     (λ h. omega arith)
 
 -- ---- one answer, up to the line past the limit: 100 bytes are enough
-seven-digits : (n : ℕ) → n < 10000000 → length (decimal n) ≤ 8
-unfolding integer
-seven-digits n h = length-integer 6 (pos n) h
+seven-digits : (n : ℕ) → n < 10000000 → length (decimal n) ≤ 7
+seven-digits n h = length-decimal 6 n h
 
 pub refusal-short : (line number place : ℕ) → line ≤ suc mostLines → number < 100 → place ≤ 200 → length (refusalText line number place) ≤ 100
 refusal-short line number place h k m =

@@ -15,6 +15,8 @@ use Rattle.chain.specs.declared.Chain.{Chain}
 use Rattle.line.specs.Bytes.{lineFeed}
 use Rattle.line.specs.Fields.{longestLine, front}
 use Rattle.line.specs.Lines.{lines}
+use Rattle.line.proofs.Lines.{no-lines, lines-on, count-lines}
+use Rattle.line.proofs.Unread.{NoFeed, none-yet, one-more, no-feed-in, no-feed-last}
 use Rattle.listing.specs.Fold as listing
 use Rattle.listing.specs.Fold.{longestInput}
 use Rattle.sheet_rules.specs.declared.Reply.{Reply}
@@ -26,7 +28,7 @@ use Rattle.sheet_rules.proofs.Laws.{next-line}
 use Rattle.sheet_rules.proofs.OneLine.{reply-past, after-past, reply-rules, after-rules, after-standing, same-reply, same-after}
 use Rattle.sheet_rules.proofs.OneLine as line
 use Rattle.sheet_rules.proofs.Room.{sheet-lines}
-use Rattle.sheet_rules.proofs.Unread.{NoFeed, none-yet, one-more, no-feed-in, no-feed-last, cut-reply, cut-next, open-reply, open-next}
+use Rattle.sheet_rules.proofs.Unread.{cut-reply, cut-next, open-reply, open-next}
 use Rattle.sheet_stream.specs.declared.Stream.{Stream}
 use Rattle.sheet_stream.specs.declared.Outcome.the-variants.{Open, Line, Refused}
 use Rattle.sheet_stream.specs.Fragments.{empty, between, fresh, keep, held, unended, closing, ended, endReply, finishOf}
@@ -58,9 +60,9 @@ glue-push (a ∷ w) b [] = refl
 glue-push w b (l ∷ ls) = ap (λ (x : List ℕ). x ∷ ls) (append-assoc w (b ∷ []) l)
 
 from-lines : (w f : List ℕ) → linesFrom w f ≡ glue w (lines f)
-unfolding linesFrom lines
-from-lines w [] = refl
-from-lines w (b ∷ f) = go (eqb b lineFeed) (from-lines [] f) (from-lines (w ++ (b ∷ [])) f)
+unfolding linesFrom
+from-lines w [] = rw no-lines
+from-lines w (b ∷ f) = rw (lines-on b f) (go (eqb b lineFeed) (from-lines [] f) (from-lines (w ++ (b ∷ [])) f))
   where
     go : (t : Bool) → linesFrom [] f ≡ glue [] (lines f) → linesFrom (w ++ (b ∷ [])) f ≡ glue (w ++ (b ∷ [])) (lines f) → pick t ((w ++ (b ∷ [])) ∷ linesFrom [] f) (linesFrom (w ++ (b ∷ [])) f) ≡ glue w (pick t ((b ∷ []) ∷ lines f) (front b (lines f)))
     go true h k = ap (λ (x : List (List ℕ)). (w ++ (b ∷ [])) ∷ x) (h ∙ glue-none (lines f))
@@ -228,16 +230,6 @@ prints : (ls : List (List ℕ)) (s : Sheet) → texts (rulesRun s ls) ≡ listin
 unfolding texts rulesRun listing.run
 prints [] s = refl
 prints (l ∷ ls) s = ap (λ (t : List ℕ). replyText (sheet.replyOf s l) ++ t) (prints ls (nextOf s l))
-
-count-lines : (f : List ℕ) → length (lines f) ≤ length f
-unfolding lines
-count-lines [] = omega arith
-count-lines (b ∷ f) = go (eqb b lineFeed) (lines f) (count-lines f)
-  where
-    go : (t : Bool) (ls : List (List ℕ)) → length ls ≤ length f → length (pick t ((b ∷ []) ∷ ls) (front b ls)) ≤ suc (length f)
-    go true ls h = omega (arith, h)
-    go false [] h = omega arith
-    go false (l ∷ ls) h = omega (arith, h)
 
 -- with a limit that is not reached
 all-answered : (k : ℕ) (ls : List (List ℕ)) → length ls ≤ k → texts (rulesRun sheet.fresh (take k ls) ++ replicate (length ls - k) pastLimit) ≡ listing.run rules sheet.fresh ls

@@ -14,12 +14,14 @@ use Rattle.refusal.specs.Order.{pick}
 use Rattle.line.specs.Bytes.{lineFeed}
 use Rattle.line.specs.Fields.{longestLine}
 use Rattle.line.specs.Lines.{firstLength, lineEnd}
+use Rattle.line.proofs.Lines.{first-none, first-on, first-end, first-some, first-fits}
 use Rattle.sheet_rules.specs.declared.Standing.{Standing}
 use Rattle.sheet_rules.specs.declared.Answered.{Answered}
 use Rattle.sheet_rules.specs.declared.Reply.{Reply}
 use Rattle.sheet_rules.specs.declared.Response.the-variants as response
-use Rattle.sheet_rules.specs.OneLine.{soundStanding, replyTo, afterLine, answered, answeredTo, lineAnswered}
+use Rattle.sheet_rules.specs.OneLine.{soundStanding, answeredTo}
 use Rattle.sheet_rules.proofs.OneLine.{both}
+use Rattle.sheet_rules.proofs.Answers.{answered-unsound, answered-replied}
 use Rattle.sheet_stream.specs.declared.Stream.{Stream}
 use Rattle.sheet_stream.specs.declared.Fed.{Fed}
 use Rattle.sheet_stream.specs.declared.Outcome.the-variants.{Open, Line}
@@ -83,26 +85,18 @@ take-min xs n m e = go (decLt (length xs) m)
     go (no k) = let z : n ≡ m = omega arith in rw z
 
 -- ---- a call takes the first line's bytes, and keeps them but for the line feed
-first-some : (b : ℕ) (f : List ℕ) → (m : ℕ) × (firstLength (b ∷ f) ≡ suc m)
-unfolding firstLength
-first-some b f = go (eqb b lineFeed)
-  where
-    go : (t : Bool) → (m : ℕ) × (pick t 1 (suc (firstLength f)) ≡ suc m)
-    go true = (0, refl)
-    go false = (firstLength f, refl)
-
 abbrev scannedTo : Stream → List ℕ → ℕ → Fed
 scannedTo s f n = pick (fedAt f n) (fed (ended (keeps s (take (n - 1) f))) n (Line (endReply (keeps s (take (n - 1) f))))) (fed (keeps s f) n Open)
 
 scanned : (f : List ℕ) (s : Stream) → scan s f ≡ scannedTo s f (firstLength f)
-unfolding scan firstLength keeps fedAt
-scanned [] s = refl
-scanned (b ∷ f) s = go (eqb b lineFeed) refl (scanned f (keep s b))
+unfolding scan keeps fedAt
+scanned [] s = rw first-none
+scanned (b ∷ f) s = rw (first-on b f) (go (eqb b lineFeed) refl (scanned f (keep s b)))
   where
     -- a byte before those that the rest of the fragment gives
     rest : (f : List ℕ) → eqb b lineFeed ≡ false → scan (keep s b) f ≡ scannedTo (keep s b) f (firstLength f) → later (scan (keep s b) f) ≡ scannedTo s (b ∷ f) (suc (firstLength f))
-    rest [] q ih = rw q
-    rest (c ∷ g) q ih = rw ih (on (first-some c g .0) (first-some c g .1))
+    rest [] q ih = rw (first-none, q)
+    rest (c ∷ g) q ih = let h = first-some (c ∷ g) (omega arith) in rw ih (on (firstLength (c ∷ g) - 1) (omega (arith, h)))
       where
         on : (m : ℕ) → firstLength (c ∷ g) ≡ suc m → later (scannedTo (keep s b) (c ∷ g) (firstLength (c ∷ g))) ≡ scannedTo s (b ∷ c ∷ g) (suc (firstLength (c ∷ g)))
         on m e =
@@ -119,16 +113,7 @@ scanned (b ∷ f) s = go (eqb b lineFeed) refl (scanned f (keep s b))
     go false q ih = rest f q ih
 
 pub within-line : (f : List ℕ) (n : ℕ) → n ≡ lineEnd f 0 → n ≤ length f
-unfolding lineEnd firstLength
-within-line f n e = rw e (omega (arith, shorter f))
-  where
-    shorter : (f : List ℕ) → firstLength f ≤ length f
-    shorter [] = omega arith
-    shorter (b ∷ f) = go (eqb b lineFeed) (shorter f)
-      where
-        go : (t : Bool) → firstLength f ≤ length f → pick t 1 (suc (firstLength f)) ≤ suc (length f)
-        go true h = omega arith
-        go false h = omega (arith, h)
+within-line f n e = omega (arith, first-end f, first-fits f)
 
 pub fed-none : (f : List ℕ) (n : ℕ) → n ≡ 0 → false ≡ fedAt f n
 unfolding fedAt
@@ -208,8 +193,7 @@ module _ (s : Stream) (g : Going s) where
   -- ---- a call with a fragment, whose first line has n bytes
   module _ (f : List ℕ) (n : ℕ) (e : n ≡ lineEnd f 0) where
     first : n ≡ firstLength f
-    unfolding lineEnd
-    first = e ∙ omega arith
+    first = e ∙ first-end f
 
     kept-all : (xs : List ℕ) → keeps s xs ≡ stateOf (s .standing) (min (s .count + length xs) 200) (sets (s .kept) (s .count) (take (200 - s .count) xs)) false
     kept-all xs = keeps-in (s .standing) (s .finished) xs (s .count) (s .kept) (g .count) ∙ ap (λ (b : Bool). stateOf (s .standing) (min (s .count + length xs) 200) (sets (s .kept) (s .count) (take (200 - s .count) xs)) b) (g .going)
@@ -240,17 +224,7 @@ module _ (s : Stream) (g : Going s) where
 -- the answer to a line, as the rules gave it
 module _ (s : Stream) (l : List ℕ) (n : ℕ) (fin : Bool) (a : Answered) (e : a ≡ answeredTo (s .standing) l) where
   pub ended-unsound : a .response ≡ response.Unsound → unsound s ≡ endsWith s l n fin
-  unfolding answeredTo lineAnswered
-  ended-unsound q = go (soundStanding (s .standing)) (sym (ap (λ (x : Answered). x .response) e) ∙ q)
-    where
-      go : (b : Bool) → pick {A = Answered} b (answered (afterLine (s .standing) l) (response.Replied (replyTo (s .standing) l))) (answered (s .standing) response.Unsound) .response ≡ response.Unsound → unsound s ≡ pick b (fed (between (afterLine (s .standing) l) fin) n (Line (replyTo (s .standing) l))) (unsound s)
-      go true z = absurd (let y : _≡_ {A = ℕ} 0 1 = cc in omega arith)
-      go false z = refl
+  ended-unsound q = rw (answered-unsound (s .standing) l a e q)
 
   pub ended-replied : (r : Reply) → a .response ≡ response.Replied r → fed (between (a .standing) fin) n (Line r) ≡ endsWith s l n fin
-  unfolding answeredTo lineAnswered
-  ended-replied r q = go (soundStanding (s .standing)) (sym (ap (λ (x : Answered). x .response) e) ∙ q) (ap (λ (x : Answered). x .standing) e)
-    where
-      go : (b : Bool) → pick {A = Answered} b (answered (afterLine (s .standing) l) (response.Replied (replyTo (s .standing) l))) (answered (s .standing) response.Unsound) .response ≡ response.Replied r → a .standing ≡ pick {A = Answered} b (answered (afterLine (s .standing) l) (response.Replied (replyTo (s .standing) l))) (answered (s .standing) response.Unsound) .standing → fed (between (a .standing) fin) n (Line r) ≡ pick b (fed (between (afterLine (s .standing) l) fin) n (Line (replyTo (s .standing) l))) (unsound s)
-      go true z y = let x : replyTo (s .standing) l ≡ r = cc in rw (y, x)
-      go false z y = absurd (let x : _≡_ {A = ℕ} 0 1 = cc in omega arith)
+  ended-replied r q = let h = answered-replied (s .standing) l a e r q in rw (h .0, h .1, h .2)

@@ -3,7 +3,8 @@ use native.Mathlib.Omega.{arith}
 use lib.IntN.{pos}
 use Rattle.ranges.specs.Ranges.{profileRange}
 use Rattle.line.specs.Reading.{cappedZ}
-use Rattle.line.proofs.Capped.{Sure, sure-within, sure-either}
+use Rattle.ranges.proofs.Carried.{Sure, sure-either}
+use Rattle.line.proofs.Capped.{sure-within}
 use Rattle.line.proofs.Readers.{edition-read}
 use Rattle.line.proofs.GoodForm.{point-exactly, step-exactly, origin-exactly, geodetic-exactly, edition-exactly, grid-exactly, node-exactly}
 use Rattle.theorems.specs.Malformed.{YearJudged, Malformed}

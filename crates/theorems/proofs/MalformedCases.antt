@@ -1,11 +1,8 @@
 -- The worked cases of what is wrong with a line, by computation. Assumes nothing.
 use mathlib.Core.Path.{refl}
-use Rattle.line.specs.Fields.{body, fields}
-use Rattle.line.specs.Name.{allNameBytes, nameOf}
-use Rattle.line.specs.Number.{digits, plain, numberOf}
-use Rattle.line.specs.Malformed.{offending, endOf, fieldsFault, faultOf}
+use Rattle.line.specs.Worked.{openLines}
 use Rattle.theorems.specs.MalformedCases.{MalformedCases}
 
 pub malformed-cases : MalformedCases
-unfolding body fields allNameBytes nameOf digits plain numberOf offending endOf fieldsFault faultOf
+unfolding openLines
 malformed-cases = record { nothing = refl; lengths = refl; letters = refl; counted = refl; fields = refl }

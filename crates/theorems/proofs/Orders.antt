@@ -1,9 +1,8 @@
 -- The cases of the orders, by computation. Assumes nothing.
 use mathlib.Core.Path.{refl}
-use Rattle.ranges.specs.Ranges.{within}
-use Rattle.rounding.specs.Decimals.{roundedOf}
+use Rattle.angle.specs.Worked.{openAngles}
 use Rattle.theorems.specs.Orders.{Orders}
 
 pub orders : Orders
-unfolding within roundedOf
+unfolding openAngles
 orders = record { rounding = refl; cartesian = refl; position = refl; cassini = refl }

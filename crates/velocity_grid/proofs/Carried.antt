@@ -4,9 +4,10 @@ use mathlib.Core.Bool.{Bool, true, false, _&&_}
 use native.Mathlib.Omega.{arith}
 use lib.IntN.{ℤ, pos, negsuc}
 use Rattle.ranges.specs.Ranges.{within, latitudeRange, longitudeRange}
-use Rattle.ranges.proofs.Ranges.{Natural, natural-holds}
+use Rattle.ranges.proofs.Ranges.{Natural, natural-holds, both}
+use Rattle.ranges.proofs.Carried.{Sure, same-both, sure-either}
 use Rattle.line.specs.Reading.{cappedZ, cappedHeader, cappedParts}
-use Rattle.line.proofs.Capped.{Sure, sure-within, sure-either, both, halves}
+use Rattle.line.proofs.Capped.{sure-within}
 use Rattle.velocity_grid.specs.OnGrid.{sizeRange, meshRange, gridRange}
 use Rattle.velocity_grid.specs.AtPoint.{partRange}
 use Rattle.velocity_grid.specs.Text.{partsRange}
@@ -42,20 +43,20 @@ size-same : (r c : ℤ) → sizeRange (cappedZ r) (cappedZ c) ≡ sizeRange r c
 size-same r c = go (count r && count c) refl
   where
     go : (b : Bool) → (count r && count c) ≡ b → sizeRange (cappedZ r) (cappedZ c) ≡ sizeRange r c
-    go true e = let h = halves (count r) (count c) e in ap₂ sizeRange (sure-count .kept r (h .0)) (sure-count .kept c (h .1))
-    go false e = not-sized (cappedZ r) (cappedZ c) (both (sure-count .same r) (sure-count .same c) ∙ e) ∙ sym (not-sized r c e)
+    go true e = let h = both (count r) (count c) e in ap₂ sizeRange (sure-count .kept r (h .0)) (sure-count .kept c (h .1))
+    go false e = not-sized (cappedZ r) (cappedZ c) (same-both (sure-count .same r) (sure-count .same c) ∙ e) ∙ sym (not-sized r c e)
 
 -- ---- a header, and a node's parts
 pub sure-header : Sure cappedHeader gridRange
 unfolding gridRange
 sure-header =
     record {
-      same = λ g. both (both (both (sure-latitude .same (g .latitude)) (sure-longitude .same (g .longitude))) (size-same (g .rows) (g .columns))) (sure-mesh .same (g .mesh));
+      same = λ g. same-both (same-both (same-both (sure-latitude .same (g .latitude)) (sure-longitude .same (g .longitude))) (size-same (g .rows) (g .columns))) (sure-mesh .same (g .mesh));
       kept =
           λ g e.
-          let m = halves (latitudeRange (g .latitude) && longitudeRange (g .longitude) && sizeRange (g .rows) (g .columns)) (meshRange (g .mesh)) e in
-          let s = halves (latitudeRange (g .latitude) && longitudeRange (g .longitude)) (sizeRange (g .rows) (g .columns)) (m .0) in
-          let a = halves (latitudeRange (g .latitude)) (longitudeRange (g .longitude)) (s .0) in
+          let m = both (latitudeRange (g .latitude) && longitudeRange (g .longitude) && sizeRange (g .rows) (g .columns)) (meshRange (g .mesh)) e in
+          let s = both (latitudeRange (g .latitude) && longitudeRange (g .longitude)) (sizeRange (g .rows) (g .columns)) (m .0) in
+          let a = both (latitudeRange (g .latitude)) (longitudeRange (g .longitude)) (s .0) in
           let k = size-kept (g .rows) (g .columns) (s .1) in
           rw (sure-latitude .kept (g .latitude) (a .0), sure-longitude .kept (g .longitude) (a .1), k .0, k .1, sure-mesh .kept (g .mesh) (m .1));
     }
@@ -64,10 +65,10 @@ pub sure-parts : Sure cappedParts partsRange
 unfolding partsRange
 sure-parts =
     record {
-      same = λ p. both (both (sure-part .same (p .east)) (sure-part .same (p .north))) (sure-part .same (p .up));
+      same = λ p. same-both (same-both (sure-part .same (p .east)) (sure-part .same (p .north))) (sure-part .same (p .up));
       kept =
           λ p e.
-          let u = halves (partRange (p .east) && partRange (p .north)) (partRange (p .up)) e in
-          let a = halves (partRange (p .east)) (partRange (p .north)) (u .0) in
+          let u = both (partRange (p .east) && partRange (p .north)) (partRange (p .up)) e in
+          let a = both (partRange (p .east)) (partRange (p .north)) (u .0) in
           rw (sure-part .kept (p .east) (a .0), sure-part .kept (p .north) (a .1), sure-part .kept (p .up) (u .1));
     }

@@ -22,6 +22,7 @@ use Rattle.elementary.specs.Floats.{#, whole}
 use Rattle.elementary.specs.Series.{sineOf, cosineOf}
 use Rattle.elementary.proofs.Formulas.{sineF, cosineF, sine-among, cosine-among}
 use Rattle.angle.specs.Units.{k, radians}
+use Rattle.angle.proofs.UnitLaws.{k-is}
 use Rattle.angle.proofs.Answered.{Bound, whole-answer}
 use Rattle.angle.proofs.Sizes.{most, radians-among}
 use Rattle.angle.proofs.Wholes.{natural-upto, sub-pos}
@@ -73,8 +74,8 @@ record Tests : Type 0 where
   z : T (tested space zF (most 4330 1))
 
 tests : Tests
-unfolding tested round neg div k
-tests = record { latitude = tt; past = tt; small-sine = tt; small-cosine = tt; large-sine = tt; large-cosine = tt; x = tt; y = tt; z = tt }
+unfolding tested round neg div
+tests = record { latitude = rw k-is tt; past = rw k-is tt; small-sine = tt; small-cosine = tt; large-sine = tt; large-cosine = tt; x = tt; y = tt; z = tt }
 
 module _ (p : Parts) (lat lon : ℤ) (o : PartsOk p) (a : latitudeRange lat ≡ true) (b : longitudeRange lon ≡ true) where
   abbrev φ : Float

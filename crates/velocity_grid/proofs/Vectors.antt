@@ -6,13 +6,10 @@ use Prim.Native.Nat.{ℕ}
 use lib.IntN.{ℤ, pos, negsuc, negℤ}
 use lib.Ieee.{Float, binary64, round, neg, sub, add, mul, div, ofInt, ofBits}
 use Rattle.elementary.specs.Series.{sineOf, cosineOf}
-use Rattle.rounding.specs.Nearest.{away, rounded}
-use Rattle.rounding.specs.Decimals.{roundedOf}
-use Rattle.ranges.specs.Ranges.{within}
 use Rattle.refusal.specs.Numbers as refusal
 use Rattle.elementary.specs.Floats.{whole}
 use Rattle.angle.specs.Units.{radians}
-use Rattle.chain.specs.Faults.{stepFault}
+use Rattle.angle.specs.Worked.{openAngles}
 use Rattle.chain.specs.Case.{answer}
 use Rattle.velocity_grid.specs.Bilinear.{blend, weighed, bilinear}
 use Rattle.velocity_grid.specs.OnGrid.{sizeRange, meshRange, gridRange, meshOf, nodesOf, onAxis, placeOf, onGrid, alongOf, cellOf}
@@ -44,7 +41,7 @@ expected : List Float
 expected = f64 0x3fbcd1d02fac2dde ∷ f64 0x3fc6f71428f7ac12 ∷ f64 0x3fbcc23d4646210c ∷ f64 0x3fefcc24ef6af4b4 ∷ f64 0x3fef7c80f679be33 ∷ f64 0xbfc6d796a06aae4a ∷ []
 
 angles-worked : found ≡ expected
-unfolding found expected radians sineOf cosineOf round neg add mul div ofInt ofBits
+unfolding found expected openAngles round neg add mul div ofInt ofBits
 angles-worked = refl
 
 at-arau : Turned
@@ -75,7 +72,7 @@ answered : answers
     ∷ velocity.Refused refusal.epoch
     ∷ velocity.Refused refusal.kind
     ∷ [])
-unfolding answers inUnits velocityFor stepFault answer roundedOf round ofBits
+unfolding answers inUnits velocityFor answer round ofBits
 answered = refl
 
 -- ---- a grid from 4 degrees north and 102 degrees east, a mesh of 5 minutes (30,000,000 units)
@@ -156,5 +153,5 @@ points-worked : points
     ∷ Refused refusal.lines
     ∷ Refused refusal.range
     ∷ [])
-unfolding points header firstEight missing whole-grid partsOf partsIn partOf cornersOf cellKnown known cellOf alongOf placeOf onGrid onAxis meshOf nodesOf gridRange sizeRange meshRange within bilinear weighed blend away rounded
+unfolding points header firstEight missing whole-grid partsOf partsIn partOf cornersOf cellKnown known cellOf alongOf placeOf onGrid onAxis meshOf nodesOf gridRange sizeRange meshRange bilinear weighed blend answer
 points-worked = refl

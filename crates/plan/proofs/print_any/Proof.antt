@@ -1,6 +1,9 @@
 -- `plan::print_any` meets its contract: the largest room is enough. Assumes nothing.
+use native.Mathlib.Omega.{arith}
+use lib.ListN.{length}
+use denote.Ref.{now}
 use borrow.Author.Needs.{needs}
-use Rattle.listing.specs.Fold.{roomFor}
+use Rattle.listing.proofs.Room.{any-fits}
 use Rattle.plan.proofs.print_any.Statement.{statement}
 use Rattle.plan.proofs.print_any.Tie as tie
 
@@ -11,8 +14,7 @@ slice-aggregate-answer : tie.Need-slice-aggregate-answer
 slice-aggregate-answer c = search needs
 
 answer-requires : tie.Need-answer-requires
-unfolding roomFor
-answer-requires c κs = search needs
+answer-requires c κs = omega (arith, any-fits (length (now (c .before .before .before .args .text))))
 
 write-all-requires : tie.Need-write-all-requires
 write-all-requires c κs = search needs

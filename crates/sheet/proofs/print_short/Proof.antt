@@ -1,6 +1,9 @@
 -- `sheet::print_short` meets its contract: a short room is enough for a short input. Assumes nothing.
+use native.Mathlib.Omega.{arith}
+use lib.ListN.{length}
+use denote.Ref.{now}
 use borrow.Author.Needs.{needs}
-use Rattle.listing.specs.Fold.{roomFor}
+use Rattle.listing.proofs.Room.{short-fits}
 use Rattle.sheet.proofs.print_short.Statement.{statement}
 use Rattle.sheet.proofs.print_short.Tie as tie
 
@@ -11,8 +14,7 @@ slice-aggregate-answer : tie.Need-slice-aggregate-answer
 slice-aggregate-answer c = search needs
 
 answer-requires : tie.Need-answer-requires
-unfolding roomFor
-answer-requires c κs = search needs
+answer-requires c κs = let s = c .before .before .before in omega (arith, short-fits (length (now (s .args .text))) (s .pre))
 
 write-all-requires : tie.Need-write-all-requires
 write-all-requires c κs = search needs

@@ -14,24 +14,15 @@ returns : tie.Need-returns
 unfolding millimetresCall
 returns c = wrong (rw (ne-eqb _ _ (c .if1 .taken)))
 
-cassini-millimetres-requires : tie.Need-cassini-millimetres-requires
-cassini-millimetres-requires c κs = search needs
-
-give-millimetres-requires : tie.Need-give-millimetres-requires
-give-millimetres-requires c κs = search needs
-
-same-length : tie.Need-same-length
-same-length c = search needs
-
 returns-2 : tie.Need-returns-2
 unfolding millimetresCall
 returns-2 c =
-    let s = c .before .before .before .before .before .fits in
-    by (c .before .give-millimetres .ensures) (rw (eq-eqb _ _ (c .before .before .before .before .if1 .left)) (ap ofMillimetres (sym (c .before .before .before .cassini-millimetres .ensures
-    ∙ same-origin cassiniMillimetresOf (rd (s .ellipsoid)) (rd (s .origin-latitude)) (rd (s .origin-longitude)) (rd (s .false-easting)) (rd (s .false-northing)) (rd (s .latitude)) (rd (s .longitude))))))
-    (told (c .before .give-millimetres .ok))
+    let g = c .before .give-millimetres in
+    let a = c .before .before .before in
+    let s = a .before .before .before .fits in
+    by (g .ensures) (rw (eq-eqb _ _ (a .before .before .if1 .left)) (ap ofMillimetres (sym (a .cassini-millimetres .ensures
+    ∙ same-origin cassiniMillimetresOf (a .before .origin-from .ensures) (rd (s .ellipsoid)) (rd (s .origin-latitude)) (rd (s .origin-longitude)) (rd (s .false-easting)) (rd (s .false-northing)) (rd (s .latitude)) (rd (s .longitude))))))
+    (told (g .ok))
 
 pub swivelcrane-cassini-millimetres-spec : {M : Type 1} → statement M
-swivelcrane-cassini-millimetres-spec =
-    tie.close
-    (tie.spec returns cassini-millimetres-requires give-millimetres-requires same-length returns-2)
+swivelcrane-cassini-millimetres-spec = tie.close (tie.spec returns (search needs) (search needs) (search needs) (search needs) returns-2)

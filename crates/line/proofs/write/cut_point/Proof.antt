@@ -35,19 +35,6 @@ whole-requires-6 c κs = search needs
 whole-requires-7 : tie.Need-whole-requires-7
 whole-requires-7 c κs = search needs
 
-same-length : tie.Need-same-length
-same-length c =
-    let c2 = c .before .before in
-    let c7 = c2 .before .before .before .before .before in
-    let c12 = c7 .before .before .before .before .before in
-    let c17 = c12 .before .before .before .before .before in
-    let c22 = c17 .before .before .before .before .before in
-    let c27 = c22 .before .before .before .before .before in
-    let c32 = c27 .before .before .before .before .before in
-    let c37 = c32 .before .before .before .before .before in
-    let c41 = c37 .before .before .before .before in
-    c2 .whole7 .kept .0 ∙ c7 .whole6 .kept .0 ∙ c12 .whole5 .kept .0 ∙ c17 .whole4 .kept .0 ∙ c22 .whole3 .kept .0 ∙ c27 .whole2 .kept .0 ∙ c32 .whole .kept .0 ∙ c37 .name .kept .0 ∙ c41 .letter .kept .0
-
 -- the point's numbers, as the machine reads them
 module _ (s : tie.Start) where
   abbrev p : Point
@@ -94,6 +81,9 @@ returns c =
     (T.«then» (c22 .whole3 .ensures)
     (T.«then» (c17 .whole4 .ensures) (T.«then» (c12 .whole5 .ensures) (T.«then» (c7 .whole6 .ensures) (c2 .whole7 .ensures)))))))))
     (rw (issue s, order s, datum s, epoch s, x s, y s, z s) (T.point-is (p s)))
+
+same-length : tie.Need-same-length
+same-length c = T.same-size (returns c)
 
 pub cut-point-spec : {M : Type 1} → statement M
 cut-point-spec =

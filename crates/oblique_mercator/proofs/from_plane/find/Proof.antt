@@ -2,7 +2,7 @@
 use borrow.Author.Needs.{needs}
 use lib.Ieee.{ofBits, round}
 use Rattle.oblique_mercator.specs.Reverse.{foundOf}
-use Rattle.angle.specs.Units.{seconds}
+use Rattle.angle.proofs.UnitLaws.{seconds-is}
 use Rattle.oblique_mercator.proofs.from_plane.find.Statement.{statement}
 use Rattle.oblique_mercator.proofs.from_plane.find.Tie as tie
 
@@ -25,8 +25,8 @@ arctangent-requires : tie.Need-arctangent-requires
 arctangent-requires c κs = search needs
 
 returns : tie.Need-returns
-unfolding foundOf seconds round ofBits
-returns c = cc
+unfolding foundOf round ofBits
+returns c = let e = seconds-is in cc
 
 pub find-spec : {M : Type 1} → statement M
 find-spec = tie.close (tie.spec sinh-requires cosh-requires sine-requires cosine-requires latitude-at-requires arctangent-requires returns)

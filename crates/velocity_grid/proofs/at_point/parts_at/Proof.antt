@@ -10,6 +10,7 @@ use Rattle.refusal.proofs.Orders.{Passed, passed}
 use Rattle.refusal.specs.Order.{first}
 use Rattle.rounding.proofs.Machine.{rd}
 use Rattle.angle.specs.Ranges.{angleTests, anglesFault}
+use Rattle.angle.proofs.NoFault.{angles-first}
 use Rattle.velocity_grid.specs.AtPoint.{gridTests, cellKnown, partsIn}
 use Rattle.velocity_grid.specs.OnGrid.{gridRange, onGrid, cellOf, CellIn}
 use Rattle.velocity_grid.specs.declared.Cell.{Cell}
@@ -35,10 +36,9 @@ angles-fault-requires : tie.Need-angles-fault-requires
 angles-fault-requires c κs = search needs
 
 angles : (c : tie.After-angles-fault) → c .angles-fault .result ≡ first (angleTests (c .before .before .before .args .latitude) (c .before .before .before .args .longitude))
-unfolding anglesFault
 angles c =
     let s = c .before .before .before in
-    c .angles-fault .ensures ∙ ap₂ anglesFault (rd (s .fits .latitude)) (rd (s .fits .longitude))
+    c .angles-fault .ensures ∙ ap₂ anglesFault (rd (s .fits .latitude)) (rd (s .fits .longitude)) ∙ angles-first (s .args .latitude) (s .args .longitude)
 
 angles-passed : (c : tie.Else2) → Passed (angleTests (c .before .before .before .before .args .latitude) (c .before .before .before .before .args .longitude))
 angles-passed c =

@@ -1,18 +1,17 @@
 -- `velocity_grid::turn::turn` meets its contract: the numbers are f64s exactly, and the order is the printed one. Assumes nothing.
 use borrow.Author.Needs.{needs}
-use mathlib.Core.Path.{_≡_, sym, ap, _∙_, subst}
-use Prim.Native.Nat.{_-_, _≤_}
-use native.Mathlib.Omega.{arith}
+use mathlib.Core.Path.{_≡_}
+use Prim.Native.Nat.{_≤_}
 use lib.Dec.{T}
 use lib.Ieee.{binary64, inFloat, ofBits, round}
 use lib.IntN.{ℤ, pos, natAbs, _-ℤ_}
 use mir.Syntax.{w64}
 use mir.Val.{SFits, toZ, ofZ}
 use mir.ValLaws.{toZ-ofZ}
-use Rattle.ranges.proofs.Ranges.{Natural, natural}
-use Rattle.bounds.proofs.Zero.{Upto}
+use Rattle.ranges.proofs.Ranges.{natural}
 use Rattle.angle.proofs.Tests.{read-back}
-use Rattle.angle.proofs.Wholes.{natural-upto, in-float, fits, sub-pos}
+use Rattle.angle.proofs.Past as past
+use Rattle.angle.proofs.Wholes.{natural-upto, in-float, fits}
 use Rattle.angle.proofs.UnitLaws.{radians-is}
 use Rattle.velocity_grid.specs.Turn.{turnedAt}
 use Rattle.velocity_grid.proofs.AtPoint.{sized-upto}
@@ -30,23 +29,9 @@ module _ (c : tie.Start) where
   latitude : T (inFloat binary64 (c .args .latitude))
   latitude = in-float 2880000000 (c .args .latitude) tt (natural-upto (natural 0 (c .args .latitude) 2880000000 (c .pre .1)))
 
-  longitude : Natural 35640000000 (c .args .longitude) 43200000000
-  longitude = natural 35640000000 (c .args .longitude) 43200000000 (c .pre .2)
-
   -- what is past 90 degrees
-  past : c .args .longitude -ℤ pos 32400000000 ≡ pos (longitude .n - 32400000000)
-  past =
-      let l = longitude .low in
-      ap (λ (z : ℤ). z -ℤ pos 32400000000) (longitude .is) ∙ sub-pos (longitude .n) 32400000000 (omega arith)
-
-  past-upto : Upto 10800000000 (c .args .longitude -ℤ pos 32400000000)
-  past-upto = let h = longitude .high in subst (λ (z : ℤ). Upto 10800000000 z) (sym past) (omega arith)
-
   past-fits : SFits w64 (c .args .longitude -ℤ pos 32400000000)
-  past-fits = fits 10800000000 (c .args .longitude -ℤ pos 32400000000) tt past-upto
-
-  past-float : T (inFloat binary64 (c .args .longitude -ℤ pos 32400000000))
-  past-float = in-float 10800000000 (c .args .longitude -ℤ pos 32400000000) tt past-upto
+  past-fits = past.past-fits (c .args .longitude) (c .pre .2)
 
   -- the machine reads the longitude back from its bits
   same : toZ w64 (ofZ w64 (c .args .longitude)) ≡ c .args .longitude
@@ -62,7 +47,7 @@ sub-radians : tie.Need-sub-radians
 sub-radians c = rw (same (c .before .before)) (past-fits (c .before .before))
 
 int-to-float-radians-2 : tie.Need-int-to-float-radians-2
-int-to-float-radians-2 c = let a = c .before .before .before in rw (same a) (read-back _ (past-fits a) (past-float a))
+int-to-float-radians-2 c = let a = c .before .before .before in rw (same a) (read-back _ (past-fits a) (past.past-float (a .args .longitude) (a .pre .2)))
 
 radians-requires-2 : tie.Need-radians-requires-2
 radians-requires-2 c κs = search needs

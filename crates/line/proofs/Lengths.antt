@@ -20,7 +20,7 @@ use Rattle.line.specs.Text.{decimal, integer, highest, letters, nameText
 use Rattle.line.proofs.Texts as T
 
 -- ---- numbers and names
-len-pow : (k n : ℕ) → n < 10 ^ suc k → length (decimal n) ≤ suc k
+pub len-pow : (k n : ℕ) → n < 10 ^ suc k → length (decimal n) ≤ suc k
 len-pow zero n h = omega (arith, ap length (T.decimal-one n h))
 len-pow (suc k) n h = go (decLt n 10) (λ l. len-pow k (n / 10) l)
   where

@@ -8,6 +8,9 @@ use lib.ListN.{length}
 use lib.Seq.{sets}
 use Rattle.refusal.specs.Order.{pick}
 use Rattle.chain.specs.declared.Id.{Id}
+use Rattle.chain.specs.declared.Label.{Label}
+use Rattle.chain.specs.declared.Realization.{Realization}
+use Rattle.chain.specs.declared.Position.{Position}
 use Rattle.chain.specs.declared.Point.{Point}
 use Rattle.line.specs.Bytes.{tab, lineFeed, minus, zeroByte, letterP, letterC, letterR}
 
@@ -42,6 +45,10 @@ unfoldable pub lineText : List (List ℕ) → List ℕ
 lineText [] = lineFeed ∷ []
 lineText (f ∷ []) = f ++ (lineFeed ∷ [])
 lineText (f ∷ g ∷ fs) = f ++ (tab ∷ lineText (g ∷ fs))
+
+-- a point of these parts
+abbrev pub pointOf : Label → Realization → Position → Point
+pointOf l r p = record { label = l; realization = r; position = p }
 
 -- P, id, issue, order, datum, epoch, X, Y, Z
 unfoldable pub pointText : Point → List ℕ

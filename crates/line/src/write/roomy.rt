@@ -12,7 +12,7 @@ use crate::write::wide;
 ghost use mathlib.Core.List.{[], _∷_, _++_};
 ghost use Prim.Native.Nat.{_+_, _≤_, _<_};
 ghost use lib.ListN.{length};
-ghost use Rattle.line.specs.Text.{decimal, integer, letters, nameText, pointText, projectedText, refusalText, Put, two, signOf};
+ghost use Rattle.line.specs.Text.{decimal, integer, letters, nameText, pointOf, pointText, projectedText, refusalText, Put, two, signOf};
 
 mod packed;
 
@@ -193,14 +193,20 @@ fn position(out: &mut [u8], at: usize, p: chain::Position) -> usize
 }
 
 // P, id, issue, order, datum, epoch, X, Y, Z.
-pub fn point(out: &mut [u8], at: usize, p: chain::Point) -> usize
+pub fn point(
+    out: &mut [u8],
+    at: usize,
+    l: chain::Label,
+    r: chain::Realization,
+    p: chain::Position,
+) -> usize
     requires { ⌜ at + 173 ≤ length (now out) ⌝ }
-    ensures { λ r. ⌜ Put 173 (now (out .entry)) at (pointText p) (now (out .exit)) r ⌝ }
+    ensures { λ e. ⌜ Put 173 (now (out .entry)) at (pointText (pointOf l r p)) (now (out .exit)) e ⌝ }
 {
     let a = letter(out, at, b'P');
-    let b = label(out, a, p.label);
-    let c = two_numbers(out, b, p.realization.datum, p.realization.epoch, TAB);
-    position(out, c, p.position)
+    let b = label(out, a, l);
+    let c = two_numbers(out, b, r.datum, r.epoch, TAB);
+    position(out, c, p)
 }
 
 // C, id, E, N; millimetres.

@@ -2,20 +2,22 @@
 use mathlib.Core.Path.{_≡_, refl, sym, _∙_, ap}
 use mathlib.Core.Bool.{Bool, true, false, not, _||_}
 use mathlib.Core.List.{List, [], _∷_, reverse, reverse-append}
-use Prim.Native.Nat.{ℕ, suc, _+_, _-_, _<_, _≤_}
+use Prim.Native.Nat.{ℕ, zero, suc, _+_, _-_, _<_, _≤_}
 use native.Mathlib.Omega.{arith}
 use lib.IntN.{ℤ, pos, natAbs}
 use Rattle.refusal.specs.Numbers as refusal
-use Rattle.refusal.specs.Order.{first, pick}
+use Rattle.refusal.specs.Order.{first, pick, unless}
 use Rattle.refusal.proofs.Orders.{head-holds, unless-some, unless-none}
 use Rattle.ranges.specs.Ranges.{within, equal}
 use Rattle.ranges.proofs.Ranges.{both}
 use Rattle.chain.specs.declared.Position.{Position}
 use Rattle.chain.specs.declared.Realization.{Realization}
+use Rattle.chain.specs.declared.Label.{Label}
 use Rattle.chain.specs.declared.Point.{Point}
 use Rattle.chain.specs.declared.Step.{Step}
 use Rattle.chain.specs.declared.steps.Ready.{Ready}
 use Rattle.chain.specs.declared.steps.kept.rows.Row.{Row}
+use Rattle.chain.specs.declared.Answer.{Answer}
 use Rattle.chain.specs.declared.Answer.the-variants.{Converted, Refused}
 use Rattle.chain.specs.Faults.{inArea, sameRealization}
 use Rattle.chain.specs.Parts.{Parts, forwardBy, inverseBy}
@@ -60,6 +62,31 @@ module _ (l : List ℤ) (p : Point) where
   pub inverse-carried : first (preparedTests (lengthIn l) (endIn l) p) ≡ 0 → carried inverseBy p (reachedWith (lengthIn l) (p .realization) (startIn l)) (reverse (rowsOf l 1 (natAbs (lengthIn l)))) (p .position) ≡ inversePrepared l p
   unfolding inversePrepared
   inverse-carried h = sym (unless-none _ Refused _ h)
+
+-- ---- a conversion keeps the label
+abbrev pub labelIn : Label → Answer → Label
+labelIn l (Converted q) = q .label
+labelIn l (Refused n) = l
+
+carried-label : (f : Parts → Position → Position) (p : Point) (end : Realization) (rs : List Row) (q : Position) → labelIn (p .label) (carried f p end rs q) ≡ p .label
+unfolding carried
+carried-label f p end [] q = refl
+carried-label f p end (r ∷ rs) q = go (r .good) (inArea (f (readyParts (r .ready)) q)) (carried-label f p end rs (f (readyParts (r .ready)) q))
+  where
+    go : (a b : Bool)
+        → labelIn (p .label) (carried f p end rs (f (readyParts (r .ready)) q)) ≡ p .label
+        → labelIn (p .label) (pick a (pick b (carried f p end rs (f (readyParts (r .ready)) q)) (Refused refusal.left)) (Refused refusal.range)) ≡ p .label
+    go true true e = e
+    go true false e = refl
+    go false b e = refl
+
+pub forward-label : (l : List ℤ) (p : Point) → labelIn (p .label) (forwardPrepared l p) ≡ p .label
+unfolding forwardPrepared
+forward-label l p = go (first (preparedTests (lengthIn l) (startIn l) p)) _ (carried-label forwardBy p (reachedWith (lengthIn l) (p .realization) (endIn l)) (rowsOf l 1 (natAbs (lengthIn l))) (p .position))
+  where
+    go : (n : ℕ) (a : Answer) → labelIn (p .label) a ≡ p .label → labelIn (p .label) (unless n Refused a) ≡ p .label
+    go zero a e = e
+    go (suc n) a e = refl
 
 -- ---- a turn of the code's loops over the rows
 pub rows-on : (l : List ℤ) (i n : ℕ) → i < n → rowsOf l i (n - i) ≡ rowAt l i ∷ rowsOf l (i + 1) (n - (i + 1))

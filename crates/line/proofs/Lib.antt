@@ -7,6 +7,7 @@ pub mod Answers
 pub mod Capped
 pub mod Faults
 pub mod Texts
+pub mod Packed
 pub mod BareLines
 pub mod Compared
 pub mod Lengths

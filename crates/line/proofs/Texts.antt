@@ -21,7 +21,7 @@ use Rattle.chain.specs.declared.Point.{Point}
 use Rattle.line.specs.Text.{lastDigits, decimal, integer, highest, letters, nameText, lineText, pointText, projectedText, refusalText, Wrote, Put, two, four, eight, signOf}
 
 -- ---- stores one after the other
-sets-append : (vs ws l : List ℕ) (i : ℕ) → sets l i (vs ++ ws) ≡ sets (sets l i vs) (i + length vs) ws
+pub sets-append : (vs ws l : List ℕ) (i : ℕ) → sets l i (vs ++ ws) ≡ sets (sets l i vs) (i + length vs) ws
 sets-append [] ws l i = rw add-zero
 sets-append (v ∷ vs) ws l i =
     sets-append vs ws (set l i v) (suc i)

@@ -1,5 +1,5 @@
 -- The lines that are written, byte for byte.
-use Prim.Native.Nat.{ℕ, zero, suc, _+_, _*_, _/_, _%_, _≤_, min, max}
+use Prim.Native.Nat.{ℕ, zero, suc, _+_, _*_, _/_, _%_, _≤_, _<_, min, max}
 use mathlib.Core.Path.{_≡_}
 use mathlib.Core.List.{List, [], _∷_, _++_}
 use lib.Dec.{ltb, eqb}
@@ -8,6 +8,9 @@ use lib.ListN.{length}
 use lib.Seq.{sets}
 use Rattle.refusal.specs.Order.{pick}
 use Rattle.chain.specs.declared.Id.{Id}
+use Rattle.chain.specs.declared.Label.{Label}
+use Rattle.chain.specs.declared.Realization.{Realization}
+use Rattle.chain.specs.declared.Position.{Position}
 use Rattle.chain.specs.declared.Point.{Point}
 use Rattle.line.specs.Bytes.{tab, lineFeed, minus, zeroByte, letterP, letterC, letterR}
 
@@ -42,6 +45,10 @@ unfoldable pub lineText : List (List ℕ) → List ℕ
 lineText [] = lineFeed ∷ []
 lineText (f ∷ []) = f ++ (lineFeed ∷ [])
 lineText (f ∷ g ∷ fs) = f ++ (tab ∷ lineText (g ∷ fs))
+
+-- a point of these parts
+abbrev pub pointOf : Label → Realization → Position → Point
+pointOf l r p = record { label = l; realization = r; position = p }
 
 -- P, id, issue, order, datum, epoch, X, Y, Z
 unfoldable pub pointText : Point → List ℕ
@@ -97,3 +104,50 @@ eight n = four (n / 10000) ++ four (n % 10000)
 abbrev pub signOf : ℤ → List ℕ
 signOf (pos n) = []
 signOf (negsuc n) = minus ∷ []
+
+-- ---- how digits are written side by side, out of one number
+
+-- the lowest two, four and eight bytes of a number, the lowest first
+abbrev pub pairBytes : ℕ → List ℕ
+pairBytes w = w % 256 ∷ w / 256 % 256 ∷ []
+
+abbrev pub halfBytes : ℕ → List ℕ
+halfBytes w = pairBytes w ++ pairBytes (w / 65536)
+
+abbrev pub wordBytes : ℕ → List ℕ
+wordBytes w = halfBytes w ++ halfBytes (w / 4294967296)
+
+-- four numbers below 100, each in sixteen bits, the first lowest
+abbrev pub Pairs : ℕ → Type 0
+Pairs w = (w % 65536 < 100) × (w / 65536 % 65536 < 100) × (w / 4294967296 % 65536 < 100) × (w / 281474976710656 < 100)
+
+-- a number of eight digits as four of two
+abbrev pub pairsOf : ℕ → ℕ
+pairsOf n = ((n % 10000 % 100 * 65536 + n % 10000 / 100) * 65536 + n / 10000 % 100) * 65536 + n / 10000 / 100
+
+-- the lowest four bytes of w are the digits of a and b
+pub record Half (w a b : ℕ) : Type 0 where
+  pub one : w % 256 ≡ zeroByte + a / 10
+  pub two : w / 256 % 256 ≡ zeroByte + a % 10
+  pub three : w / 65536 % 256 ≡ zeroByte + b / 10
+  pub four : w / 65536 / 256 % 256 ≡ zeroByte + b % 10
+
+-- the bytes of r are the digits of the four pairs of w
+pub record Spread (w r : ℕ) : Type 0 where
+  pub low : Half r (w % 65536) (w / 65536 % 65536)
+  pub high : Half (r / 4294967296) (w / 4294967296 % 65536) (w / 281474976710656)
+
+-- r digits follow the first of n
+pub record Further (n r : ℕ) : Type 0 where
+  pub one : n < 10 → r ≡ 0
+  pub two : 10 ≤ n → n < 100 → r ≡ 1
+  pub three : 100 ≤ n → n < 1000 → r ≡ 2
+  pub four : 1000 ≤ n → r ≡ 3
+  pub most : r ≤ 3
+
+-- a text of at most four bytes, and up to three bytes after it that what follows it takes away
+pub record Begun (l : List ℕ) (at : ℕ) (vs m : List ℕ) (r : ℕ) : Type 0 where
+  pub place : r ≡ at + length vs
+  pub most : length vs ≤ 4
+  pub size : length m ≡ length l
+  pub on : (ws : List ℕ) → 3 ≤ length ws → sets m r ws ≡ sets l at (vs ++ ws)

@@ -33,6 +33,7 @@ pub use point_line::read_point;
 pub use step_line::read_step;
 pub use write::feeds::write_feeds;
 pub use write::lot::write_lot;
+pub use write::write_labelled;
 pub use write::write_point;
 pub use write::write_projected;
 pub use write::write_refusal;

@@ -6,7 +6,7 @@ use crate::field::TAB;
 ghost use mathlib.Core.Path.{_≡_};
 ghost use mathlib.Core.List.{[], _∷_, _++_};
 ghost use lib.IntN.{natAbs};
-ghost use Rattle.line.specs.Text.{decimal, integer, letters, nameText, pointText, projectedText, refusalText, Wrote};
+ghost use Rattle.line.specs.Text.{decimal, integer, letters, nameText, pointOf, pointText, projectedText, refusalText, Wrote};
 
 mod roomy;
 
@@ -152,17 +152,41 @@ fn cut_refusal(out: &mut [u8], at: usize, line: u64, number: u8, place: u8) -> u
     byte(out, f, LINE_FEED)
 }
 
-// P, id, issue, order, datum, epoch, X, Y, Z.
-pub fn write_point(out: &mut [u8], at: usize, p: chain::Point) -> usize
-    ensures { λ r. ⌜ Wrote (now (out .entry)) at (pointText p) (now (out .exit)) r ⌝ }
+// P, id, issue, order, datum, epoch, X, Y, Z, of a point whose parts stand apart: after a conversion the label is still where it was read, and need not be copied.
+pub fn write_labelled(
+    out: &mut [u8],
+    at: usize,
+    l: chain::Label,
+    r: chain::Realization,
+    p: chain::Position,
+) -> usize
+    ensures { λ e. ⌜ Wrote (now (out .entry)) at (pointText (pointOf l r p)) (now (out .exit)) e ⌝ }
 {
     let room = out.len();
     if POINT_ROOM <= room {
         if at <= room - POINT_ROOM {
-            return roomy::point(out, at, p);
+            return roomy::point(out, at, l, r, p);
         }
     }
-    cut_point(out, at, p)
+    cut_point(
+        out,
+        at,
+        chain::Point {
+            label: l,
+            realization: r,
+            position: p,
+        },
+    )
+}
+
+// The same of a point by itself.
+pub fn write_point(out: &mut [u8], at: usize, p: chain::Point) -> usize
+    ensures { λ r. ⌜ Wrote (now (out .entry)) at (pointText p) (now (out .exit)) r ⌝ }
+{
+    let label = p.label;
+    let realization = p.realization;
+    let position = p.position;
+    write_labelled(out, at, label, realization, position)
 }
 
 // C, id, E, N; millimetres.

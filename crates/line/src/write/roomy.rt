@@ -3,14 +3,22 @@ use crate::field::LINE_FEED;
 use crate::field::TAB;
 use crate::write::HIGHEST;
 use crate::write::MINUS;
+use crate::write::natural;
+use crate::write::roomy::packed::eight_digits;
+use crate::write::roomy::packed::four_digits;
+use crate::write::roomy::packed::leading;
 use crate::write::size;
 use crate::write::wide;
 ghost use mathlib.Core.List.{[], _∷_, _++_};
 ghost use Prim.Native.Nat.{_+_, _≤_, _<_};
 ghost use lib.ListN.{length};
-ghost use Rattle.line.specs.Text.{decimal, integer, letters, nameText, pointText, projectedText, refusalText, Put, two, four, eight, signOf};
+ghost use Rattle.line.specs.Text.{decimal, integer, letters, nameText, pointOf, pointText, projectedText, refusalText, Put, two, signOf};
+
+mod packed;
 
 const HUNDRED_MILLION: u64 = 100000000;
+
+const MILLION_MILLION: u64 = 1000000000000;
 
 pub fn put(out: &mut [u8], at: usize, b: u8) -> usize
     requires { ⌜ at < length (now out) ⌝ }
@@ -29,22 +37,6 @@ pub fn pair(out: &mut [u8], at: usize, v: u64) -> usize
     out[at] = (x % 256) as u8;
     out[at + 1] = (x / 256) as u8;
     at + 2
-}
-
-fn four_digits(out: &mut [u8], at: usize, n: u64) -> usize
-    requires { ⌜ (n < 10000) × (at + 4 ≤ length (now out)) ⌝ }
-    ensures { λ r. ⌜ Put 4 (now (out .entry)) at (four n) (now (out .exit)) r ⌝ }
-{
-    let a = pair(out, at, n / 100);
-    pair(out, a, n % 100)
-}
-
-fn eight_digits(out: &mut [u8], at: usize, n: u64) -> usize
-    requires { ⌜ (n < 100000000) × (at + 8 ≤ length (now out)) ⌝ }
-    ensures { λ r. ⌜ Put 8 (now (out .entry)) at (eight n) (now (out .exit)) r ⌝ }
-{
-    let a = four_digits(out, at, n / 10000);
-    four_digits(out, a, n % 10000)
 }
 
 fn up_to_two(out: &mut [u8], at: usize, n: u64) -> usize
@@ -77,49 +69,32 @@ fn up_to_eight(out: &mut [u8], at: usize, n: u64) -> usize
     if n < 10000 {
         up_to_four(out, at, n)
     } else {
-        let a = up_to_four(out, at, n / 10000);
+        let a = leading(out, at, n / 10000);
         four_digits(out, a, n % 10000)
     }
 }
 
-// A number of nine digits or more, by what stands before its last eight digits and by these. Few have more than twelve, so this is apart from the others.
-fn very_long(out: &mut [u8], at: usize, high: u64, low: u64) -> usize
-    requires { ⌜ (high < 1000000000000) × (low < 100000000) × (at + 20 ≤ length (now out)) ⌝ }
-    ensures { λ r. ⌜ Put 20 (now (out .entry)) at (decimal high ++ eight low) (now (out .exit)) r ⌝ }
-{
-    if high < HUNDRED_MILLION {
-        let a = up_to_eight(out, at, high);
-        return eight_digits(out, a, low);
-    }
-    let a = up_to_four(out, at, high / HUNDRED_MILLION);
-    let b = eight_digits(out, a, high % HUNDRED_MILLION);
-    eight_digits(out, b, low)
-}
-
-// A number of nine digits or more: nine to twelve as up to four and eight.
+// A number of nine to twelve digits.
 fn long(out: &mut [u8], at: usize, n: u64) -> usize
-    requires { ⌜ (100000000 ≤ n) × (at + 20 ≤ length (now out)) ⌝ }
+    requires { ⌜ (100000000 ≤ n) × (n < 1000000000000) × (at + 20 ≤ length (now out)) ⌝ }
     ensures { λ r. ⌜ Put 20 (now (out .entry)) at (decimal n) (now (out .exit)) r ⌝ }
 {
-    let high = n / HUNDRED_MILLION;
-    let low = n % HUNDRED_MILLION;
-    if high < 10000 {
-        let a = up_to_four(out, at, high);
-        return eight_digits(out, a, low);
-    }
-    very_long(out, at, high, low)
+    let a = leading(out, at, n / HUNDRED_MILLION);
+    eight_digits(out, a, n % HUNDRED_MILLION)
 }
 
-// Any number.
+// Any number. Few have more than twelve digits: these go one by one, in a function that this one ends with, so that it keeps nothing for after it.
 pub fn digits(out: &mut [u8], at: usize, n: u64) -> usize
     requires { ⌜ at + 20 ≤ length (now out) ⌝ }
     ensures { λ r. ⌜ Put 20 (now (out .entry)) at (decimal n) (now (out .exit)) r ⌝ }
 {
     if n < HUNDRED_MILLION {
-        up_to_eight(out, at, n)
-    } else {
-        long(out, at, n)
+        return up_to_eight(out, at, n);
     }
+    if n < MILLION_MILLION {
+        return long(out, at, n);
+    }
+    natural(out, at, n)
 }
 
 // Any number; issue, order and datum mostly have one digit.
@@ -218,14 +193,20 @@ fn position(out: &mut [u8], at: usize, p: chain::Position) -> usize
 }
 
 // P, id, issue, order, datum, epoch, X, Y, Z.
-pub fn point(out: &mut [u8], at: usize, p: chain::Point) -> usize
+pub fn point(
+    out: &mut [u8],
+    at: usize,
+    l: chain::Label,
+    r: chain::Realization,
+    p: chain::Position,
+) -> usize
     requires { ⌜ at + 173 ≤ length (now out) ⌝ }
-    ensures { λ r. ⌜ Put 173 (now (out .entry)) at (pointText p) (now (out .exit)) r ⌝ }
+    ensures { λ e. ⌜ Put 173 (now (out .entry)) at (pointText (pointOf l r p)) (now (out .exit)) e ⌝ }
 {
     let a = letter(out, at, b'P');
-    let b = label(out, a, p.label);
-    let c = two_numbers(out, b, p.realization.datum, p.realization.epoch, TAB);
-    position(out, c, p.position)
+    let b = label(out, a, l);
+    let c = two_numbers(out, b, r.datum, r.epoch, TAB);
+    position(out, c, p)
 }
 
 // C, id, E, N; millimetres.

@@ -14,6 +14,8 @@ use crate::steps::Ready;
 use crate::steps::Scale;
 use crate::steps::Turn;
 
+mod sure;
+
 // The forms of a row: the same gain everywhere, Bursa-Wolf, a frame.
 const FIXED: i64 = 0;
 
@@ -157,7 +159,7 @@ fn turn_moved(t: Turn, p: Position) -> Moved
     }
     Moved {
         good: true,
-        position: steps::turn_forward(t, p),
+        position: sure::turn_forward(t, p),
     }
 }
 

@@ -52,7 +52,10 @@ fn print_converted(
     match chain::forward_prepared(numbers, point) {
         Answer::Refused(number) => print_refusal(state, number, 0, false, true, out, at),
         Answer::Converted(converted) => {
-            let past = line::write_point(out, at, converted);
+            let label = point.label;
+            let realization = converted.realization;
+            let position = converted.position;
+            let past = line::write_labelled(out, at, label, realization, position);
             let next = after(state, false, true);
             Printed {
                 at: past,

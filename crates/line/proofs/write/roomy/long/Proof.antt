@@ -1,39 +1,29 @@
--- `line::write::roomy::long` meets its contract. Assumes nothing.
 use native.Mathlib.Omega.{arith}
 use Rattle.line.proofs.Texts as T
+use Rattle.line.proofs.Packed as P
 use borrow.Author.Needs.{needs}
 use Rattle.line.proofs.write.roomy.long.Statement.{statement}
 use Rattle.line.proofs.write.roomy.long.Tie as tie
+use Rattle.line.proofs.write.roomy.long.Reads as reads
+use Rattle.line.proofs.write.roomy.long.Lts as lts
+use Rattle.line.proofs.write.roomy.packed.eight_digits.Reads as eight-digits-reads
+use Rattle.line.proofs.write.roomy.packed.leading.Reads as leading-reads
 
-up-to-four-requires : tie.Need-up-to-four-requires
-up-to-four-requires c κs = search needs
+-- src/write/roomy.rt:82:9
+leading-requires : tie.Need-leading-requires
+leading-requires c κs = search needs
 
+-- src/write/roomy.rt:83:5
 eight-digits-requires : tie.Need-eight-digits-requires
 eight-digits-requires c κs = search needs
 
+-- src/write/roomy.rt:78:1
 same-length : tie.Need-same-length
 same-length c = search needs
 
+-- src/write/roomy.rt:78:1
 returns : tie.Need-returns
-returns c = T.both 20 (c .before .before .before .before .before .before .up-to-four .ensures) (c .before .before .eight-digits .ensures) (omega arith) (T.eight-end _ (omega arith))
-
-very-long-requires : tie.Need-very-long-requires
-very-long-requires c κs = search needs
-
-same-length-2 : tie.Need-same-length-2
-same-length-2 c = search needs
-
-returns-2 : tie.Need-returns-2
-returns-2 c = T.named 20 (c .before .before .very-long .ensures) (omega arith) (T.eight-end _ (omega arith))
+returns c = T.named 20 (P.after 8 (c .before .before .before .before .before .before .leading .ensures) (c .before .before .eight-digits .ensures) (omega arith) (omega arith)) (omega arith) (T.eight-end _ (omega arith))
 
 pub long-spec : {M : Type 1} → statement M
-long-spec =
-    tie.close
-    (tie.spec
-    up-to-four-requires
-    eight-digits-requires
-    same-length
-    returns
-    very-long-requires
-    same-length-2
-    returns-2)
+long-spec = tie.close (tie.spec leading-requires eight-digits-requires same-length returns)

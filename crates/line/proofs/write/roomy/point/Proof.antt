@@ -3,6 +3,7 @@ use mir.Syntax.{w64}
 use mir.Val.{toZ, ofZ}
 use mathlib.Core.Path.{_≡_}
 use native.Mathlib.Omega.{arith}
+use Rattle.line.specs.Text.{pointOf}
 use Rattle.line.proofs.Texts as T
 use borrow.Author.Needs.{needs}
 use Rattle.line.proofs.write.roomy.point.Statement.{statement}
@@ -30,12 +31,12 @@ same-length c = search needs
 returns : tie.Need-returns
 returns c =
     let s = c .before .before .before .before .before .before .before .before .before .before .before .before .before .before .before .before .before .before .before in
-    let e : toZ w64 (ofZ w64 (s .args .p .realization .datum)) ≡ s .args .p .realization .datum = search needs in
-    let f : toZ w64 (ofZ w64 (s .args .p .realization .epoch)) ≡ s .args .p .realization .epoch = search needs in
+    let e : toZ w64 (ofZ w64 (s .args .r .datum)) ≡ s .args .r .datum = search needs in
+    let f : toZ w64 (ofZ w64 (s .args .r .epoch)) ≡ s .args .r .epoch = search needs in
     T.named 173
     (T.after (c .before .before .before .before .before .before .before .before .before .before .before .before .before .before .before .before .letter .ensures) (T.after (c .before .before .before .before .before .before .before .before .before .before .before .before .label .ensures) (T.after (c .before .before .before .before .before .before .two-numbers .ensures) (c .before .before .position .ensures))))
     (omega arith)
-    (rw (e, f) (T.point-put (s .args .p)))
+    (rw (e, f) (T.point-put (pointOf (s .args .l) (s .args .r) (s .args .p))))
 
 pub point-spec : {M : Type 1} → statement M
 point-spec = tie.close (tie.spec letter-requires label-requires two-numbers-requires position-requires same-length returns)

@@ -1,6 +1,16 @@
 -- `sheet_rules::decide::whole::printed::print_converted` meets its contract. Assumes nothing.
-use mathlib.Core.Path.{_≡_, refl, sym, _∙_}
+use mathlib.Core.Path.{_≡_, refl, sym, ap, subst, _∙_}
+use mathlib.Core.List.{List}
+use Prim.Native.Nat.{ℕ}
+use lib.IntN.{ℤ}
 use mathlib.Core.Bool.{true, false, or-true}
+use Rattle.chain.specs.declared.Label.{Label}
+use Rattle.chain.specs.declared.Point.{Point}
+use Rattle.chain.specs.declared.Answer.{Answer}
+use Rattle.chain.specs.declared.Answer.the-variants.{Converted}
+use Rattle.chain.specs.Prepared.{forwardPrepared}
+use Rattle.chain.proofs.KeptTurns.{labelIn, forward-label}
+use Rattle.line.specs.Text.{pointOf, pointText, Wrote}
 use Rattle.sheet_rules.specs.declared.Reply.the-variants as reply
 use Rattle.sheet_rules.proofs.Laws.{answered, gave-refusal, gave-point, shown}
 use borrow.Author.Needs.{needs}
@@ -28,8 +38,8 @@ print-refusal-requires-2 c κs = search needs
 enum-known-converted : tie.Need-enum-known-converted
 enum-known-converted c = search needs
 
-write-point-requires : tie.Need-write-point-requires
-write-point-requires c κs = search needs
+write-labelled-requires : tie.Need-write-labelled-requires
+write-labelled-requires c κs = search needs
 
 after-requires : tie.Need-after-requires
 after-requires c κs = search needs
@@ -47,12 +57,23 @@ returns-2 c = λ s h.
 same-length-3 : tie.Need-same-length-3
 same-length-3 c = search needs
 
+-- a conversion keeps the label, so that it is written with the label that was read
+relabel : {r : Answer} {q : Point} (l : List ℤ) (p : Point) → r ≡ forwardPrepared l p → r ≡ Converted q
+    → {before after : List ℕ} {at past : ℕ} → Wrote before at (pointText (pointOf (p .label) (q .realization) (q .position))) after past → Wrote before at (pointText q) after past
+relabel {r} {q} l p e f {before} {after} {at} {past} w =
+    let k : q .label ≡ p .label = ap (labelIn (p .label)) (sym f ∙ e) ∙ forward-label l p in
+    subst (λ (x : Label). Wrote before at (pointText (pointOf x (q .realization) (q .position))) after past) (sym k) w
+
 returns-3 : tie.Need-returns-3
 returns-3 c = λ s h.
-    let a = c .before .before .before .before .before .before .before .before .before .before .before in
-    let q : s .refused ≡ false = sym (h .refused) ∙ c .before .before .before .before .before .before .before .before .before .if1 .left in
-    let e = answered h (a .args .point) (a .pre .1) (c .before .before .before .before .before .before .before .before .forward-prepared .ensures) (c .before .before .before .before .before .before .converted .given .1) in
-    rw (q, e) (shown (gave-point h _ _ _ _ refl (sym (or-true (s .closed))) _ (record { reply = reply.Point _; state = _ }) refl (c .after .ensures)) (c .before .before .before .write-point .ensures, refl))
+    let a = c .before .before .before .before .before .before .before .before .before .before .before .before .before .before in
+    let q : s .refused ≡ false = sym (h .refused) ∙ c .before .before .before .before .before .before .before .before .before .before .before .before .if1 .left in
+    let f = c .before .before .before .before .before .before .before .before .before .before .before .forward-prepared .ensures in
+    let g = c .before .before .before .before .before .before .before .before .before .converted .given .1 in
+    let e = answered h (a .args .point) (a .pre .1) f g in
+    rw (q, e)
+    (shown (gave-point h _ _ _ _ refl (sym (or-true (s .closed))) _ (record { reply = reply.Point _; state = _ }) refl (c .after .ensures))
+    (relabel (a .args .numbers .now) (a .args .point) f g (c .before .before .before .write-labelled .ensures), refl))
 
 pub print-converted-spec : {M : Type 1} → statement M
 print-converted-spec =
@@ -65,7 +86,7 @@ print-converted-spec =
     enum-known-number
     print-refusal-requires-2
     enum-known-converted
-    write-point-requires
+    write-labelled-requires
     after-requires
     same-length-2
     returns-2

@@ -1,8 +1,8 @@
--- `line::write::write_point` meets its contract. Assumes nothing.
+-- `line::write::write_labelled` meets its contract. Assumes nothing.
 use Rattle.line.proofs.Texts as T
 use borrow.Author.Needs.{needs}
-use Rattle.line.proofs.write.write_point.Statement.{statement}
-use Rattle.line.proofs.write.write_point.Tie as tie
+use Rattle.line.proofs.write.write_labelled.Statement.{statement}
+use Rattle.line.proofs.write.write_labelled.Tie as tie
 
 point-requires : tie.Need-point-requires
 point-requires c κs = search needs
@@ -22,5 +22,5 @@ same-length-2 c = search needs
 returns-2 : tie.Need-returns-2
 returns-2 c = c .before .before .cut-point .ensures
 
-pub write-point-spec : {M : Type 1} → statement M
-write-point-spec = tie.close (tie.spec point-requires same-length returns cut-point-requires same-length-2 returns-2)
+pub write-labelled-spec : {M : Type 1} → statement M
+write-labelled-spec = tie.close (tie.spec point-requires same-length returns cut-point-requires same-length-2 returns-2)

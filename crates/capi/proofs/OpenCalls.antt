@@ -18,7 +18,7 @@ use Rattle.sheet_stream.specs.declared.Outcome.the-variants.{Open}
 use Rattle.sheet_stream.specs.Fragments.{sound, stateOf, fed, fedAt, feedOf}
 use Rattle.sheet_stream.proofs.Laws.{sound-parts, sound-is, feed-29}
 use Rattle.sheet_stream.proofs.Scanning.{Going, fed-open}
-use Rattle.capi.specs.Chains.{number, chainFrom}
+use Rattle.chain.specs.Numbers.{number, chainFrom}
 use Rattle.capi.specs.Fragments.{stateRange, isFlag, flag, bit, chainIn, standingIn, streamFrom, headOf, numbersWith, OpenCall}
 use Rattle.capi.proofs.Streams.{counts, size-of, countable, two, no-line, no-new-step}
 

@@ -34,7 +34,7 @@ use Rattle.sheet_stream.specs.declared.Stream.{Stream}
 use Rattle.sheet_stream.specs.declared.Outcome.{Outcome}
 use Rattle.sheet_stream.specs.declared.Outcome.the-variants.{Open, Line, Refused}
 use Rattle.sheet_stream.specs.Fragments.{Countable, Short}
-use Rattle.capi.specs.Chains.{number, placeFrom, chainFrom}
+use Rattle.chain.specs.Numbers.{number, placeFrom, placesFrom, chainFrom}
 use Rattle.capi.specs.Fragments.{FreshFromC, sizedState, stateRange, isFlag, chainIn, standingIn, streamFrom, flag, bit, headOf, conventionNumber, rowOf, withNewStep, numbersWith, Called, ofOutcome, called, stateCall, toldOf, toldAfter, Stated}
 
 -- ---- the lengths
@@ -82,7 +82,7 @@ countable ns bytes l e =
 
 -- the state that C begins with
 pub fresh-from-c : FreshFromC
-unfolding streamFrom chainIn chainFrom placeFrom within
+unfolding streamFrom chainIn chainFrom placesFrom placeFrom within
 fresh-from-c = refl
 
 -- ---- bytes copied one after the other

@@ -26,8 +26,8 @@ use Rattle.sheet_stream.specs.declared.Outcome.{Outcome}
 use Rattle.sheet_stream.specs.declared.Outcome.the-variants.{Open, Line, Refused}
 use Rattle.sheet_stream.specs.declared.Fed.{Fed}
 use Rattle.sheet_stream.specs.Fragments.{empty, fresh, feedOf, finishOf}
-use Rattle.capi.specs.Chains.{number, chainFrom}
-use Rattle.capi.specs.Chains.{noStep as emptyPlace}
+use Rattle.chain.specs.Numbers.{number, chainFrom}
+use Rattle.chain.specs.Numbers.{noStep as emptyPlace}
 
 -- ---- the lengths: seven numbers and 13 to each of eight steps; the open line's bytes; room for an answer
 unfoldable pub sizedState : ℕ → ℕ → ℕ → Bool

@@ -7,14 +7,14 @@ ghost use lib.ListN.{length};
 ghost use Rattle.ranges.specs.Ranges.{within};
 ghost use Rattle.sheet_rules.specs.OneLine.{soundStanding};
 ghost use Rattle.sheet_stream.specs.Fragments.{Countable};
-ghost use Rattle.capi.specs.Chains.{number};
+ghost use Rattle.chain.specs.Numbers.{number};
 ghost use Rattle.capi.specs.Fragments.{isFlag, stateRange, bit as Fragments·bit, flag as Fragments·flag, conventionNumber, chainIn, standingIn, streamFrom, headOf, rowOf, withNewStep, numbersWith};
-use crate::decode::chain_from;
 use crate::joining::copy;
 use chain::Chain;
 use chain::Convention;
 use chain::Kind;
 use chain::Step;
+use chain::chain_from;
 use sheet_rules::Standing;
 use sheet_stream::Stream;
 

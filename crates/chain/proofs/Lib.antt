@@ -21,3 +21,5 @@ pub mod Legs
 pub mod Lifting
 pub mod Readying
 pub mod RowLaws
+pub mod Letters
+pub mod LentSteps

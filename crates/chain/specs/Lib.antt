@@ -8,3 +8,4 @@ pub mod Join
 pub mod Case
 pub mod Prepared
 pub mod PointRow
+pub mod Numbers

@@ -5,7 +5,7 @@ use native.Mathlib.Omega.{arith}
 use lib.IntN.{ℤ, natAbs}
 use lib.ListN.{take, drop}
 use Rattle.rounding.proofs.Machine.{told}
-use Rattle.capi.specs.Chains.{number, chainFrom}
+use Rattle.chain.specs.Numbers.{number, chainFrom}
 use Rattle.capi.specs.Fragments.{chainIn}
 use Rattle.capi.proofs.Streams.{counts, a-count, size-of}
 use borrow.Author.Needs.{needs}

@@ -3,7 +3,7 @@ use mathlib.Core.Path.{_≡_, _∙_, ap, ap₂}
 use mathlib.Core.Bool.{Bool, not, _&&_}
 use Rattle.rounding.proofs.Machine.{told}
 use Rattle.sheet_rules.specs.OneLine.{soundStanding}
-use Rattle.capi.specs.Chains.{number}
+use Rattle.chain.specs.Numbers.{number}
 use Rattle.capi.specs.Fragments.{flag}
 use borrow.Author.Needs.{needs}
 use Rattle.capi.proofs.state.is_answered.Statement.{statement}

@@ -1,10 +1,10 @@
--- `sheet_rules::decide::standing::answer_other` meets its contract. A good chain is prepared whole. Assumes nothing.
+-- `sheet_rules::decide::standing::answer_prepared` meets its contract. A good chain is prepared whole. Assumes nothing.
 use mathlib.Core.Path.{_∙_}
 use borrow.Author.Tests.{eq-eqb}
 use Rattle.sheet_rules.proofs.OneLine.{sound-parts, sound-short}
 use borrow.Author.Needs.{needs}
-use Rattle.sheet_rules.proofs.decide.standing.answer_other.Statement.{statement}
-use Rattle.sheet_rules.proofs.decide.standing.answer_other.Tie as tie
+use Rattle.sheet_rules.proofs.decide.standing.answer_prepared.Statement.{statement}
+use Rattle.sheet_rules.proofs.decide.standing.answer_prepared.Tie as tie
 
 prepare-requires : tie.Need-prepare-requires
 prepare-requires c κs = search needs
@@ -18,5 +18,5 @@ answer-within-requires c κs =
 returns : tie.Need-returns
 returns c = search needs
 
-pub answer-other-spec : {M : Type 1} → statement M
-answer-other-spec = tie.close (tie.spec prepare-requires answer-within-requires returns)
+pub answer-prepared-spec : {M : Type 1} → statement M
+answer-prepared-spec = tie.close (tie.spec prepare-requires answer-within-requires returns)

@@ -30,7 +30,13 @@ fn tested(profile: i64, steps: &[i64], reply: Reply, closes: bool) -> PointAnswe
 
 // A line of this number read as a point line, after a refused step or none, and its point converted by the lent chain; Unsound where the chain is bad. A chain that
 // converts a point needs no other test. The line closes the chain where its form is good.
-pub fn answer_point(line: u64, refused: bool, profile: i64, steps: &[i64], text: &[u8]) -> PointAnswer
+pub fn answer_point(
+    line: u64,
+    refused: bool,
+    profile: i64,
+    steps: &[i64],
+    text: &[u8],
+) -> PointAnswer
     ensures { λ r. ⌜ r ≡ pointAnswered (chainFrom profile (now (steps .entry))) line refused (now (text .entry)) ⌝ }
 {
     match line::read_point(profile, text) {
@@ -51,7 +57,12 @@ pub fn answer_point(line: u64, refused: bool, profile: i64, steps: &[i64], text:
                 );
             }
             match chain::forward_by(profile, steps, point) {
-                Answer::Refused(number) => tested(profile, steps, Reply::Refused(line, number, 0), true),
+                Answer::Refused(number) => tested(
+                    profile,
+                    steps,
+                    Reply::Refused(line, number, 0),
+                    true,
+                ),
                 Answer::Converted(converted) => PointAnswer {
                     response: Response::Replied(Reply::Point(converted)),
                     closes: true,

@@ -76,8 +76,7 @@ feed-point-requires c κs =
     let t = c .before .before .before .before .before in
     let s = c .before .before .before .before .before .before .before .before .before .before .before .before .before .before .before .before .before .before .before .before in
     let k = c .before .before .before .before .before .before .before .before .before .before in
-    let p = both _ _ (t .if2 .taken) in
-    (
+    let p = both _ _ (t .if2 .taken) in (
       s .pre .0,
       s .pre .1,
       s .pre .2,

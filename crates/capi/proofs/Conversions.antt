@@ -12,7 +12,8 @@ use Rattle.chain.specs.declared.Point.{Point}
 use Rattle.chain.specs.declared.Chain.{Chain}
 use Rattle.chain.specs.declared.Answer.{Answer}
 use Rattle.capi.specs.Outcome.{Answered}
-use Rattle.capi.specs.Chains.{chainFrom, pointFrom, wholeSteps}
+use Rattle.chain.specs.Numbers.{chainFrom}
+use Rattle.capi.specs.Chains.{pointFrom, wholeSteps}
 use Rattle.capi.specs.Calls.{ofAnswer, conversionCall}
 use Rattle.capi.proofs.Laws.{by, wrong}
 
@@ -36,8 +37,8 @@ module _ (convert : Chain → Point → Answer) (profile : ℤ) (chain point out
   unfolding conversionCall
   unsized e = wrong (rw e)
 
-  pub converted : {c : Chain} {p : Point} {a : Answer} {after : List ℤ} {r s : ℤ}
-      → wholeSteps (length chain) (length point) (length out) ≡ true → c ≡ chainFrom profile chain → p ≡ pointFrom point → a ≡ convert c p
+  pub converted : {y : ℤ} {p : Point} {a : Answer} {after : List ℤ} {r s : ℤ}
+      → wholeSteps (length chain) (length point) (length out) ≡ true → y ≡ profile → p ≡ pointFrom point → a ≡ convert (chainFrom y chain) p
       → Answered (ofAnswer a) out after r → s ≡ r → Answered (conversionCall convert profile chain point out) out after s
   unfolding conversionCall
-  converted e f g h answered t = by answered (rw e (ap ofAnswer (sym (h ∙ ap₂ convert f g)))) t
+  converted e f g h answered t = by answered (rw e (ap ofAnswer (sym (h ∙ ap₂ convert (ap (λ (y : ℤ). chainFrom y chain) f) g)))) t

@@ -18,7 +18,7 @@ use Rattle.sheet_stream.specs.declared.Outcome.the-variants.{Open}
 use Rattle.sheet_stream.specs.Fragments.{sound, stateOf, fed, fedAt, feedOf}
 use Rattle.sheet_stream.proofs.Laws.{sound-parts, sound-is, feed-29}
 use Rattle.sheet_stream.proofs.Scanning.{Going, fed-open}
-use Rattle.capi.specs.Chains.{number, chainFrom}
+use Rattle.chain.specs.Numbers.{number, chainFrom}
 use Rattle.capi.specs.Fragments.{stateRange, isFlag, flag, bit, chainIn, standingIn, streamFrom, headOf, numbersWith, OpenCall}
 use Rattle.capi.proofs.Streams.{counts, size-of, countable, two, no-line, no-new-step}
 
@@ -34,7 +34,7 @@ head-stored (a0 ∷ a1 ∷ a2 ∷ a3 ∷ a4 ∷ a5 ∷ []) l c = absurd (omega a
 head-stored (a0 ∷ a1 ∷ a2 ∷ a3 ∷ a4 ∷ a5 ∷ a6 ∷ ns) l c = λ p q r s t u. rw (p, q, r, s, t, u)
 
 -- a flag, and a count, are the numbers that they were read from
-flag-back : (z : ℤ) → isFlag z ≡ true → bit (flag z) ≡ z
+pub flag-back : (z : ℤ) → isFlag z ≡ true → bit (flag z) ≡ z
 flag-back z e = let n = natural 0 z 1 e in rw (n .is) (go (n .n) (n .high))
   where
     go : (m : ℕ) → m ≤ 1 → bit (flag (pos m)) ≡ pos m
@@ -42,21 +42,21 @@ flag-back z e = let n = natural 0 z 1 e in rw (n .is) (go (n .n) (n .high))
     go (suc zero) h = rw (above (pos 0) (pos 1) (pos 0) refl)
     go (suc (suc m)) h = absurd (omega arith)
 
-count-back : (z : ℤ) (hi : ℕ) → Natural 0 z hi → pos (natAbs z) ≡ z
+pub count-back : (z : ℤ) (hi : ℕ) → Natural 0 z hi → pos (natAbs z) ≡ z
 count-back z hi n = rw (n .is)
 
 module _ (ns : List ℤ) (bytes : List ℕ) (long : length ns ≡ 111) (ranged : stateRange ns ≡ true) where
-  flags : (isFlag (number ns 2) ≡ true) × (isFlag (number ns 3) ≡ true) × (isFlag (number ns 4) ≡ true)
+  pub flags : (isFlag (number ns 2) ≡ true) × (isFlag (number ns 3) ≡ true) × (isFlag (number ns 4) ≡ true)
   unfolding stateRange
   flags =
       all (isFlag (number ns 2)) (isFlag (number ns 3)) (isFlag (number ns 4))
       (both (within (pos 0) (number ns 0) (pos 1000000) && within (pos 0) (number ns 1) (pos 200) && within (pos 0) (number ns 6) (pos 8)) _ ranged .1)
 
-  steps-in : chainIn ns .length ≡ natAbs (number ns 6)
+  pub steps-in : chainIn ns .length ≡ natAbs (number ns 6)
   unfolding chainIn chainFrom
   steps-in = let k = size-of (number ns 6) 8 (counts ns ranged .steps) in omega (arith, length-drop 7 ns, length-take (13 * natAbs (number ns 6)) (drop 7 ns), k, long)
 
-  profile-in : number ns 5 ≡ chainIn ns .profile
+  pub profile-in : number ns 5 ≡ chainIn ns .profile
   unfolding chainIn chainFrom
   profile-in = refl
 

@@ -21,7 +21,8 @@ use Rattle.chain.specs.Faults.{chainTests}
 use Rattle.chain.specs.PointRow.{convertOf, readyOf, convertReady}
 use Rattle.chain.proofs.Readying.{ready-converts}
 use Rattle.capi.specs.Outcome.{Outcome, refused, gives as writes, Answered}
-use Rattle.capi.specs.Chains.{chainFrom, pointFrom, pointNumbers}
+use Rattle.chain.specs.Numbers.{chainFrom}
+use Rattle.capi.specs.Chains.{pointFrom, pointNumbers}
 use Rattle.capi.specs.PointRow.{placeOf, answersOf, directionFrom, wholeRows, lentTests, rowCall}
 use Rattle.capi.proofs.Laws.{wrong, declined}
 use Rattle.capi.proofs.Joinings.{sets-append}

@@ -1,6 +1,6 @@
 -- A state of numbers and bytes, and the three ways in which a call over it ends. Assumes nothing.
 use Prim.Native.Nat.{ℕ, zero, suc, _+_, _-_, _*_, _/_, _<_, _≤_}
-use mathlib.Core.Path.{_≡_, refl, sym, _∙_, ap}
+use mathlib.Core.Path.{_≡_, refl, sym, _∙_, ap, ap₂}
 use mathlib.Core.Bool.{Bool, true, false, _&&_}
 use mathlib.Core.List.{List, [], _∷_, _++_}
 use native.Mathlib.Numerals.{add-one}
@@ -29,12 +29,13 @@ use Rattle.line.specs.Text.{Wrote}
 use Rattle.sheet_rules.specs.declared.Reply.{Reply}
 use Rattle.sheet_rules.specs.declared.Standing.{Standing}
 use Rattle.sheet_rules.specs.Sheet.{replyText}
+use Rattle.sheet_rules.specs.OneLine.{soundAt, soundStanding}
 use Rattle.sheet_stream.specs.declared.Fed.{Fed}
 use Rattle.sheet_stream.specs.declared.Stream.{Stream}
 use Rattle.sheet_stream.specs.declared.Outcome.{Outcome}
 use Rattle.sheet_stream.specs.declared.Outcome.the-variants.{Open, Line, Refused}
 use Rattle.sheet_stream.specs.Fragments.{Countable, Short}
-use Rattle.capi.specs.Chains.{number, placeFrom, chainFrom}
+use Rattle.chain.specs.Numbers.{number, placeFrom, placesFrom, chainFrom}
 use Rattle.capi.specs.Fragments.{FreshFromC, sizedState, stateRange, isFlag, chainIn, standingIn, streamFrom, flag, bit, headOf, conventionNumber, rowOf, withNewStep, numbersWith, Called, ofOutcome, called, stateCall, toldOf, toldAfter, Stated}
 
 -- ---- the lengths
@@ -69,6 +70,16 @@ a-count z hi h n = rw (n .is) (natural-holds 0 (n .n) 1000000 (n .low) (omega (a
 pub size-of : (z : ℤ) (hi : ℕ) → Natural 0 z hi → natAbs z ≤ hi
 size-of z hi n = rw (n .is) (n .high)
 
+-- the chain of the part of the numbers that holds the steps
+pub chain-read : (ns : List ℤ) {y : ℤ} {k : ℕ} → y ≡ number ns 5 → k ≡ 7 + 13 * natAbs (number ns 6) → chainFrom y (take (k - 7) (drop 7 ns)) ≡ chainIn ns
+unfolding chainIn
+chain-read ns {k = k} e f = let z : k - 7 ≡ 13 * natAbs (number ns 6) = omega arith in rw (e, z)
+
+-- whether a sheet can stand there, by the line to come and the chain alone
+pub sound-in : (ns : List ℤ) {b : Bool} {l : ℕ} {c : Chain} → b ≡ soundAt l c → l ≡ natAbs (number ns 0) + 1 → c ≡ chainIn ns → b ≡ soundStanding (standingIn ns)
+unfolding soundAt soundStanding
+sound-in ns e f g = e ∙ ap₂ soundAt f g
+
 -- a state whose counts are in their ranges
 pub countable : (ns : List ℤ) (bytes : List ℕ) → length ns ≡ 111 → stateRange ns ≡ true → Countable (streamFrom ns bytes)
 unfolding streamFrom chainIn chainFrom
@@ -82,7 +93,7 @@ countable ns bytes l e =
 
 -- the state that C begins with
 pub fresh-from-c : FreshFromC
-unfolding streamFrom chainIn chainFrom placeFrom
+unfolding streamFrom chainIn chainFrom placesFrom placeFrom
 fresh-from-c = rw (equal-self (pos 0))
 
 -- ---- bytes copied one after the other

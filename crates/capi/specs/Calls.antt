@@ -33,7 +33,8 @@ use Rattle.line.specs.declared.Verdict.{Verdict}
 use Rattle.line.specs.declared.Verdict.the-variants as verdict
 use Rattle.line.specs.Later.{laterOf, laterFaultOf}
 use Rattle.capi.specs.Outcome.{Outcome, refused, gives, ifSized}
-use Rattle.capi.specs.Chains.{chainFrom, pointFrom, pointNumbers, wholeSteps}
+use Rattle.chain.specs.Numbers.{chainFrom}
+use Rattle.capi.specs.Chains.{pointFrom, pointNumbers, wholeSteps}
 
 -- ---- conversions under a profile, forward and inverse: a point
 abbrev pub ofAnswer : Answer → Outcome ℤ

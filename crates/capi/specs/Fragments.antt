@@ -1,7 +1,7 @@
 -- A sheet in fragments: its state out of numbers and bytes and back, in the order that include/swivelcrane.h gives, and what the two calls answer.
 use Prim.Native.Nat.{ℕ, suc, _+_, _-_, _*_}
 use mathlib.Core.Path.{_≡_}
-use mathlib.Core.Bool.{Bool, true, false, not, _&&_}
+use mathlib.Core.Bool.{Bool, true, false, not, _&&_, _||_}
 use mathlib.Core.List.{List, [], _∷_, _++_}
 use lib.Dec.{eqb, leb, ltb}
 use lib.IntN.{ℤ, pos, negℤ, natAbs}
@@ -26,8 +26,8 @@ use Rattle.sheet_stream.specs.declared.Outcome.{Outcome}
 use Rattle.sheet_stream.specs.declared.Outcome.the-variants.{Open, Line, Refused}
 use Rattle.sheet_stream.specs.declared.Fed.{Fed}
 use Rattle.sheet_stream.specs.Fragments.{empty, fresh, feedOf, finishOf}
-use Rattle.capi.specs.Chains.{number, chainFrom}
-use Rattle.capi.specs.Chains.{noStep as emptyPlace}
+use Rattle.chain.specs.Numbers.{number, chainFrom}
+use Rattle.chain.specs.Numbers.{noStep as emptyPlace}
 
 -- ---- the lengths: seven numbers and 13 to each of eight steps; the open line's bytes; room for an answer
 unfoldable pub sizedState : ℕ → ℕ → ℕ → Bool
@@ -175,6 +175,19 @@ toldOf n (Refused k) before = before
 pub record OpenCall (fragment : List ℕ) (numbers numbers' : List ℤ) (bytes bytes' : List ℕ) (told told' : List ℤ) (r : ℤ) : Type 0 where
   pub state : (out : List ℕ) → Stated (called (feedOf (streamFrom numbers bytes) fragment)) numbers numbers' bytes bytes' out out r
   pub tells : told' ≡ toldOf (feedOf (streamFrom numbers bytes) fragment .taken) (feedOf (streamFrom numbers bytes) fragment .outcome) told
+
+-- what a call does that comes to this, its lengths and ranges being good
+pub record FedCall (x : Fed) (numbers numbers' : List ℤ) (bytes bytes' out out' : List ℕ) (told told' : List ℤ) (r : ℤ) : Type 0 where
+  pub state : Stated (called x) numbers numbers' bytes bytes' out out' r
+  pub tells : told' ≡ toldOf (x .taken) (x .outcome) told
+
+-- a point line can come next: the sheet is not finished, the limit is far, and there are no more steps than lines
+unfoldable pub pointTime : List ℤ → Bool
+pointTime ns = not (flag (number ns 4)) && ltb (natAbs (number ns 0)) 1000000 && leb (natAbs (number ns 6)) (natAbs (number ns 0))
+
+-- where the sheet stands after it: the chain is as it was
+abbrev pub pointPassed : List ℤ → Bool → Standing
+pointPassed ns closes = record { line = natAbs (number ns 0) + 1 + 1; chain = chainIn ns; refused = flag (number ns 2); closed = flag (number ns 3) || closes }
 
 unfoldable pub toldAfter : (Stream → Fed) → List ℤ → List ℕ → Bool → List ℤ → List ℤ
 toldAfter f numbers bytes sized before =

@@ -10,7 +10,7 @@ use Rattle.refusal.specs.Order.{pick}
 use Rattle.chain.specs.declared.Joined.{Joined}
 use Rattle.chain.specs.Join.{joinOf}
 use Rattle.capi.specs.Outcome.{Outcome, wrongLength, refused, gives, ifSized}
-use Rattle.capi.specs.Chains.{chainFrom}
+use Rattle.chain.specs.Numbers.{chainFrom}
 
 -- whole steps, and room for eight of them
 unfoldable pub roomForEight : ℕ → ℕ → ℕ → Bool

@@ -15,7 +15,8 @@ use Rattle.chain.specs.declared.Direction.the-variants.{Forward, Inverse}
 use Rattle.chain.specs.Faults.{chainTests}
 use Rattle.chain.specs.PointRow.{convertOf}
 use Rattle.capi.specs.Outcome.{Outcome, refused, gives as writes, ifSized}
-use Rattle.capi.specs.Chains.{letter, chainFrom, pointFrom, pointNumbers}
+use Rattle.chain.specs.Numbers.{letter, chainFrom}
+use Rattle.capi.specs.Chains.{pointFrom, pointNumbers}
 
 -- ---- the answers
 -- the refusal number or 0, then the point's numbers: zeros beside a refusal

@@ -11,7 +11,7 @@ use Rattle.oblique_mercator.specs.declared.Angles.the-variants as angles
 use Rattle.oblique_mercator.specs.Forward.{forwardOf}
 use Rattle.oblique_mercator.specs.Reverse.{reverseOf}
 use Rattle.capi.specs.Outcome.{Outcome, refused, gives, ifSized}
-use Rattle.capi.specs.Chains.{number}
+use Rattle.chain.specs.Numbers.{number}
 use Rattle.capi.specs.Calls.{ofProjected}
 
 -- ellipsoid, centre's latitude and longitude, azimuth, rectified angle, scale, false easting, false northing

@@ -6,7 +6,6 @@ ghost use Rattle.capi.specs.Outcome.{Answered};
 ghost use Rattle.capi.specs.Chains.{wholeSteps, pointFrom};
 ghost use Rattle.capi.specs.Calls.{ofAnswer, forwardCall, inverseCall};
 use crate::WRONG_LENGTH;
-use crate::decode::chain_from;
 use crate::status::status;
 use chain::Answer;
 use chain::Id;
@@ -85,10 +84,7 @@ pub extern "C" fn swivelcrane_forward(
     if !are_sized(chain.len(), point.len(), out.len()) {
         return WRONG_LENGTH;
     }
-    give(
-        chain::forward(chain_from(profile, chain), point_from(point)),
-        out,
-    )
+    give(chain::forward_by(profile, chain, point_from(point)), out)
 }
 
 // A point inverse by a chain of a profile, 2009 or 2021 (document 01: back).
@@ -104,8 +100,5 @@ pub extern "C" fn swivelcrane_inverse(
     if !are_sized(chain.len(), point.len(), out.len()) {
         return WRONG_LENGTH;
     }
-    give(
-        chain::inverse(chain_from(profile, chain), point_from(point)),
-        out,
-    )
+    give(chain::inverse_by(profile, chain, point_from(point)), out)
 }

@@ -4,15 +4,18 @@ ghost use mathlib.Core.Bool.{true, false};
 ghost use Prim.Native.Nat.{_<_, _≤_};
 ghost use lib.ListN.{length};
 ghost use Rattle.line.specs.Lines.{lineEnd};
-ghost use Rattle.sheet_stream.specs.Fragments.{Countable, Short, fedAt};
-ghost use Rattle.capi.specs.Fragments.{sizedState, stateRange, called, toldOf, Stated, OpenCall, Streamed, Ended};
+ghost use Rattle.sheet_stream.specs.Fragments.{Countable, Short, fedAt, feedOf};
+ghost use Rattle.capi.specs.Fragments.{sizedState, stateRange, called, toldOf, streamFrom, Stated, OpenCall, FedCall, Streamed, Ended};
 use crate::joining::minus;
+use crate::point_line;
 use crate::state;
 use sheet_stream::Fed;
 use sheet_stream::Outcome;
 
 // Minus the number of a wrong length: a length is never below 0.
 const NO_ROOM: i64 = -255;
+
+const LINE_FEED: u8 = 10;
 
 // Whether the state's arrays are as long as the calls ask, with room for an answer.
 fn are_sized(numbers: usize, bytes: usize, out: usize) -> bool
@@ -83,6 +86,49 @@ fn feed_open(
     0
 }
 
+// A fragment that ends a line, by value: the state is made of the numbers and bytes, and written back.
+fn feed_value(
+    numbers: &mut [i64],
+    bytes: &mut [u8],
+    fragment: &[u8],
+    out: &mut [u8],
+    told: &mut [i64],
+) -> i64
+    requires { ⌜ (length (now numbers) ≡ 111) × (stateRange (now numbers) ≡ true) × (length (now bytes) ≡ 200) × (200 ≤ length (now out)) × (length (now told) ≡ 2) ⌝ }
+    ensures { λ r. ⌜ FedCall (feedOf (streamFrom (now (numbers .entry)) (now (bytes .entry))) (now (fragment .entry))) (now (numbers .entry)) (now (numbers .exit)) (now (bytes .entry)) (now (bytes .exit)) (now (out .entry)) (now (out .exit)) (now (told .entry)) (now (told .exit)) r ⌝ }
+{
+    let fed = sheet_stream::feed(state::stream_from(numbers, bytes), fragment);
+    let taken = fed.taken;
+    let outcome = fed.outcome;
+    tell(taken, outcome, told);
+    give(fed, numbers, bytes, out)
+}
+
+// A fragment that ends a line with its byte before `end`. Most lines are points: one that fits in the room is answered with no state made.
+fn feed_line(
+    numbers: &mut [i64],
+    bytes: &mut [u8],
+    fragment: &[u8],
+    end: usize,
+    out: &mut [u8],
+    told: &mut [i64],
+) -> i64
+    requires { ⌜ (length (now numbers) ≡ 111) × (stateRange (now numbers) ≡ true) × (length (now bytes) ≡ 200) × (200 ≤ length (now out)) × (length (now told) ≡ 2)
+        × (end ≡ lineEnd (now fragment) 0) × (fedAt (now fragment) end ≡ true) ⌝ }
+    ensures { λ r. ⌜ FedCall (feedOf (streamFrom (now (numbers .entry)) (now (bytes .entry))) (now (fragment .entry))) (now (numbers .entry)) (now (numbers .exit)) (now (bytes .entry)) (now (bytes .exit)) (now (out .entry)) (now (out .exit)) (now (told .entry)) (now (told .exit)) r ⌝ }
+{
+    let last = end - 1;
+    let mut room = state::bytes_from(bytes);
+    let n = sheet_stream::keep_bytes(&mut room, state::kept_in(numbers), &fragment[..last]);
+    if n < 200 {
+        room[n] = LINE_FEED;
+        if (room[0] == b'P') & point_line::can_come(numbers) {
+            return point_line::feed_point(numbers, bytes, &room[..n + 1], end, out, told);
+        }
+    }
+    feed_value(numbers, bytes, fragment, out, told)
+}
+
 // The bytes of a fragment up to and with its first line feed, or all of them, and what the line prints that they end.
 #[no_mangle]
 pub extern "C" fn swivelcrane_feed(
@@ -104,11 +150,7 @@ pub extern "C" fn swivelcrane_feed(
     if !sheet_stream::is_fed(fragment, end) {
         return feed_open(numbers, bytes, fragment, end, told);
     }
-    let fed = sheet_stream::feed(state::stream_from(numbers, bytes), fragment);
-    let taken = fed.taken;
-    let outcome = fed.outcome;
-    tell(taken, outcome, told);
-    give(fed, numbers, bytes, out)
+    feed_line(numbers, bytes, fragment, end, out, told)
 }
 
 // The end of the sheet, and what a line prints that is left open.

@@ -5,7 +5,7 @@ ghost use lib.IntN.{pos, negℤ};
 ghost use lib.ListN.{length};
 ghost use lib.Seq.{sets};
 ghost use Rattle.capi.specs.Joining.{roomForEight, joinCall, Counted};
-use crate::decode::chain_from;
+use chain::chain_from;
 
 // Minus the number of a wrong length: a count is never below 0.
 const NO_ROOM: i64 = -255;

@@ -10,11 +10,11 @@ ghost use Rattle.capi.specs.Outcome.{Answered};
 ghost use Rattle.capi.specs.PointRow.{placeOf, answersOf, directionFrom, wholeRows, lentTests, rowCall};
 use crate::WRONG_LENGTH;
 use crate::conversion::point_from;
-use crate::decode::chain_from;
 use crate::status::status;
 use chain::Answer;
 use chain::Direction;
 use chain::ReadyChain;
+use chain::chain_from;
 
 // Numbers to a point, and to an answer: the refusal number or 0, then the point's.
 const POINT: usize = 7;

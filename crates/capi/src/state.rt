@@ -1,25 +1,25 @@
 // The state of a sheet in fragments, out of numbers and bytes and back.
 ghost use mathlib.Core.Path.{_≡_};
 ghost use mathlib.Core.Bool.{true, not, _&&_};
-ghost use Prim.Native.Nat.{_<_, _≤_};
+ghost use Prim.Native.Nat.{_+_, _*_, _<_, _≤_};
 ghost use lib.IntN.{natAbs, pos};
 ghost use lib.ListN.{length};
 ghost use Rattle.ranges.specs.Ranges.{within};
 ghost use Rattle.sheet_rules.specs.OneLine.{soundStanding};
 ghost use Rattle.sheet_stream.specs.Fragments.{Countable};
-ghost use Rattle.capi.specs.Chains.{number};
+ghost use Rattle.chain.specs.Numbers.{number};
 ghost use Rattle.capi.specs.Fragments.{isFlag, stateRange, bit as Fragments·bit, flag as Fragments·flag, conventionNumber, chainIn, standingIn, streamFrom, headOf, rowOf, withNewStep, numbersWith};
-use crate::decode::chain_from;
 use crate::joining::copy;
 use chain::Chain;
 use chain::Convention;
 use chain::Kind;
 use chain::Step;
+use chain::chain_from;
 use sheet_rules::Standing;
 use sheet_stream::Stream;
 
 // The state's numbers before its steps, and the numbers to a step.
-const HEAD: usize = 7;
+pub(crate) const HEAD: usize = 7;
 
 const STEP: usize = 13;
 
@@ -49,13 +49,13 @@ fn count(n: i64) -> usize
     n as usize
 }
 
-fn flag(n: i64) -> bool
+pub(crate) fn flag(n: i64) -> bool
     ensures { λ r. ⌜ r ≡ Fragments·flag n ⌝ }
 {
     !ranges::equal(0, n)
 }
 
-fn bytes_from(bytes: &[u8]) -> [u8; 200]
+pub(crate) fn bytes_from(bytes: &[u8]) -> [u8; 200]
     requires { ⌜ length (now bytes) ≡ 200 ⌝ }
     ensures { λ r. ⌜ r ≡ now (bytes .entry) ⌝ }
 {
@@ -68,12 +68,28 @@ fn bytes_from(bytes: &[u8]) -> [u8; 200]
     kept
 }
 
+// How many lines were answered.
+pub(crate) fn lines_in(n: &[i64]) -> usize
+    requires { ⌜ (length (now n) ≡ 111) × (stateRange (now n) ≡ true) ⌝ }
+    ensures { λ r. ⌜ (r ≡ natAbs (number (now (n .entry)) 0)) × (r ≤ 1000000) ⌝ }
+{
+    count(n[0])
+}
+
 // How many steps the state's chain has.
-fn steps_in(n: &[i64]) -> usize
+pub(crate) fn steps_in(n: &[i64]) -> usize
     requires { ⌜ (length (now n) ≡ 111) × (stateRange (now n) ≡ true) ⌝ }
     ensures { λ r. ⌜ r ≡ natAbs (number (now (n .entry)) 6) ⌝ }
 {
     count(n[6])
+}
+
+// Where the numbers of those steps end.
+pub(crate) fn steps_end(n: &[i64]) -> usize
+    requires { ⌜ (length (now n) ≡ 111) × (stateRange (now n) ≡ true) ⌝ }
+    ensures { λ r. ⌜ (r ≡ 7 + 13 * natAbs (number (now (n .entry)) 6)) × (r ≤ 111) ⌝ }
+{
+    HEAD + STEP * steps_in(n)
 }
 
 // The chain of the steps within the state's count.
@@ -82,26 +98,8 @@ fn chain_in(n: &[i64]) -> Chain
     ensures { λ r. ⌜ r ≡ chainIn (now (n .entry)) ⌝ }
 {
     let profile = n[5];
-    let steps = count(n[6]);
-    let end = HEAD + STEP * steps;
+    let end = steps_end(n);
     chain_from(profile, &n[HEAD..end])
-}
-
-// Where the sheet stands, of a state whose counts and flags are in their ranges.
-fn standing_from(n: &[i64]) -> Standing
-    requires { ⌜ (length (now n) ≡ 111) × (stateRange (now n) ≡ true) ⌝ }
-    ensures { λ r. ⌜ r ≡ standingIn (now (n .entry)) ⌝ }
-{
-    let lines = count(n[0]);
-    let refused = flag(n[2]);
-    let closed = flag(n[3]);
-    let chain = chain_in(n);
-    Standing {
-        line: lines as u64 + 1,
-        chain: chain,
-        refused: refused,
-        closed: closed,
-    }
 }
 
 // How many bytes of the open line are kept.
@@ -118,8 +116,10 @@ pub(crate) fn is_answered(n: &[i64]) -> bool
     ensures { λ r. ⌜ r ≡ (not (Fragments·flag (number (now (n .entry)) 4)) && soundStanding (standingIn (now (n .entry)))) ⌝ }
 {
     let finished = flag(n[4]);
-    let standing = standing_from(n);
-    !finished & sheet_rules::is_sound(standing)
+    let line = lines_in(n) as u64 + 1;
+    let profile = n[5];
+    let end = steps_end(n);
+    !finished & sheet_rules::is_sound_at(line, profile, &n[HEAD..end])
 }
 
 // The whole state, put together at once: a chain is not copied from one part of it into the next.
@@ -147,7 +147,7 @@ pub(crate) fn stream_from(n: &[i64], bytes: &[u8]) -> Stream
     }
 }
 
-fn bit(b: bool) -> i64
+pub(crate) fn bit(b: bool) -> i64
     ensures { λ r. ⌜ r ≡ Fragments·bit b ⌝ }
 {
     if b {

@@ -22,3 +22,5 @@ pub mod Lifting
 pub mod Readying
 pub mod RowLaws
 pub mod Carried
+pub mod Letters
+pub mod LentSteps

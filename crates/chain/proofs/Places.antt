@@ -1,5 +1,6 @@
 -- The steps of a chain by their places: what is left to examine or to walk from a place on. Assumes nothing.
 use mathlib.Core.Path.{_≡_, refl, sym, _∙_, ap}
+use mathlib.Core.Bool.{true, false}
 use mathlib.Core.List.{List, [], _∷_, _++_, reverse, reverse-append}
 use Prim.Native.Nat.{ℕ, zero, suc, _+_, _<_}
 use native.Mathlib.Nat as NatL
@@ -12,10 +13,11 @@ use Rattle.refusal.specs.Order.{first}
 use Rattle.chain.specs.declared.Position.{Position}
 use Rattle.chain.specs.declared.Realization.{Realization}
 use Rattle.chain.specs.declared.Step.{Step}
-use Rattle.chain.specs.Faults.{StepOk, stepTests, joinTest, laterTests, stepsTests}
+use Rattle.chain.specs.Faults.{inArea, StepOk, stepTests, joinTest, laterTests, stepsTests}
 use Rattle.chain.specs.Join.{noStep}
-use Rattle.chain.specs.Convert.{onward, arrive, walk, startOf, endOf}
+use Rattle.chain.specs.Convert.{Walk, left, onward, arrive, walk, startOf, endOf}
 use Rattle.refusal.proofs.Orders.{orElse, first-append}
+use Rattle.chain.proofs.Walk.{stays, leaves}
 use Rattle.chain.proofs.Accepted.{Sound}
 
 -- what a place past the end reads as
@@ -45,6 +47,17 @@ module _ (l : List Step) (n i : ℕ) (below : i < n) (inside : i < length l) whe
   unfolding walk
   walk-from f p = ap (λ (ss : List Step). walk f ss p) from
 
+  -- a turn of a walk: what is left from place i on leads to w, and so does what is left after it
+  module _ (f : Step → Position → Position) (p q : Position) (w : Walk) (rest : walk f (drop i (take n l)) p ≡ w) (is : q ≡ f here p) where
+    stepped : onward (arrive q) (walk f (drop (i + 1) (take n l))) ≡ w
+    stepped = ap (λ (x : Position). onward (arrive x) (walk f (drop (i + 1) (take n l)))) is ∙ sym (walk-from f p) ∙ rest
+
+    pub left-there : inArea q ≡ false → left ≡ w
+    left-there e = sym (leaves q _ e) ∙ stepped
+
+    pub on-from-there : inArea q ≡ true → walk f (drop (i + 1) (take n l)) q ≡ w
+    on-from-there e = sym (stays q _ e) ∙ stepped
+
 -- nothing is left at the end
 pub none-left : (l : List Step) (n : ℕ) → drop n (take n l) ≡ []
 none-left l zero = refl
@@ -58,6 +71,17 @@ walk-down l i f p h =
     ap (λ (k : ℕ). walk f (reverse (take k l)) p) (add-one i)
     ∙ ap (λ (ss : List Step). walk f (reverse ss) p) (take-suc l i no-step h)
     ∙ ap (λ (ss : List Step). walk f ss p) (reverse-append (take i l) (getD l i no-step ∷ []))
+
+-- a turn of a walk down, likewise
+module _ (l : List Step) (i : ℕ) (inside : i < length l) (f : Step → Position → Position) (p q : Position) (w : Walk) (rest : walk f (reverse (take (i + 1) l)) p ≡ w) (is : q ≡ f (getD l i no-step) p) where
+  stepped-down : onward (arrive q) (walk f (reverse (take i l))) ≡ w
+  stepped-down = ap (λ (x : Position). onward (arrive x) (walk f (reverse (take i l)))) is ∙ sym (walk-down l i f p inside) ∙ rest
+
+  pub left-below : inArea q ≡ false → left ≡ w
+  left-below e = sym (leaves q _ e) ∙ stepped-down
+
+  pub on-below : inArea q ≡ true → walk f (reverse (take i l)) q ≡ w
+  on-below e = sym (stays q _ e) ∙ stepped-down
 
 -- each step of a sound chain is sound
 pub sound-at : (l : List Step) (n i : ℕ) → i < n → i < length l → Sound (take n l) → StepOk (getD l i no-step)

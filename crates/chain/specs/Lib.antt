@@ -9,3 +9,4 @@ pub mod Case
 pub mod Prepared
 pub mod PointRow
 pub mod Carried
+pub mod Numbers

@@ -29,7 +29,7 @@ fn bursa_wolf_in_range(t: BursaWolf) -> bool
             & ranges::within(-2000000, t.s, 2000000))
 }
 
-fn kind_in_range(kind: Kind) -> bool
+pub(crate) fn kind_in_range(kind: Kind) -> bool
     ensures { λ r. ⌜ r ≡ kindRange kind ⌝ }
 {
     match kind {

@@ -17,7 +17,7 @@ pub(crate) fn has_datum(profile: i64, r: Realization) -> bool
     !equal(WITHOUT_TIME, profile) | ranges::within(1, r.datum, 5) | equal(7, r.datum)
 }
 
-fn has_kind(profile: i64, kind: Kind) -> bool
+pub(crate) fn has_kind(profile: i64, kind: Kind) -> bool
     ensures { λ r. ⌜ r ≡ hasKind profile kind ⌝ }
 {
     match kind {

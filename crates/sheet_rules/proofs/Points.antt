@@ -1,4 +1,4 @@
--- A point line by value: the chain stays as it was, and one point goes by the chain's steps. Assumes nothing.
+-- A point line by itself: the chain stays as it was, and one point goes by the chain's steps. Assumes nothing.
 use mathlib.Core.Path.{_≡_, refl, sym, _∙_, ap}
 use mathlib.Core.Bool.{Bool, true, false, _||_}
 use mathlib.Core.List.{List}
@@ -11,6 +11,7 @@ use Rattle.refusal.specs.Numbers as refusal
 use Rattle.refusal.specs.Order.{pick, first}
 use Rattle.chain.specs.declared.Point.{Point}
 use Rattle.chain.specs.declared.Chain.{Chain}
+use Rattle.chain.specs.declared.Answer.{Answer}
 use Rattle.chain.specs.declared.Answer.the-variants as answer
 use Rattle.chain.specs.Faults.{chainTests, stepsOf}
 use Rattle.chain.specs.Convert.{forwardOf}
@@ -24,39 +25,59 @@ use Rattle.line.specs.Readers.{readPoint}
 use Rattle.sheet_rules.specs.declared.Reply.{Reply}
 use Rattle.sheet_rules.specs.declared.Reply.the-variants as reply
 use Rattle.sheet_rules.specs.declared.Standing.{Standing}
-use Rattle.sheet_rules.specs.declared.Verdict.{Verdict}
+use Rattle.sheet_rules.specs.declared.PointAnswer.{PointAnswer}
 use Rattle.sheet_rules.specs.declared.Response.the-variants as response
-use Rattle.sheet_rules.specs.Sheet.{Sheet, pointReply, afterPoint, closes, replyOf, nextOf}
-use Rattle.sheet_rules.specs.OneLine.{mostLines, said, counted, soundStanding, answered, answeredTo, Judged}
+use Rattle.sheet_rules.specs.Sheet.{Sheet, refuse, conversionReply, pointReply, afterPoint, closes, replyOf, nextOf}
+use Rattle.sheet_rules.specs.OneLine.{mostLines, said, counted, soundStanding, answered, answeredTo, whereGood, pointAnswered}
 use Rattle.sheet_rules.proofs.OneLine.{chain-same, within-answered, unsound-answered, sound-answered, sound-told, sound-short}
 
 -- the chain is good
 good-chain : (c : Chain) → eqb (first (chainTests c)) 0 ≡ true → first (chainTests c) ≡ 0
 good-chain c e = eqb-true (first (chainTests c)) 0 e
 
--- a point line that is no good by itself
-module _ (c : Chain) (n : ℕ) (refused : Bool) {v : Verdict} {p : PointLine} where
-  pub judged-malformed : (f : Fault) → p ≡ point-line.Malformed f → v ≡ record { good = eqb (first (chainTests c)) 0; closes = false; reply = reply.Refused n (f .number) (f .place) } → Judged c n refused p v
-  judged-malformed f e q = rw (e, q) (record { good = refl; closed = refl; reply = λ _ _. refl })
+abbrev replied : Reply → PointAnswer
+replied r = record { response = response.Replied r; closes = true }
 
-  pub judged-refused : (k : ℕ) → p ≡ point-line.Refused k → v ≡ record { good = eqb (first (chainTests c)) 0; closes = true; reply = reply.Refused n k 0 } → Judged c n refused p v
-  judged-refused k e q = rw (e, q) (record { good = refl; closed = refl; reply = λ _ _. refl })
+abbrev unsoundPoint : PointAnswer
+unsoundPoint = record { response = response.Unsound; closes = false }
 
--- what a good chain answers is what its steps answer
-module _ (c : Chain) (n : ℕ) (refused : Bool) (p : Point) {v : Verdict} {l : PointLine} (is : l ≡ point-line.Point p) where
-  pub judged-earlier : refused ≡ true → v ≡ record { good = eqb (first (chainTests c)) 0; closes = true; reply = reply.Refused n refusal.earlier 0 } → Judged c n refused l v
-  judged-earlier e q = rw (is, e, q) (record { good = refl; closed = refl; reply = λ _ _. refl })
+-- a line read as a point line, whose chain may be bad
+module _ (c : Chain) (n : ℕ) (refused : Bool) (l : List ℕ) where
+  pub malformed-answered : {x : PointAnswer} → (f : Fault) → readPoint (c .profile) l ≡ point-line.Malformed f → x ≡ whereGood c (reply.Refused n (f .number) (f .place)) false → x ≡ pointAnswered c n refused l
+  unfolding pointAnswered
+  malformed-answered f e q = rw e q
 
-  module _ (free : refused ≡ false) where
-    pub judged-unconverted : (k : ℕ) → forwardOf c p ≡ answer.Refused k → v ≡ record { good = eqb (first (chainTests c)) 0; closes = true; reply = reply.Refused n k 0 } → Judged c n refused l v
-    judged-unconverted k f q = rw (is, free, q) (record { good = refl; closed = refl; reply = λ g d. let e = by-steps-forward c (good-chain c g) p ∙ f in rw e })
+  pub refused-answered : {x : PointAnswer} → (k : ℕ) → readPoint (c .profile) l ≡ point-line.Refused k → x ≡ whereGood c (reply.Refused n k 0) true → x ≡ pointAnswered c n refused l
+  unfolding pointAnswered
+  refused-answered k e q = rw e q
 
-    -- a chain that converts a point is good
-    pub judged-converted : (o : Point) → forwardOf c p ≡ answer.Converted o → v ≡ record { good = true; closes = true; reply = reply.Point o } → Judged c n refused l v
-    judged-converted o f q =
-        let z = converted-good c p o f in
-        let e = by-steps-forward c z p ∙ f in
-        rw (is, free, q) (record { good = sym (eq-eqb (first (chainTests c)) 0 z); closed = refl; reply = λ _ d. rw e })
+  -- what a good chain answers is what its steps answer
+  module _ (p : Point) (is : readPoint (c .profile) l ≡ point-line.Point p) where
+    pub earlier-answered : {x : PointAnswer} → refused ≡ true → x ≡ whereGood c (reply.Refused n refusal.earlier 0) true → x ≡ pointAnswered c n refused l
+    unfolding pointAnswered
+    earlier-answered e q = rw (is, e) q
+
+    module _ (free : refused ≡ false) where
+      abbrev sheet : Sheet
+      sheet = record { line = n; profile = c .profile; steps = stepsOf c; refused = refused; closed = false }
+
+      by-steps : (a : Answer) → forwardOf c p ≡ a → first (chainTests c) ≡ 0 → pointReply sheet (point-line.Point p) ≡ conversionReply sheet a
+      by-steps a f z = rw (free, by-steps-forward c z p, f)
+
+      pub unconverted-answered : {x : PointAnswer} → (k : ℕ) → forwardOf c p ≡ answer.Refused k → x ≡ whereGood c (reply.Refused n k 0) true → x ≡ pointAnswered c n refused l
+      unfolding pointAnswered
+      unconverted-answered k f q = q ∙ (rw is (go (eqb (first (chainTests c)) 0) refl))
+        where
+          go : (g : Bool) → eqb (first (chainTests c)) 0 ≡ g → pick g (replied (reply.Refused n k 0)) unsoundPoint ≡ pick g (replied (pointReply sheet (point-line.Point p))) unsoundPoint
+          go true e = ap replied (sym (by-steps (answer.Refused k) f (good-chain c e)))
+          go false e = refl
+
+      -- a chain that converts a point is good
+      pub converted-answered : {x : PointAnswer} → (o : Point) → forwardOf c p ≡ answer.Converted o → x ≡ replied (reply.Point o) → x ≡ pointAnswered c n refused l
+      unfolding pointAnswered
+      converted-answered o f q =
+          let z = converted-good c p o f in
+          q ∙ ap replied (sym (by-steps (answer.Converted o) f z)) ∙ (rw (is, eq-eqb (first (chainTests c)) 0 z))
 
 module _ (st : Standing) (l : List ℕ) (b : eqb (getD l 0 0) letterP ≡ true) where
   no-step : eqb (getD l 0 0) letterS ≡ false
@@ -64,6 +85,19 @@ module _ (st : Standing) (l : List ℕ) (b : eqb (getD l 0 0) letterP ≡ true) 
 
   abbrev read : PointLine
   read = readPoint (st .chain .profile) l
+
+  abbrev here : Sheet
+  here = record { line = st .line; profile = st .chain .profile; steps = stepsOf (st .chain); refused = st .refused; closed = false }
+
+  -- a point's reply doesn't ask whether the chain was closed
+  any-closed : (p : PointLine) → pointReply here p ≡ pointReply (said st) p
+  any-closed (point-line.Malformed f) = refl
+  any-closed (point-line.Refused n) = refl
+  any-closed (point-line.Point p) = go (forwardOf (chainOf (st .chain .profile) (stepsOf (st .chain))) p)
+    where
+      go : (a : Answer) → pick (st .refused) (refuse here refusal.earlier) (conversionReply here a) ≡ pick (st .refused) (refuse (said st) refusal.earlier) (conversionReply (said st) a)
+      go (answer.Converted q) = refl
+      go (answer.Refused n) = refl
 
   replies : replyOf (said st) l ≡ pointReply (said st) read
   unfolding replyOf
@@ -73,16 +107,25 @@ module _ (st : Standing) (l : List ℕ) (b : eqb (getD l 0 0) letterP ≡ true) 
   unfolding nextOf
   next = rw (no-step, b)
 
-  module _ (h : st .line ≤ mostLines) (few : counted (st .line) (st .chain .length) ≡ true) {v : Verdict} (j : Judged (st .chain) (st .line) (st .refused) read v) where
-    sound-so : soundStanding st ≡ v .good
-    sound-so = sound-told st true (v .good) (sym few) (j .good)
+  -- the sheet after it, for a caller that keeps the chain: as the rules say, the limit being far
+  module _ (h : st .line ≤ mostLines) (few : counted (st .line) (st .chain .length) ≡ true) {x : PointAnswer} (q : x ≡ pointAnswered (st .chain) (st .line) (st .refused) l) where
+    pub point-unsound : x .response ≡ response.Unsound → answered st response.Unsound ≡ answeredTo st l
+    unfolding pointAnswered
+    point-unsound e = go (eqb (first (chainTests (st .chain))) 0) refl (sym (ap (λ (y : PointAnswer). y .response) q) ∙ e)
+      where
+        go : (g : Bool) → eqb (first (chainTests (st .chain))) 0 ≡ g → pick {A = PointAnswer} g (record { response = response.Replied (pointReply here read); closes = closes read }) unsoundPoint .response ≡ response.Unsound → answered st response.Unsound ≡ answeredTo st l
+        go true f z = absurd (let y : _≡_ {A = ℕ} 0 1 = cc in omega arith)
+        go false f z = unsound-answered st l (sound-told st true false (sym few) (sym f))
 
-    pub bad-answered : v .good ≡ false → answered st response.Unsound ≡ answeredTo st l
-    bad-answered e = unsound-answered st l (sound-so ∙ e)
-
-    pub point-answered : v .good ≡ true → length (st .chain .steps) ≡ 8 → answered (record { line = st .line + 1; chain = st .chain; refused = st .refused; closed = st .closed || v .closes }) (response.Replied (v .reply)) ≡ answeredTo st l
-    point-answered e long =
-        let s = sound-so ∙ e in
-        let inside : st .chain .length ≤ length (st .chain .steps) = omega (arith, long, sound-short st s) in
-        within-answered st l h _ _ _ _ _ (ap (λ (x : Sheet). x .line) (sym next)) (rw next (chain-same (st .chain) inside)) (ap (λ (x : Sheet). x .refused) (sym next)) (ap (λ (x : Bool). st .closed || x) (j .closed) ∙ ap (λ (x : Sheet). x .closed) (sym next)) (j .reply e (st .closed) ∙ sym replies)
-        ∙ sound-answered st l s
+    pub point-replied : (r : Reply) → x .response ≡ response.Replied r → length (st .chain .steps) ≡ 8 → answered (record { line = st .line + 1; chain = st .chain; refused = st .refused; closed = st .closed || x .closes }) (response.Replied r) ≡ answeredTo st l
+    unfolding pointAnswered
+    point-replied r e long = go (eqb (first (chainTests (st .chain))) 0) refl (sym (ap (λ (y : PointAnswer). y .response) q) ∙ e) (ap (λ (y : PointAnswer). y .closes) q)
+      where
+        go : (g : Bool) → eqb (first (chainTests (st .chain))) 0 ≡ g → pick {A = PointAnswer} g (record { response = response.Replied (pointReply here read); closes = closes read }) unsoundPoint .response ≡ response.Replied r → x .closes ≡ pick {A = PointAnswer} g (record { response = response.Replied (pointReply here read); closes = closes read }) unsoundPoint .closes → answered (record { line = st .line + 1; chain = st .chain; refused = st .refused; closed = st .closed || x .closes }) (response.Replied r) ≡ answeredTo st l
+        go false f z k = absurd (let y : _≡_ {A = ℕ} 0 1 = cc in omega arith)
+        go true f z k =
+            let s = sound-told st true true (sym few) (sym f) in
+            let inside : st .chain .length ≤ length (st .chain .steps) = omega (arith, long, sound-short st s) in
+            let y : pointReply here read ≡ r = cc in
+            within-answered st l h _ _ _ _ _ (ap (λ (t : Sheet). t .line) (sym next)) (rw next (chain-same (st .chain) inside)) (ap (λ (t : Sheet). t .refused) (sym next)) (ap (λ (b : Bool). st .closed || b) k ∙ ap (λ (t : Sheet). t .closed) (sym next)) (sym y ∙ any-closed read ∙ sym replies)
+            ∙ sound-answered st l s

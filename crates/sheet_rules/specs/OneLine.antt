@@ -12,7 +12,7 @@ use Rattle.chain.specs.declared.Step.{Step}
 use Rattle.chain.specs.declared.Chain.{Chain}
 use Rattle.chain.specs.Faults.{latest, chainTests, stepsOf}
 use Rattle.chain.specs.Prepared as prepared
-use Rattle.line.specs.declared.PointLine.{PointLine}
+use Rattle.line.specs.Readers.{readPoint}
 use Rattle.line.specs.declared.StepLine.{StepLine}
 use Rattle.line.specs.declared.StepLine.the-variants as step-line
 use Rattle.sheet_rules.specs.declared.Standing.{Standing}
@@ -21,7 +21,7 @@ use Rattle.sheet_rules.specs.declared.Response.{Response}
 use Rattle.sheet_rules.specs.declared.Response.the-variants as response
 use Rattle.sheet_rules.specs.declared.Reply.{Reply}
 use Rattle.sheet_rules.specs.declared.Reply.the-variants as reply
-use Rattle.sheet_rules.specs.declared.Verdict.{Verdict}
+use Rattle.sheet_rules.specs.declared.PointAnswer.{PointAnswer}
 use Rattle.sheet_rules.specs.Sheet.{Sheet, pointReply, closes, replyOf, nextOf}
 
 -- at most so many lines of a sheet are answered by its rules
@@ -71,17 +71,27 @@ lineAnswered s l = answered (afterLine s l) (response.Replied (replyTo s l))
 unfoldable pub answeredTo : Standing → List ℕ → Answered
 answeredTo s l = pick (soundStanding s) (lineAnswered s l) (answered s response.Unsound)
 
+-- ---- over a chain by itself, for a caller that keeps the rest
+-- a sheet can stand before this line, with this chain
+unfoldable pub soundAt : ℕ → Chain → Bool
+soundAt line c = counted line (c .length) && eqb (first (chainTests c)) 0
+
+-- what is answered where the chain is good, and whether the line closes it; no sheet stands at a bad one
+abbrev pub whereGood : Chain → Reply → Bool → PointAnswer
+whereGood c r b = pick (eqb (first (chainTests c)) 0) (record { response = response.Replied r; closes = b }) (record { response = response.Unsound; closes = false })
+
+-- a line of this number, read as a point line, after a refused step or none
+unfoldable pub pointAnswered : Chain → ℕ → Bool → List ℕ → PointAnswer
+pointAnswered c line refused l =
+    whereGood c
+    (pointReply (record { line = line; profile = c .profile; steps = stepsOf c; refused = refused; closed = false }) (readPoint (c .profile) l))
+    (closes (readPoint (c .profile) l))
+
 -- ---- how the code gets there
 -- a chain prepared step by step: whether it is good, and the numbers that hold it
 pub record Prepares (c : Chain) (numbers : List ℤ) (good : Bool) : Type 0 where
   pub told : good ≡ eqb (first (chainTests c)) 0
   pub holds : good ≡ true → prepared.Holds (c .profile) numbers (stepsOf c)
-
--- what is said of a point line, of which the chain's own test is one part
-pub record Judged (c : Chain) (line : ℕ) (refused : Bool) (p : PointLine) (v : Verdict) : Type 0 where
-  pub good : v .good ≡ eqb (first (chainTests c)) 0
-  pub closed : v .closes ≡ closes p
-  pub reply : v .good ≡ true → (closed : Bool) → v .reply ≡ pointReply (record { line = line; profile = c .profile; steps = stepsOf c; refused = refused; closed = closed }) p
 
 -- the steps after a line: one that begins with S and prints nothing is an accepted step
 abbrev pub stepsAfter : List Step → Bool → Reply → StepLine → List Step

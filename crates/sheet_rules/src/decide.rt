@@ -24,6 +24,7 @@ use line::Fault;
 use line::PointLine;
 use line::StepLine;
 
+pub mod lent;
 pub mod standing;
 pub mod whole;
 

@@ -1,6 +1,8 @@
 // A sheet's rules: one line decided by value over a state, and a whole sheet from bytes to bytes.
 mod decide;
 
+pub use decide::lent::answer_point;
+pub use decide::lent::is_sound_at;
 pub use decide::standing::answer_line;
 pub use decide::standing::is_sound;
 pub use decide::whole::sheet;
@@ -59,11 +61,10 @@ pub enum Response {
     Unsound,
 }
 
-// What is said of a point line: whether the chain is good, and where it is, the reply, and whether the line closes the chain.
-struct Verdict {
-    good: bool,
-    closes: bool,
-    reply: Reply,
+// What a point line is answered, and whether it closes the chain.
+pub struct PointAnswer {
+    pub response: Response,
+    pub closes: bool,
 }
 
 // What a line is answered, and where the sheet stands after it.

@@ -18,6 +18,7 @@ use crate::points;
 use crate::steps;
 
 pub mod join;
+pub mod lent;
 
 // A step forward, by its kind: what a kind gains is worked out where its kind is known.
 fn forward_step(step: Step, p: Position) -> Position

@@ -1,37 +1,33 @@
 // One line of a sheet, for a caller that keeps where the sheet stands by value.
 ghost use mathlib.Core.Path.{_≡_};
-ghost use mathlib.Core.Bool.{true, _&&_};
+ghost use mathlib.Core.Bool.{true};
 ghost use mathlib.Core.List.{[], _∷_, _++_};
 ghost use Prim.Native.Nat.{_<_, _≤_};
-ghost use lib.Dec.{leb, eqb};
+ghost use lib.Dec.{eqb};
 ghost use lib.IntN.{pos};
 ghost use lib.ListN.{length, getD, replicate};
-ghost use Rattle.refusal.specs.Order.{first};
-ghost use Rattle.chain.specs.Faults.{chainTests, stepsOf};
+ghost use Rattle.chain.specs.Faults.{stepsOf};
 ghost use Rattle.chain.specs.Prepared as prepared;
 ghost use Rattle.chain.specs.declared.Step.{Step};
-ghost use Rattle.line.specs.Bytes.{letterS, letterP};
+ghost use Rattle.line.specs.Bytes.{letterS};
 ghost use Rattle.line.specs.Readers.{readStep};
 ghost use Rattle.line.specs.declared.StepLine.the-variants as step-line;
 ghost use Rattle.sheet_rules.specs.declared.Reply.the-variants as replies;
 ghost use Rattle.sheet_rules.specs.Sheet.{Sheet, replyOf, nextOf};
 ghost use Rattle.sheet_rules.specs.State.{Holds, Gave};
-ghost use Rattle.sheet_rules.specs.OneLine.{said, counted, chainWith, soundStanding, stepsAfter, Prepares, Judged, answeredTo, lineAnswered};
+ghost use Rattle.sheet_rules.specs.OneLine.{said, counted, chainWith, soundStanding, stepsAfter, Prepares, answeredTo, lineAnswered};
 use crate::Answered;
 use crate::Decided;
 use crate::Reply;
 use crate::Response;
 use crate::Standing;
 use crate::State;
-use crate::Verdict;
 use crate::decide::begins_with;
 use crate::decide::decide;
 use crate::decide::malformed;
-use chain::Answer;
 use chain::Chain;
 use chain::Prepared;
 use chain::Step;
-use line::PointLine;
 use line::StepLine;
 
 // At most so many lines of a sheet are answered.
@@ -63,7 +59,7 @@ fn prepare(chain: Chain, numbers: &mut Prepared) -> bool
 }
 
 // Whether a line to come can have this number, with so many steps before it.
-fn is_counted(line: u64, steps: usize) -> bool
+pub(crate) fn is_counted(line: u64, steps: usize) -> bool
     ensures { λ r. ⌜ r ≡ counted line steps ⌝ }
 {
     let before = steps as u64;
@@ -156,73 +152,8 @@ fn answer_within(standing: Standing, numbers: &mut Prepared, text: &[u8]) -> Ans
     }
 }
 
-// What is said of a point line with this reply once the chain is tested.
-fn judged(chain: Chain, reply: Reply, closes: bool) -> Verdict
-    ensures { λ r. ⌜ r ≡ record { good = eqb (first (chainTests chain)) 0; closes = closes; reply = reply } ⌝ }
-{
-    let fault = chain::chain_fault(chain);
-    Verdict {
-        good: fault == 0,
-        closes: closes,
-        reply: reply,
-    }
-}
-
-// A line of this number that begins with P and reads so. One point doesn't pay for preparing the chain; and a chain that converts a point needs no other test.
-fn judge(chain: Chain, line: u64, refused: bool, read: PointLine) -> Verdict
-    ensures { λ r. ⌜ Judged chain line refused read r ⌝ }
-{
-    match read {
-        PointLine::Malformed(fault) => judged(
-            chain,
-            Reply::Refused(line, fault.number, fault.place),
-            false,
-        ),
-        PointLine::Refused(number) => judged(chain, Reply::Refused(line, number, 0), true),
-        PointLine::Point(point) => {
-            if refused {
-                return judged(chain, Reply::Refused(line, refusal::EARLIER, 0), true);
-            }
-            match chain::forward(chain, point) {
-                Answer::Refused(number) => judged(chain, Reply::Refused(line, number, 0), true),
-                Answer::Converted(converted) => Verdict {
-                    good: true,
-                    closes: true,
-                    reply: Reply::Point(converted),
-                },
-            }
-        }
-    }
-}
-
-// A line within the limit that begins with P: the sheet after it has the chain that it had.
-fn answer_point(standing: Standing, text: &[u8]) -> Answered
-    requires { ⌜ (standing .line ≤ 1000000) × (counted (standing .line) (standing .chain .length) ≡ true) × (eqb (getD (now text) 0 0) letterP ≡ true) ⌝ }
-    ensures { λ r. ⌜ r ≡ answeredTo standing (now (text .entry)) ⌝ }
-{
-    let chain = standing.chain;
-    let read = line::read_point(chain.profile, text);
-    let verdict = judge(chain, standing.line, standing.refused, read);
-    if !verdict.good {
-        return Answered {
-            standing: standing,
-            response: Response::Unsound,
-        };
-    }
-    let reply = verdict.reply;
-    Answered {
-        standing: Standing {
-            line: standing.line + 1,
-            chain: chain,
-            refused: standing.refused,
-            closed: standing.closed | verdict.closes,
-        },
-        response: Response::Replied(reply),
-    }
-}
-
-// Any other line within the limit. A step asks for the chain's numbers.
-fn answer_other(standing: Standing, text: &[u8]) -> Answered
+// A line within the limit, of which a step asks for the chain's numbers.
+fn answer_prepared(standing: Standing, text: &[u8]) -> Answered
     requires { ⌜ (standing .line ≤ 1000000) × (soundStanding standing ≡ true) ⌝ }
     ensures { λ r. ⌜ r ≡ lineAnswered standing (now (text .entry)) ⌝ }
 {
@@ -232,21 +163,10 @@ fn answer_other(standing: Standing, text: &[u8]) -> Answered
     answer_within(standing, &mut numbers, text)
 }
 
-// Whether the line to come is within the limit, with no more steps before it than lines.
-fn is_within(line: u64, steps: usize) -> bool
-    ensures { λ r. ⌜ r ≡ counted line steps && leb line 1000000 ⌝ }
-{
-    is_counted(line, steps) & (line <= MOST_LINES)
-}
-
 // The line after those that led here, of any bytes: refusal LIMIT past the 1,000,000th, which is not read and moves nothing, else as the sheet's rules answer it.
 pub fn answer_line(standing: Standing, text: &[u8]) -> Answered
     ensures { λ r. ⌜ r ≡ answeredTo standing (now (text .entry)) ⌝ }
 {
-    let chain = standing.chain;
-    if begins_with(text, b'P') & is_within(standing.line, chain.length) {
-        return answer_point(standing, text);
-    }
     if !is_sound(standing) {
         return Answered {
             standing: standing,
@@ -259,5 +179,5 @@ pub fn answer_line(standing: Standing, text: &[u8]) -> Answered
             response: Response::Replied(Reply::Refused(MOST_LINES + 1, refusal::LIMIT, 0)),
         };
     }
-    answer_other(standing, text)
+    answer_prepared(standing, text)
 }

@@ -1,8 +1,6 @@
 -- `capi::fragments::swivelcrane_feed` meets its contract: the lengths, the counts and flags, and then what the library answers. Assumes nothing.
 use mathlib.Core.Path.{_≡_, refl, sym, _∙_, ap}
 use mathlib.Core.Bool.{Bool, true, false, _&&_}
-use Prim.Native.Nat.{_<_}
-use native.Mathlib.Omega.{arith}
 use borrow.Author.Tests.{eqb-true, not-true, not-false}
 use lib.Dec.{eqb}
 use lib.ListN.{length}
@@ -10,11 +8,9 @@ use Rattle.rounding.proofs.Machine.{told}
 use Rattle.ranges.proofs.Ranges.{both}
 use Rattle.sheet_stream.specs.declared.Fed.{Fed}
 use Rattle.sheet_stream.specs.declared.Stream.{Stream}
-use Rattle.sheet_stream.specs.Fragments.{feedOf, fedAt}
-use Rattle.sheet_stream.proofs.Laws.{within, fed-countable, fed-short}
-use Rattle.capi.specs.Fragments.{sizedState, sizedFeed, stateRange, streamFrom}
-use Rattle.line.specs.Lines.{lineEnd}
-use Rattle.capi.proofs.Streams.{Sized, sized-parts, countable, unsized, unranged, ranged, told-unsized, told-unranged, told-ranged}
+use Rattle.sheet_stream.specs.Fragments.{feedOf}
+use Rattle.capi.specs.Fragments.{sizedState, sizedFeed, stateRange}
+use Rattle.capi.proofs.Streams.{Sized, sized-parts, unsized, unranged, ranged, told-unsized, told-unranged, told-ranged}
 use borrow.Author.Needs.{needs}
 use Rattle.capi.proofs.fragments.swivelcrane_feed.Statement.{statement}
 use Rattle.capi.proofs.fragments.swivelcrane_feed.Tie as tie
@@ -95,32 +91,10 @@ returns-3 c =
       tells = told-ranged f (s .numbers .now) (s .bytes .now) (s .told .now) (sized (c .before .before .before .before .before .before .before .before .before .before .before .before .before .before)) (good (c .before .before .before .before .before .before .before .before .before .before .before)) refl (o .tells);
     })
 
-stream-from-requires : tie.Need-stream-from-requires
-stream-from-requires c κs = let p = parts (c .before .before .before .before .before .before .before .before) in (p .state, p .line, good (c .before .before .before .before .before))
-
-feed-requires : tie.Need-feed-requires
-feed-requires c κs = search needs
-
--- what the library answers
-answer : (c : tie.After-feed) → c .feed .result ≡ feedOf (streamFrom (c .before .before .before .before .before .before .before .before .before .before .before .before .before .before .before .args .numbers .now) (c .before .before .before .before .before .before .before .before .before .before .before .before .before .before .before .args .bytes .now)) (c .before .before .before .before .before .before .before .before .before .before .before .before .before .before .before .args .fragment .now)
-answer c = c .feed .ensures ∙ ap (λ (x : Stream). feedOf x (c .before .before .before .before .before .before .before .before .before .before .before .before .before .before .before .args .fragment .now)) (c .before .stream-from .ensures)
-
--- a slice has fewer bytes than an i64 counts
-short : (s : tie.Start) → length (s .args .fragment .now) < 9223372036854775808
-short s = omega (arith, s .good .1 .1 .0 .1)
-
-tell-requires : tie.Need-tell-requires
-tell-requires c κs =
-    let s = c .before .before .before .before .before .before .before .before .before .before .before .before .before .before .before .before in
-    (two-told (c .before .before .before .before .before .before .before .before .before .before .before), omega (arith, ap (λ (r : Fed). r .taken) (answer (c .before)), within (streamFrom (s .args .numbers .now) (s .args .bytes .now)) (s .args .fragment .now), short s))
-
-give-requires : tie.Need-give-requires
-give-requires c κs =
-    let s = c .before .before .before .before .before .before .before .before .before .before .before .before .before .before .before .before .before .before .before .before .before .args in
-    let p = parts (c .before .before .before .before .before .before .before .before .before .before .before .before .before .before .before .before) in
-    let x = streamFrom (s .numbers .now) (s .bytes .now) in
-    let k = countable (s .numbers .now) (s .bytes .now) (p .state) (good (c .before .before .before .before .before .before .before .before .before .before .before .before .before)) in
-    (p .state, good (c .before .before .before .before .before .before .before .before .before .before .before .before .before), p .line, p .room, rw (answer (c .before .before .before .before .before .before)) (fed-countable x (s .fragment .now) k), rw (answer (c .before .before .before .before .before .before)) (fed-short x (s .fragment .now) k))
+feed-line-requires : tie.Need-feed-line-requires
+feed-line-requires c κs =
+    let p = parts (c .before .before .before .before .before .before .before .before .before .before) in
+    (p .state, good (c .before .before .before .before .before .before .before), p .line, p .room, two-told (c .before .before .before .before .before .before .before .before .before .before), c .before .before .before .before .before .before .line-end .ensures, sym (c .before .before .before .before .before .is-fed .ensures) ∙ not-false _ (c .before .before .before .before .if3 .left))
 
 same-length-5 : tie.Need-same-length-5
 same-length-5 c = search needs
@@ -136,12 +110,16 @@ same-length-8 c = search needs
 
 returns-4 : tie.Need-returns-4
 returns-4 c =
-    let s = c .before .before .before .before .before .before .before .before .before .before .before .before .before .before .before .before .before .before .before .before .before .before .before .before .before .before .before .args in
-    let f : Stream → Fed = λ x. feedOf x (s .fragment .now) in
-    rw (told (c .before .before .before .before .before .give .ok))
+    let fed = c .before .before .before .before .before .before in
+    let e = fed .before .before .before .before .before .before .before .before .before .before .before in
+    let s = e .before .before .before .before .before in
+    let g = good (fed .before .before .before .before .before .before .before .before) in
+    let n = s .args in
+    let f : Stream → Fed = λ x. feedOf x (n .fragment .now) in
+    rw (told (fed .feed-line .ok))
     (record {
-      state = ranged f (s .numbers .now) (s .bytes .now) (sized (c .before .before .before .before .before .before .before .before .before .before .before .before .before .before .before .before .before .before .before .before .before .before)) (good (c .before .before .before .before .before .before .before .before .before .before .before .before .before .before .before .before .before .before .before)) (answer (c .before .before .before .before .before .before .before .before .before .before .before .before)) (c .before .before .before .before .before .give .ensures);
-      tells = told-ranged f (s .numbers .now) (s .bytes .now) (s .told .now) (sized (c .before .before .before .before .before .before .before .before .before .before .before .before .before .before .before .before .before .before .before .before .before .before)) (good (c .before .before .before .before .before .before .before .before .before .before .before .before .before .before .before .before .before .before .before)) (answer (c .before .before .before .before .before .before .before .before .before .before .before .before)) (c .before .before .before .before .before .before .before .before .before .before .tell .ensures);
+      state = ranged f (n .numbers .now) (n .bytes .now) (sized e) g refl (fed .feed-line .ensures .state);
+      tells = told-ranged f (n .numbers .now) (n .bytes .now) (n .told .now) (sized e) g refl (fed .feed-line .ensures .tells);
     })
 
 pub swivelcrane-feed-spec : {M : Type 1} → statement M
@@ -161,10 +139,7 @@ swivelcrane-feed-spec =
     same-length-3
     same-length-4
     returns-3
-    stream-from-requires
-    feed-requires
-    tell-requires
-    give-requires
+    feed-line-requires
     same-length-5
     same-length-6
     same-length-7

@@ -14,7 +14,7 @@ use mir.ValLaws.{toZ-pos}
 use Rattle.rounding.proofs.Machine.{told, rd}
 use Rattle.chain.specs.declared.Joined.{Joined}
 use Rattle.chain.specs.Join.{joinOf}
-use Rattle.capi.specs.Chains.{chainFrom}
+use Rattle.chain.specs.Numbers.{chainFrom}
 use Rattle.capi.specs.Joining.{roomForEight}
 use Rattle.capi.proofs.Joinings.{whole, few, unsized, refused-call, given-call}
 use Rattle.capi.proofs.joining.swivelcrane_join.Statement.{statement}

@@ -1,7 +1,7 @@
 -- `capi::row::direction_from` meets its contract. Assumes nothing.
 use lib.Dec.{lit<}
 use Rattle.capi.specs.PointRow.{directionFrom}
-use Rattle.capi.proofs.Letters.{is-letter, no-letter}
+use Rattle.chain.proofs.Letters.{is-letter, no-letter}
 use Rattle.capi.proofs.row.direction_from.Statement.{statement}
 use Rattle.capi.proofs.row.direction_from.Tie as tie
 

@@ -1,7 +1,7 @@
 -- `capi::row::lent_fault` meets its contract: the tests in the order of the definition. Assumes nothing.
 use borrow.Author.Tests.{lt-ltb, le-ltb}
 use lib.Dec.{lit<}
-use Rattle.capi.proofs.Letters.{is-letter, no-letter}
+use Rattle.chain.proofs.Letters.{is-letter, no-letter}
 use Rattle.capi.proofs.row.lent_fault.Statement.{statement}
 use Rattle.capi.proofs.row.lent_fault.Tie as tie
 

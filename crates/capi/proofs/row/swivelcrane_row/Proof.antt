@@ -11,7 +11,7 @@ use Rattle.refusal.specs.Order.{first}
 use Rattle.rounding.proofs.Machine.{told, rd}
 use Rattle.chain.specs.PointRow.{readyOf}
 use Rattle.chain.proofs.Readying.{ready-fault}
-use Rattle.capi.specs.Chains.{chainFrom}
+use Rattle.chain.specs.Numbers.{chainFrom}
 use Rattle.capi.specs.PointRow.{directionFrom, wholeRows, lentTests}
 use Rattle.capi.proofs.PointRows.{unsized, refused-lent, room, refused-chain, answered}
 use Rattle.capi.proofs.row.swivelcrane_row.Statement.{statement}

@@ -3,7 +3,7 @@ use mathlib.Core.Path.{_≡_, _∙_, ap}
 use native.Mathlib.Omega.{arith}
 use lib.IntN.{natAbs}
 use Rattle.rounding.proofs.Machine.{told}
-use Rattle.capi.specs.Chains.{number}
+use Rattle.chain.specs.Numbers.{number}
 use Rattle.capi.proofs.Streams.{counts, a-count}
 use borrow.Author.Needs.{needs}
 use Rattle.capi.proofs.state.kept_in.Statement.{statement}

@@ -7,7 +7,7 @@ use lib.IntN.{ℤ, natAbs}
 use lib.ListN.{length}
 use lib.Seq.{sets}
 use Rattle.rounding.proofs.Machine.{told}
-use Rattle.capi.specs.Chains.{number}
+use Rattle.chain.specs.Numbers.{number}
 use Rattle.capi.proofs.Streams.{counts, a-count, new-step}
 use borrow.Author.Needs.{needs}
 use Rattle.capi.proofs.state.put_new_step.Statement.{statement}

@@ -1,0 +1,67 @@
+-- `capi::point_line::answer_in` meets its contract. Assumes nothing.
+use mathlib.Core.Path.{_≡_, _∙_, ap}
+use mathlib.Core.Bool.{Bool}
+use mathlib.Core.List.{List}
+use Prim.Native.Nat.{ℕ, _+_}
+use native.Mathlib.Omega.{arith}
+use Rattle.rounding.proofs.Machine.{told}
+use Rattle.chain.specs.Numbers.{number}
+use Rattle.capi.specs.Fragments.{flag}
+use Rattle.capi.proofs.Streams.{chain-read}
+use Rattle.capi.proofs.PointCalls.{asked-so}
+use borrow.Author.Needs.{needs}
+use Rattle.capi.proofs.point_line.answer_in.Statement.{statement}
+use Rattle.capi.proofs.point_line.answer_in.Tie as tie
+
+lines-in-requires : tie.Need-lines-in-requires
+lines-in-requires c κs = search needs
+
+add-line : tie.Need-add-line
+add-line c = omega (arith, c .lines-in .ensures .1)
+
+shared-slice-copy-out-flag : tie.Need-shared-slice-copy-out-flag
+shared-slice-copy-out-flag c = search needs
+
+flag-requires : tie.Need-flag-requires
+flag-requires c κs = search needs
+
+shared-slice-copy-out-profile : tie.Need-shared-slice-copy-out-profile
+shared-slice-copy-out-profile c = search needs
+
+steps-end-requires : tie.Need-steps-end-requires
+steps-end-requires c κs = search needs
+
+sub-answer-point : tie.Need-sub-answer-point
+sub-answer-point c = omega (arith, c .steps-end .ensures .0)
+
+part-answer-point-start : tie.Need-part-answer-point-start
+part-answer-point-start c = search needs
+
+part-answer-point-end : tie.Need-part-answer-point-end
+part-answer-point-end c = omega (arith, c .steps-end .ensures .1, c .before .before .before .before .before .before .pre .0)
+
+answer-point-requires : tie.Need-answer-point-requires
+answer-point-requires c κs = search needs
+
+returns : tie.Need-returns
+returns c =
+    let s = c .before .before .before .before .before .before .before .before .args in
+    let n = s .n .now in
+    asked-so (s .text .now) (c .answer-point .ensures) (chain-read n (told {z = number n 5} (c .before .before .before .profile .given)) (c .before .before .steps-end .ensures .0)) (ap (λ (k : ℕ). k + 1) (c .before .before .before .before .before .before .lines-in .ensures .0))
+    (c .before .before .before .before .flag .ensures ∙ ap flag (told {z = number n 2} (c .before .before .before .before .before .flag-arg .given)))
+
+pub answer-in-spec : {M : Type 1} → statement M
+answer-in-spec =
+    tie.close
+    (tie.spec
+    lines-in-requires
+    add-line
+    shared-slice-copy-out-flag
+    flag-requires
+    shared-slice-copy-out-profile
+    steps-end-requires
+    sub-answer-point
+    part-answer-point-start
+    part-answer-point-end
+    answer-point-requires
+    returns)

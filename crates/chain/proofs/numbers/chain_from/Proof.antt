@@ -1,0 +1,55 @@
+-- `chain::numbers::chain_from` meets its contract: the eight places. Assumes nothing.
+use borrow.Author.Needs.{needs}
+use Rattle.rounding.proofs.Machine.{rd}
+use Rattle.chain.specs.Numbers.{placesFrom, chainFrom}
+use Rattle.chain.proofs.numbers.chain_from.Statement.{statement}
+use Rattle.chain.proofs.numbers.chain_from.Tie as tie
+
+place-from-requires : tie.Need-place-from-requires
+place-from-requires c κs = search needs
+
+place-from-requires-2 : tie.Need-place-from-requires-2
+place-from-requires-2 c κs = search needs
+
+place-from-requires-3 : tie.Need-place-from-requires-3
+place-from-requires-3 c κs = search needs
+
+place-from-requires-4 : tie.Need-place-from-requires-4
+place-from-requires-4 c κs = search needs
+
+place-from-requires-5 : tie.Need-place-from-requires-5
+place-from-requires-5 c κs = search needs
+
+place-from-requires-6 : tie.Need-place-from-requires-6
+place-from-requires-6 c κs = search needs
+
+place-from-requires-7 : tie.Need-place-from-requires-7
+place-from-requires-7 c κs = search needs
+
+place-from-requires-8 : tie.Need-place-from-requires-8
+place-from-requires-8 c κs = search needs
+
+returns : tie.Need-returns
+unfolding chainFrom placesFrom
+returns c =
+    let c2 = c .before .before in
+    let c3 = c2 .before in
+    let c4 = c3 .before in
+    let c5 = c4 .before in
+    let c6 = c5 .before in
+    let c7 = c6 .before in
+    rw (c7 .place-from .ensures, c6 .place-from2 .ensures, c5 .place-from3 .ensures, c4 .place-from4 .ensures, c3 .place-from5 .ensures, c2 .place-from6 .ensures, c .before .place-from7 .ensures, c .place-from8 .ensures, rd (c7 .before .fits .profile))
+
+pub chain-from-spec : {M : Type 1} → statement M
+chain-from-spec =
+    tie.close
+    (tie.spec
+    place-from-requires
+    place-from-requires-2
+    place-from-requires-3
+    place-from-requires-4
+    place-from-requires-5
+    place-from-requires-6
+    place-from-requires-7
+    place-from-requires-8
+    returns)

@@ -1,0 +1,62 @@
+-- `chain::numbers::place_from` meets its contract: a step is there where 13 numbers are left. Assumes nothing.
+use borrow.Author.Tests.{le-leb, lt-leb}
+use borrow.Author.Needs.{needs}
+use mathlib.Core.Path.{_∙_, ap}
+use mathlib.Core.Logic.{⊎-elim}
+use Prim.Native.Nat.{_-_, _<_, _≤_}
+use native.Mathlib.Omega.{arith}
+use lib.ListN.{length, drop, length-drop}
+use lib.Seq.{take-all}
+use Rattle.chain.specs.Numbers.{stepFrom, placeFrom}
+use Rattle.chain.proofs.numbers.place_from.Statement.{statement}
+use Rattle.chain.proofs.numbers.place_from.Tie as tie
+
+sub-if2 : tie.Need-sub-if2
+sub-if2 c = search needs
+
+mul-step-from : tie.Need-mul-step-from
+mul-step-from c = search needs
+
+sub-step-from : tie.Need-sub-step-from
+sub-step-from c = search needs
+
+part-step-from-start : tie.Need-part-step-from-start
+part-step-from-start c = search needs
+
+part-step-from-end : tie.Need-part-step-from-end
+part-step-from-end c = search needs
+
+step-from-requires : tie.Need-step-from-requires
+step-from-requires c κs = search needs
+
+returns : tie.Need-returns
+unfolding placeFrom
+returns c =
+    let s = c .before .before .before .before .args in
+    let long : 13 ≤ length (drop (s .at) (s .n .now)) = simp length-drop (omega arith) in
+    let whole : length (drop (s .at) (s .n .now)) ≤ length (s .n .now) - s .at = simp length-drop (omega arith) in
+    rw (le-leb _ _ long) (c .step-from .ensures ∙ ap stepFrom (take-all _ _ whole))
+
+no-step-requires : tie.Need-no-step-requires
+no-step-requires c κs = search needs
+
+returns-2 : tie.Need-returns-2
+unfolding placeFrom
+returns-2 c = let s = c .before .before .args in
+    let left : length (s .n .now) - s .at < 13 = ⊎-elim (λ w. omega arith) (λ w. omega arith) (c .before .if1 .came) in
+    let short : length (drop (s .at) (s .n .now)) < 13 = simp length-drop left in
+    rw (lt-leb _ _ short) (c .no-step .ensures)
+
+pub place-from-spec : {M : Type 1} → statement M
+place-from-spec =
+    tie.close
+    (tie.spec
+    sub-if2
+    mul-step-from
+    sub-step-from
+    part-step-from-start
+    part-step-from-end
+    step-from-requires
+    returns
+    no-step-requires
+    returns-2)

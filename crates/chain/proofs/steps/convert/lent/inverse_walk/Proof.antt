@@ -1,0 +1,123 @@
+-- `chain::steps::convert::lent::inverse_walk` meets its contract. The loop's invariant: the steps below place i, last first, lead where the whole does. Assumes nothing.
+use mathlib.Core.Path.{_≡_, refl, sym, _∙_, ap, subst⁻¹}
+use mathlib.Core.Bool.{Bool, true, false}
+use mathlib.Core.List.{List, reverse}
+use Prim.Native.Nat.{ℕ, _+_, _-_, _*_, _/_, _<_, _≤_}
+use native.Mathlib.Omega.{arith}
+use borrow.Author.Needs.{needs}
+use borrow.Author.Tests.{not-true, not-false}
+use lib.IntN.{ℤ}
+use lib.ListN.{length, take, drop, getD}
+use Rattle.chain.specs.declared.Step.{Step}
+use Rattle.chain.specs.declared.Answer.the-variants.{Converted}
+use Rattle.chain.specs.Faults.{inArea, StepOk}
+use Rattle.chain.specs.Convert.{Walk, left, walk, inverseStep, answerOf}
+use Rattle.chain.specs.Numbers.{stepFrom, placesFrom, stepsIn}
+use Rattle.chain.proofs.Accepted.{Sound}
+use Rattle.chain.proofs.Places.{no-step, left-below, on-below}
+use Rattle.chain.proofs.LentSteps.{eight-places, step-is, whole, sound-step, lent-holds}
+use Rattle.chain.proofs.steps.convert.lent.inverse_walk.Statement.{statement}
+use Rattle.chain.proofs.steps.convert.lent.inverse_walk.Tie as tie
+
+abbrev Inv-loop : tie.InvT-loop
+Inv-loop profile steps point reached p₀ i₀ p i = (i ≤ i₀) × (inArea p ≡ true) × (walk inverseStep (reverse (take i (placesFrom steps))) p ≡ walk inverseStep (reverse (take i₀ (placesFrom steps))) p₀)
+
+abbrev μ-loop : tie.MeasureT-loop
+μ-loop profile steps point reached p₀ i₀ p i = i
+
+loop-holds : tie.Need-loop-holds Inv-loop μ-loop
+loop-holds c = (omega arith, c .before .pre .1, refl)
+
+sub-i : tie.Need-sub-i Inv-loop μ-loop
+sub-i c = search needs
+
+-- the step at the place that the loop has come to
+module _ (c : tie.In-loop Inv-loop μ-loop) where
+  abbrev start : tie.Start Inv-loop μ-loop
+  start = c .before .before .before
+
+  abbrev at : tie.At-loop Inv-loop μ-loop
+  at = c .before
+
+  abbrev ns : List ℤ
+  ns = start .args .steps .now
+
+  abbrev i : ℕ
+  i = at .loop .i - 1
+
+  abbrev walked : Walk
+  walked = walk inverseStep (reverse (stepsIn ns)) (start .args .point .position)
+
+  holds : (length ns / 13 ≤ 8) × Sound (stepsIn ns)
+  holds = lent-holds (start .args .profile) ns (start .pre .0)
+
+  below : i < length ns / 13
+  below = let test = c .loop-test .taken in let h = at .loop .inv .0 in omega arith
+
+  inside : i < length (placesFrom ns)
+  inside = omega (arith, below, holds .0, eight-places ns)
+
+  -- what the steps up to this place lead to
+  rest : walk inverseStep (reverse (take (i + 1) (placesFrom ns))) (at .loop .p) ≡ walked
+  rest =
+      let test = c .loop-test .taken in
+      let one : i + 1 ≡ at .loop .i = omega arith in
+      ap (λ (k : ℕ). walk inverseStep (reverse (take k (placesFrom ns))) (at .loop .p)) one ∙ at .loop .inv .2
+
+step-at-requires : tie.Need-step-at-requires Inv-loop μ-loop
+step-at-requires c κs = whole (ns c) (holds c .0) (i c) (below c)
+
+inverse-step-requires : tie.Need-inverse-step-requires Inv-loop μ-loop
+inverse-step-requires c κs =
+    let l = c .before in
+    (subst⁻¹ StepOk (c .step-at .ensures) (sound-step (ns l) (holds l .0) (i l) (below l) (holds l .1)), at l .loop .inv .1)
+
+in-area-requires : tie.Need-in-area-requires Inv-loop μ-loop
+in-area-requires c κs = search needs
+
+-- a turn: that step, then the rest
+module _ (c : tie.After-in-area Inv-loop μ-loop) where
+  abbrev l : tie.In-loop Inv-loop μ-loop
+  l = c .before .before .before
+
+  is-next : c .before .inverse-step .result ≡ inverseStep (getD (placesFrom (ns l)) (i l) no-step) (at l .loop .p)
+  is-next = c .before .inverse-step .ensures ∙ ap (λ (s : Step). inverseStep s (at l .loop .p)) (c .before .before .step-at .ensures ∙ sym (step-is (ns l) (holds l .0) (i l) (below l)))
+
+  area : (b : Bool) → c .in-area .result ≡ b → inArea (c .before .inverse-step .result) ≡ b
+  area b e = sym (c .in-area .ensures) ∙ e
+
+  gone : inArea (c .before .inverse-step .result) ≡ false → left ≡ walked l
+  gone = left-below (placesFrom (ns l)) (i l) (inside l) inverseStep (at l .loop .p) (c .before .inverse-step .result) (walked l) (rest l) is-next
+
+  onward : inArea (c .before .inverse-step .result) ≡ true → walk inverseStep (reverse (take (i l) (placesFrom (ns l)))) (c .before .inverse-step .result) ≡ walked l
+  onward = on-below (placesFrom (ns l)) (i l) (inside l) inverseStep (at l .loop .p) (c .before .inverse-step .result) (walked l) (rest l) is-next
+
+returns : tie.Need-returns Inv-loop μ-loop
+unfolding answerOf
+returns c =
+    let a = c .before in
+    let s = start (l a) in
+    ap (answerOf (s .args .point) (s .args .reached)) (gone a (area a false (not-true _ (c .if1 .taken))))
+
+loop-less : tie.Need-loop-less Inv-loop μ-loop
+loop-less c = omega arith
+
+loop-again : tie.Need-loop-again Inv-loop μ-loop
+loop-again c =
+    let a = c .before in
+    let h = area a true (not-false _ (c .if1 .left)) in
+    (omega (arith, below (l a)), h, onward a h)
+
+moved-to-requires : tie.Need-moved-to-requires Inv-loop μ-loop
+moved-to-requires c κs = search needs
+
+returns-2 : tie.Need-returns-2 Inv-loop μ-loop
+unfolding answerOf walk
+returns-2 c =
+    let s = c .before .before .before .before in
+    let at = c .before .before .loop in
+    let none : at .i ≡ 0 = omega (arith, c .before .loop-test .left) in
+    ap Converted (c .moved-to .ensures) ∙ ap (answerOf (s .args .point) (s .args .reached)) (ap (λ (k : ℕ). walk inverseStep (reverse (take k (placesFrom (s .args .steps .now)))) (at .p)) (sym none) ∙ at .inv .2)
+
+pub inverse-walk-spec : {M : Type 1} → statement M
+inverse-walk-spec = tie.close (tie.spec Inv-loop μ-loop loop-holds sub-i step-at-requires inverse-step-requires in-area-requires returns loop-less loop-again moved-to-requires returns-2)

@@ -1,0 +1,127 @@
+-- `sheet_rules::decide::lent::answer_point` meets its contract. Assumes nothing.
+use mathlib.Core.Path.{_≡_, refl, sym, _∙_, ap}
+use mathlib.Core.Bool.{Bool}
+use lib.IntN.{ℤ}
+use mir.Syntax.{w64}
+use mir.Val.{toZ, ofZ}
+use borrow.Author.Needs.{needs}
+use Rattle.chain.specs.declared.Chain.{Chain}
+use Rattle.chain.specs.declared.Point.{Point}
+use Rattle.chain.specs.declared.Answer.{Answer}
+use Rattle.chain.specs.Convert.{forwardOf}
+use Rattle.chain.specs.Numbers.{chainFrom}
+use Rattle.line.specs.declared.PointLine.{PointLine}
+use Rattle.line.specs.Readers.{readPoint}
+use Rattle.sheet_rules.specs.declared.Reply.{Reply}
+use Rattle.sheet_rules.specs.declared.PointAnswer.{PointAnswer}
+use Rattle.sheet_rules.specs.OneLine.{whereGood}
+use Rattle.sheet_rules.proofs.Points.{malformed-answered, refused-answered, earlier-answered, unconverted-answered, converted-answered}
+use Rattle.sheet_rules.proofs.decide.lent.answer_point.Statement.{statement}
+use Rattle.sheet_rules.proofs.decide.lent.answer_point.Tie as tie
+
+-- the profile is read as it was handed over
+year-is : (s : tie.Start) → toZ w64 (ofZ w64 (s .args .profile)) ≡ s .args .profile
+year-is s = search needs
+
+-- so what was asked with it is said of the chain
+module _ (s : tie.Start) where
+  abbrev chain : Chain
+  chain = chainFrom (s .args .profile) (s .args .steps .now)
+
+  abbrev year : ℤ
+  year = toZ w64 (ofZ w64 (s .args .profile))
+
+  tested-by : {x : PointAnswer} (r : Reply) (b : Bool) → x ≡ whereGood (chainFrom year (s .args .steps .now)) r b → x ≡ whereGood chain r b
+  tested-by r b e = e ∙ ap (λ (y : ℤ). whereGood (chainFrom y (s .args .steps .now)) r b) (year-is s)
+
+  converted-by : {x : Answer} (p : Point) → x ≡ forwardOf (chainFrom year (s .args .steps .now)) p → forwardOf chain p ≡ x
+  converted-by p e = sym (e ∙ ap (λ (y : ℤ). forwardOf (chainFrom y (s .args .steps .now)) p) (year-is s))
+
+-- what the line reads as
+reads : (c : tie.After-read-point) {l : PointLine} → c .read-point .result ≡ l → readPoint (chain (c .before .before) .profile) (c .before .before .args .text .now) ≡ l
+unfolding chainFrom
+reads c e = sym (c .read-point .ensures ∙ ap (λ (y : ℤ). readPoint y (c .before .before .args .text .now)) (year-is (c .before .before))) ∙ e
+
+read-point-requires : tie.Need-read-point-requires
+read-point-requires c κs = search needs
+
+enum-known-fault : tie.Need-enum-known-fault
+enum-known-fault c = search needs
+
+tested-requires : tie.Need-tested-requires
+tested-requires c κs = search needs
+
+enum-known-number : tie.Need-enum-known-number
+enum-known-number c = search needs
+
+tested-requires-2 : tie.Need-tested-requires-2
+tested-requires-2 c κs = search needs
+
+enum-known-point : tie.Need-enum-known-point
+enum-known-point c = search needs
+
+tested-requires-3 : tie.Need-tested-requires-3
+tested-requires-3 c κs = search needs
+
+returns : tie.Need-returns
+returns c =
+    let r = c .before .before .before .before .before in
+    let s = r .before .before in
+    earlier-answered (chain s) (s .args .line) (s .args .refused) (s .args .text .now) _ (reads r (c .before .before .before .point .given .1)) (c .before .if1 .taken) (tested-by s _ _ (c .tested3 .ensures))
+
+forward-by-requires : tie.Need-forward-by-requires
+forward-by-requires c κs = search needs
+
+enum-known-number-2 : tie.Need-enum-known-number-2
+enum-known-number-2 c = search needs
+
+tested-requires-4 : tie.Need-tested-requires-4
+tested-requires-4 c κs = search needs
+
+enum-known-converted : tie.Need-enum-known-converted
+enum-known-converted c = search needs
+
+returns-2 : tie.Need-returns-2
+returns-2 c =
+    let r = c .before .before .before .before in
+    let s = r .before .before in
+    malformed-answered (chain s) (s .args .line) (s .args .refused) (s .args .text .now) _ (reads r (c .before .before .fault .given .1)) (tested-by s _ _ (c .tested .ensures))
+
+returns-3 : tie.Need-returns-3
+returns-3 c =
+    let r = c .before .before .before .before in
+    let s = r .before .before in
+    refused-answered (chain s) (s .args .line) (s .args .refused) (s .args .text .now) _ (reads r (c .before .before .number .given .1)) (tested-by s _ _ (c .tested2 .ensures))
+
+returns-4 : tie.Need-returns-4
+returns-4 c =
+    let r = c .before .before .before .before .before .before .before .before .before in
+    let s = r .before .before in
+    unconverted-answered (chain s) (s .args .line) (s .args .refused) (s .args .text .now) _ (reads r (c .before .before .before .before .before .before .before .point .given .1)) (c .before .before .before .before .before .if1 .left) _ (converted-by s _ (c .before .before .before .before .forward-by .ensures) ∙ c .before .before .number2 .given .1) (tested-by s _ _ (c .tested4 .ensures))
+
+returns-5 : tie.Need-returns-5
+returns-5 c =
+    let r = c .before .before .before .before .before .before .before .before in
+    let s = r .before .before in
+    converted-answered (chain s) (s .args .line) (s .args .refused) (s .args .text .now) _ (reads r (c .before .before .before .before .before .before .point .given .1)) (c .before .before .before .before .if1 .left) _ (converted-by s _ (c .before .before .before .forward-by .ensures) ∙ c .before .converted .given .1) refl
+
+pub answer-point-spec : {M : Type 1} → statement M
+answer-point-spec =
+    tie.close
+    (tie.spec
+    read-point-requires
+    enum-known-fault
+    tested-requires
+    enum-known-number
+    tested-requires-2
+    enum-known-point
+    tested-requires-3
+    returns
+    forward-by-requires
+    enum-known-number-2
+    tested-requires-4
+    enum-known-converted
+    returns-2
+    returns-3
+    returns-4
+    returns-5)

@@ -1,10 +1,10 @@
 -- `chain::lent::is_good_kind` meets its contract: the letters in the order of the definition. Assumes nothing.
 use mathlib.Core.Path.{_≡_, refl, _∙_}
 use lib.Dec.{lit<}
-use lib.IntN.{ℤ}
+use lib.IntN.{ℤ, pos, negℤ}
 use borrow.Author.Needs.{needs}
 use Rattle.rounding.proofs.Machine.{rd}
-use Rattle.ranges.specs.Ranges.{within}
+use Rattle.ranges.proofs.Ranges.{above}
 use Rattle.chain.specs.declared.Kind.{Kind}
 use Rattle.chain.specs.Faults.{kindRange}
 use Rattle.chain.specs.Numbers.{number, kindFrom, goodKind}
@@ -70,10 +70,10 @@ returns-4 c =
     rw (no-letter n 84 (c .before .before .before .before .if1 .left), no-letter n 86 (c .before .before .before .if2 .left), no-letter n 66 (c .before .before .if3 .left), is-letter n 70 (lit< tt) (c .before .before .before .before .before .kind .given) (c .before .if4 .taken)) (c .is-good4 .ensures ∙ made s (rd (s .fits .profile)) refl)
 
 returns-5 : tie.Need-returns-5
-unfolding kindFrom goodKind kindRange within
+unfolding kindFrom goodKind kindRange
 returns-5 c =
     let n = number (c .before .before .before .before .before .args .n .now) 0 in
-    rw (no-letter n 84 (c .before .before .before .if1 .left), no-letter n 86 (c .before .before .if2 .left), no-letter n 66 (c .before .if3 .left), no-letter n 70 (c .if4 .left))
+    rw (no-letter n 84 (c .before .before .before .if1 .left), no-letter n 86 (c .before .before .if2 .left), no-letter n 66 (c .before .if3 .left), no-letter n 70 (c .if4 .left), above (negℤ (pos 100000000)) (pos 100000001) (pos 100000000) refl)
 
 pub is-good-kind-spec : {M : Type 1} → statement M
 is-good-kind-spec =

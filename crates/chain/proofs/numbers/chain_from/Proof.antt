@@ -30,7 +30,7 @@ place-from-requires-8 : tie.Need-place-from-requires-8
 place-from-requires-8 c κs = search needs
 
 returns : tie.Need-returns
-unfolding chainFrom placesFrom
+unfolding placesFrom
 returns c =
     let c2 = c .before .before in
     let c3 = c2 .before in

@@ -39,7 +39,6 @@ module _ (s : tie.Start) where
 
 -- what the line reads as
 reads : (c : tie.After-read-point) {l : PointLine} → c .read-point .result ≡ l → readPoint (chain (c .before .before) .profile) (c .before .before .args .text .now) ≡ l
-unfolding chainFrom
 reads c e = sym (c .read-point .ensures ∙ ap (λ (y : ℤ). readPoint y (c .before .before .args .text .now)) (year-is (c .before .before))) ∙ e
 
 read-point-requires : tie.Need-read-point-requires

@@ -25,7 +25,7 @@ year-is : (s : tie.Start) → toZ w64 (ofZ w64 (s .args .profile)) ≡ s .args .
 year-is s = search needs
 
 returns : tie.Need-returns
-unfolding soundAt chainFrom
+unfolding soundAt
 returns c =
     let s = c .before .before in
     ap₂ _&&_ (c .before .is-counted .ensures) (ap (λ (n : ℕ). eqb n 0) (c .fault-in .ensures ∙ ap (λ (y : ℤ). first (chainTests (chainFrom y (s .args .steps .now)))) (year-is s)))

@@ -44,7 +44,7 @@ good : (c : tie.Else1) → first (chainTests (chain (c .before .before))) ≡ 0
 good c = sym (lent (c .before)) ∙ c .if1 .left
 
 returns : tie.Need-returns
-unfolding inverseOf chainFrom
+unfolding inverseOf
 returns c =
     let s = c .before .before in
     let f = lent (c .before) in
@@ -68,7 +68,7 @@ module _ (c : tie.After-entry-fault) where
   found = c .entry-fault .ensures ∙ ap₂ (λ (y : ℤ) (r : Realization). entry y (start .args .point) r) (rd (start .fits .profile)) (c .before .end-in .ensures)
 
 returns-2 : tie.Need-returns-2
-unfolding inverseOf chainFrom
+unfolding inverseOf
 returns-2 c =
     let s = start (c .before) in
     let f = found (c .before) in
@@ -86,7 +86,7 @@ inverse-walk-requires c κs =
     )
 
 returns-3 : tie.Need-returns-3
-unfolding inverseOf chainFrom
+unfolding inverseOf
 returns-3 c =
     let e = c .before .before .before in
     let s = start e in

@@ -84,10 +84,7 @@ module _ (c : tie.After-in-area Inv-loop μ-loop) where
 
 returns : tie.Need-returns Inv-loop μ-loop
 unfolding answerOf
-returns c =
-    let a = c .before in
-    let s = start (l a) in
-    ap (answerOf (s .args .point) (s .args .reached)) (gone a (area a false (not-true _ (c .if1 .taken))))
+returns c = let s = start (l (c .before)) .args in ap (answerOf (s .point) (s .reached)) (gone (c .before) (area (c .before) false (not-true _ (c .if1 .taken))))
 
 add-i : tie.Need-add-i Inv-loop μ-loop
 add-i c = search needs

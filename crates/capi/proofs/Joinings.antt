@@ -14,6 +14,7 @@ use Rattle.chain.specs.declared.Joined.{Joined}
 use Rattle.chain.specs.Join.{joinOf}
 use Rattle.chain.proofs.Joins.{accepted-lengths}
 use Rattle.chain.specs.Numbers.{placesFrom, chainFrom}
+use Rattle.chain.proofs.LentSteps.{eight-places}
 use Rattle.capi.specs.Joining.{roomForEight, joinCall, Counted}
 
 pub sets-append : (l a b : List ℤ) (i : ℕ) → sets (sets l i a) (i + length a) b ≡ sets l i (a ++ b)
@@ -41,10 +42,9 @@ module _ (first second out : ℕ) (sized : roomForEight first second out ≡ tru
 
 -- what is accepted has at most 104 numbers
 pub few : (y z : ℤ) (first second : List ℤ) → length first % 13 ≡ 0 → length second % 13 ≡ 0 → joinOf (chainFrom y first) (chainFrom z second) .refusal ≡ 0 → length first + length second ≤ 104
-unfolding chainFrom placesFrom
 few y z first second hf hs e =
     let a = accepted-lengths (chainFrom y first) (chainFrom z second) e in
-    omega (arith, a .0, a .1, a .2, length-take (length first / 13) (chainFrom y first .steps), length-take (length second / 13) (chainFrom z second .steps))
+    omega (arith, a .0, a .1, a .2, length-take (length first / 13) (placesFrom first), length-take (length second / 13) (placesFrom second), eight-places first, eight-places second)
 
 module _ (y z : ℤ) (first second out : List ℤ) where
   pub unsized : roomForEight (length first) (length second) (length out) ≡ false → Counted (joinCall y first z second out) out out (negℤ (pos 255))

@@ -53,11 +53,11 @@ module _ (ns : List ℤ) (bytes : List ℕ) (long : length ns ≡ 111) (ranged :
       (both (within (pos 0) (number ns 0) (pos 1000000) && within (pos 0) (number ns 1) (pos 200) && within (pos 0) (number ns 6) (pos 8)) _ ranged .1)
 
   pub steps-in : chainIn ns .length ≡ natAbs (number ns 6)
-  unfolding chainIn chainFrom
+  unfolding chainIn
   steps-in = let k = size-of (number ns 6) 8 (counts ns ranged .steps) in omega (arith, length-drop 7 ns, length-take (13 * natAbs (number ns 6)) (drop 7 ns), k, long)
 
   pub profile-in : number ns 5 ≡ chainIn ns .profile
-  unfolding chainIn chainFrom
+  unfolding chainIn
   profile-in = refl
 
   stored : flag (number ns 4) ≡ false → (c : ℕ) (kept : List ℕ) → set ns 1 (pos c) ≡ numbersWith ns (stateOf (standingIn ns) c kept false)

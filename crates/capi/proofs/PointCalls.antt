@@ -4,7 +4,7 @@ use mathlib.Core.Path.{_≡_, refl, sym, _∙_, ap, ap₂, subst}
 use mathlib.Core.Bool.{Bool, true, false, not, _&&_, _||_}
 use mathlib.Core.List.{List, [], _∷_}
 use native.Mathlib.Omega.{arith}
-use borrow.Author.Tests.{ltb-true, leb-true, lt-ltb, le-leb}
+use borrow.Author.Tests.{ltb-true, leb-true}
 use lib.Dec.{eqb, leb, ltb}
 use lib.IntN.{ℤ, pos, negℤ, natAbs}
 use lib.ListN.{length, getD, take, drop, set}
@@ -15,7 +15,7 @@ use Rattle.refusal.specs.Numbers as refusal
 use Rattle.refusal.specs.Order.{pick}
 use Rattle.ranges.proofs.Ranges.{both, all}
 use Rattle.chain.specs.declared.Chain.{Chain}
-use Rattle.chain.specs.Numbers.{number, placesFrom, chainFrom}
+use Rattle.chain.specs.Numbers.{number, chainFrom}
 use Rattle.chain.proofs.LentSteps.{eight-places}
 use Rattle.line.specs.Bytes.{letterP, lineFeed}
 use Rattle.line.specs.Lines.{lineEnd}
@@ -26,6 +26,7 @@ use Rattle.sheet_rules.specs.declared.Standing.{Standing}
 use Rattle.sheet_rules.specs.declared.Response.the-variants as response
 use Rattle.sheet_rules.specs.Sheet.{replyText}
 use Rattle.sheet_rules.specs.OneLine.{mostLines, counted, soundStanding, replyTo, afterLine, answered, pointAnswered}
+use Rattle.sheet_rules.proofs.Answers.{counted-holds}
 use Rattle.sheet_rules.proofs.Points.{point-unsound, point-replied}
 use Rattle.sheet_rules.proofs.Room.{answer-short}
 use Rattle.sheet_stream.specs.declared.Fed.{Fed}
@@ -98,11 +99,10 @@ module _ (ns : List ℤ) (bytes : List ℕ) (long : length ns ≡ 111) (ranged :
     far = omega (arith, times .1)
 
     few : counted (natAbs (number ns 0) + 1) (chainIn ns .length) ≡ true
-    unfolding counted
-    few = rw (lt-ltb (chainIn ns .length) (natAbs (number ns 0) + 1) (omega (arith, times .2, steps-in ns bytes long ranged)), le-leb (natAbs (number ns 0) + 1) (suc mostLines) (omega (arith, far)))
+    few = counted-holds (natAbs (number ns 0) + 1) (chainIn ns .length) (omega (arith, times .2, steps-in ns bytes long ranged)) (omega (arith, far))
 
     eight : length (chainIn ns .steps) ≡ 8
-    unfolding chainIn chainFrom
+    unfolding chainIn
     eight = eight-places _
 
     bad : x .response ≡ response.Unsound → unsound here ≡ endsWith here text end false

@@ -30,12 +30,14 @@ use Rattle.sheet_rules.specs.declared.Reply.{Reply}
 use Rattle.sheet_rules.specs.declared.Standing.{Standing}
 use Rattle.sheet_rules.specs.Sheet.{replyText}
 use Rattle.sheet_rules.specs.OneLine.{soundAt, soundStanding}
+use Rattle.sheet_rules.proofs.Answers.{sound-is}
 use Rattle.sheet_stream.specs.declared.Fed.{Fed}
 use Rattle.sheet_stream.specs.declared.Stream.{Stream}
 use Rattle.sheet_stream.specs.declared.Outcome.{Outcome}
 use Rattle.sheet_stream.specs.declared.Outcome.the-variants.{Open, Line, Refused}
 use Rattle.sheet_stream.specs.Fragments.{Countable, Short}
-use Rattle.chain.specs.Numbers.{number, placeFrom, placesFrom, chainFrom}
+use Rattle.chain.specs.Numbers.{number, chainFrom}
+use Rattle.chain.proofs.LentSteps.{no-places}
 use Rattle.capi.specs.Fragments.{FreshFromC, sizedState, stateRange, isFlag, chainIn, standingIn, streamFrom, flag, bit, headOf, conventionNumber, rowOf, withNewStep, numbersWith, Called, ofOutcome, called, stateCall, toldOf, toldAfter, Stated}
 
 -- ---- the lengths
@@ -77,12 +79,11 @@ chain-read ns {k = k} e f = let z : k - 7 ≡ 13 * natAbs (number ns 6) = omega 
 
 -- whether a sheet can stand there, by the line to come and the chain alone
 pub sound-in : (ns : List ℤ) {b : Bool} {l : ℕ} {c : Chain} → b ≡ soundAt l c → l ≡ natAbs (number ns 0) + 1 → c ≡ chainIn ns → b ≡ soundStanding (standingIn ns)
-unfolding soundAt soundStanding
-sound-in ns e f g = e ∙ ap₂ soundAt f g
+sound-in ns e f g = e ∙ ap₂ soundAt f g ∙ sound-is (standingIn ns)
 
 -- a state whose counts are in their ranges
 pub countable : (ns : List ℤ) (bytes : List ℕ) → length ns ≡ 111 → stateRange ns ≡ true → Countable (streamFrom ns bytes)
-unfolding streamFrom chainIn chainFrom
+unfolding streamFrom chainIn
 countable ns bytes l e =
     let c = counts ns e in
     let n = size-of (number ns 0) 1000000 (c .lines) in
@@ -93,8 +94,8 @@ countable ns bytes l e =
 
 -- the state that C begins with
 pub fresh-from-c : FreshFromC
-unfolding streamFrom chainIn chainFrom placesFrom placeFrom
-fresh-from-c = rw (equal-self (pos 0))
+unfolding streamFrom chainIn
+fresh-from-c = rw (equal-self (pos 0), no-places)
 
 -- ---- bytes copied one after the other
 pub one-more : (to from : List ℕ) (i : ℕ) → i < length to → i < length from → take i to ≡ take i from → take (i + 1) (set to i (getD from i 0)) ≡ take (i + 1) from

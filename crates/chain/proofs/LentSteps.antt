@@ -6,7 +6,7 @@ use Prim.Native.Nat.{ℕ, zero, suc, _+_, _-_, _*_, _/_, _<_, _≤_}
 use native.Mathlib.Omega.{arith}
 use borrow.Author.Tests.{le-leb, le-ltb}
 use lib.IntN.{ℤ}
-use lib.ListN.{length, take, drop, getD, length-drop}
+use lib.ListN.{length, take, drop, getD, replicate, length-drop}
 use lib.Seq.{take-all}
 use Rattle.refusal.specs.Order.{first}
 use Rattle.refusal.proofs.Orders.{passed, on}
@@ -16,7 +16,7 @@ use Rattle.chain.specs.declared.Realization.{Realization}
 use Rattle.chain.specs.declared.Step.{Step}
 use Rattle.chain.specs.Faults.{realizationRange, agrees, sameRealization, hasDatum, hasKind, hasStep, kindRange, kindRule, stepRange, StepOk, stepTests, joinTest, laterTests, stepsTests, chainTests}
 use Rattle.chain.specs.Convert.{startOf, endOf}
-use Rattle.chain.specs.Numbers.{stepFrom, placeFrom, placesFrom, chainFrom, stepsIn, dated, goodKind, follows, allFollow, goodSteps}
+use Rattle.chain.specs.Numbers.{stepFrom, noStep, placeFrom, placesFrom, chainFrom, stepsIn, dated, goodKind, follows, allFollow, goodSteps}
 use Rattle.chain.proofs.Within.{same-is}
 use Rattle.chain.proofs.Places.{no-step, from, sound-at, start-at, end-at}
 use Rattle.chain.proofs.Accepted.{Sound, chain-holds}
@@ -26,6 +26,11 @@ pub rest-is : (ns : List ℤ) (at : ℕ) → take (length ns - at) (drop at ns) 
 rest-is ns at =
     let whole : length (drop at ns) ≤ length ns - at = simp length-drop (omega arith) in
     take-all _ _ whole
+
+-- no numbers say no step
+pub no-places : placesFrom [] ≡ replicate 8 noStep
+unfolding placesFrom placeFrom
+no-places = refl
 
 -- ---- the step at a place
 module _ (ns : List ℤ) where
@@ -80,7 +85,6 @@ module _ (ns : List ℤ) where
 
 -- what a chain with no fault keeps
 pub lent-holds : (y : ℤ) (ns : List ℤ) → first (chainTests (chainFrom y ns)) ≡ 0 → (length ns / 13 ≤ 8) × Sound (stepsIn ns)
-unfolding chainFrom
 lent-holds y ns = chain-holds (chainFrom y ns)
 
 -- ---- the test on the numbers, from the first step on
@@ -145,5 +149,4 @@ module _ (y : ℤ) where
       on (stepTests y s) (laterTests y s ss) (passed (stepTests y s) tt (alone (s .before) s (d .0) g)) ∙ later s ss (g .after) (f .1)
 
   pub good-chain : (ns : List ℤ) → profileRange y ≡ true → length ns / 13 ≤ 8 → goodSteps y (stepsIn ns) ≡ true → first (chainTests (chainFrom y ns)) ≡ 0
-  unfolding chainFrom
   good-chain ns p few g = rw (p, le-ltb 8 (length ns / 13) few) (good-steps (stepsIn ns) g)

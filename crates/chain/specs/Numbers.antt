@@ -111,7 +111,7 @@ placesFrom ns =
     ∷ []
 
 -- past the eighth the steps are counted and not read
-unfoldable pub chainFrom : ℤ → List ℤ → Chain
+abbrev pub chainFrom : ℤ → List ℤ → Chain
 chainFrom y ns = record { steps = placesFrom ns; length = length ns / 13; profile = y }
 
 -- ---- how the code tests a chain as numbers: a step begins where the one before it ended, so that only its end is looked at

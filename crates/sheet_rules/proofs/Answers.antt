@@ -1,15 +1,26 @@
 -- What the answer to a line says: whether a sheet can stand where it stood, and where it can, the rules' reply and what comes after. Assumes nothing.
-use Prim.Native.Nat.{ℕ}
+use Prim.Native.Nat.{ℕ, suc, _<_, _≤_}
 use mathlib.Core.Path.{_≡_, refl, sym, ap, _∙_}
 use mathlib.Core.Bool.{Bool, true, false}
 use mathlib.Core.List.{List}
 use native.Mathlib.Omega.{arith}
+use borrow.Author.Tests.{lt-ltb, le-leb}
 use Rattle.refusal.specs.Order.{pick}
 use Rattle.sheet_rules.specs.declared.Standing.{Standing}
 use Rattle.sheet_rules.specs.declared.Answered.{Answered}
 use Rattle.sheet_rules.specs.declared.Reply.{Reply}
 use Rattle.sheet_rules.specs.declared.Response.the-variants as response
-use Rattle.sheet_rules.specs.OneLine.{soundStanding, replyTo, afterLine, answered, lineAnswered, answeredTo}
+use Rattle.sheet_rules.specs.OneLine.{mostLines, counted, soundAt, soundStanding, replyTo, afterLine, answered, lineAnswered, answeredTo}
+
+-- a line's number with no more steps before it than lines, within the limit
+pub counted-holds : (line steps : ℕ) → steps < line → line ≤ suc mostLines → counted line steps ≡ true
+unfolding counted
+counted-holds line steps h k = rw (lt-ltb steps line h, le-leb line (suc mostLines) k)
+
+-- whether a sheet can stand somewhere goes by the line and the chain alone
+pub sound-is : (st : Standing) → soundAt (st .line) (st .chain) ≡ soundStanding st
+unfolding soundAt soundStanding
+sound-is st = refl
 
 module _ (st : Standing) (l : List ℕ) (a : Answered) (e : a ≡ answeredTo st l) where
   abbrev by : Bool → Answered

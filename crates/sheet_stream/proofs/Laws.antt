@@ -4,7 +4,7 @@ use mathlib.Core.Path.{_≡_, refl, sym, ap, _∙_}
 use mathlib.Core.Bool.{Bool, true, false, not, _&&_, _||_}
 use mathlib.Core.List.{List, [], _∷_, _++_}
 use lib.Dec.{eqb, leb, ltb}
-use lib.ListN.{length, getD, take, drop, set, length-set, drop-of-length-le}
+use lib.ListN.{length, getD, take, drop, set, replicate, length-set, drop-of-length-le}
 use lib.Seq.{take-suc-set, take-set-lt, getD-take, getD-set-same, drop-cons, length-take-le}
 use native.Mathlib.Numerals.{add-one}
 use native.Mathlib.Omega.{arith}
@@ -28,6 +28,11 @@ use Rattle.sheet_stream.specs.declared.Stream.{Stream}
 use Rattle.sheet_stream.specs.declared.Fed.{Fed}
 use Rattle.sheet_stream.specs.declared.Outcome.the-variants.{Open, Line, Refused}
 use Rattle.sheet_stream.specs.Fragments.{between, empty, keep, held, unended, closing, ended, endReply, fed, later, scan, sound, unsound, feedOf, finishOf, Countable, Short}
+
+-- no bytes kept: a room of zeros
+pub empty-is : replicate 200 0 ≡ empty
+unfolding empty
+empty-is = refl
 
 -- ---- a sound state
 pub record Sound (s : Stream) : Type 0 where

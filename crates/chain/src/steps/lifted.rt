@@ -2,17 +2,10 @@
 // that no part reaches, and half the divisor. The quotient is the fraction rounded, a half up; only where nothing is left over is it a half, and then
 // `rounding::quotient::settled` decides.
 ghost use mathlib.Core.Path.{_≡_};
-ghost use mathlib.Core.Bool.{true};
 ghost use Prim.Native.Nat.{_≤_};
 ghost use lib.IntN.{ℤ, pos, natAbs, _+ℤ_, _-ℤ_};
 ghost use Rattle.rounding.specs.Nearest.{toEven};
 ghost use Rattle.rounding.specs.Quotient.{mixed};
-
-// A fraction to the nearest whole number, a half up, and whether it is surely no half: then no rule for halves is asked.
-pub struct HalfUp {
-    pub value: i64,
-    pub sure: bool,
-}
 
 // n + lift. The sum passes i64, so it is made by cases; both become one addition.
 fn raised(n: i64, lift: u64) -> u64
@@ -43,20 +36,6 @@ pub fn over11(k: i64, n: i64) -> i64
     let q = u / 100000000000;
     let t = lowered(k, q, 80000000);
     rounding::quotient::settled(t, u == q * 100000000000)
-}
-
-// k + n/10^11. 2048 divides 10^11, so a number that it does not divide leaves something over: a test that no product has to wait for.
-pub fn half_up11(k: i64, n: i64) -> HalfUp
-    requires { ⌜ (natAbs k ≤ 100000000) × (natAbs n ≤ 8000000000000000000) ⌝ }
-    ensures { λ r. ⌜ (r .sure ≡ true → r .value ≡ mixed toEven k n (pos 100000000000)) ⌝ }
-{
-    let u = raised(n, 8000000050000000000);
-    let q = u / 100000000000;
-    let t = lowered(k, q, 80000000);
-    HalfUp {
-        value: t,
-        sure: u % 2048 != 0,
-    }
 }
 
 // n/10^14, a half to the even number.

@@ -30,12 +30,6 @@ returns-2 c =
     let start = c .before .before in
     ended _ _ (read (start .args .got)) (not-below (read (start .args .got)) (c .before .if1 .left)) (c .if2 .taken) ∙ ap (afterRead (start .args .room) (start .args .held)) (toZ-ofZ (start .fits .got))
 
-sub-if4 : tie.Need-sub-if4
-sub-if4 c = search needs
-
-add-t8 : tie.Need-add-t8
-add-t8 c = search needs
-
 returns-3 : tie.Need-returns-3
 returns-3 c =
     let start = c .before .before .before .before in
@@ -52,4 +46,4 @@ returns-5 c =
     full _ _ (read (start .args .got)) (not-below (read (start .args .got)) (c .before .before .if1 .left)) (c .before .if2 .left) (omega (arith, c .if3 .left)) ∙ ap (afterRead (start .args .room) (start .args .held)) (toZ-ofZ (start .fits .got))
 
 pub after-read-spec : {M : Type 1} → statement M
-after-read-spec = tie.close (tie.spec returns cast-bytes returns-2 sub-if4 add-t8 returns-3 returns-4 returns-5)
+after-read-spec = tie.close (tie.spec returns cast-bytes returns-2 (λ c. search needs) (λ c. search needs) returns-3 returns-4 returns-5)

@@ -26,38 +26,17 @@ Inv-loop buffer₀ held₀ buffer held = (held ≤ length buffer) × (length buf
 abbrev μ-loop : tie.MeasureT-loop
 μ-loop buffer₀ held₀ buffer held = length buffer - held
 
-loop-holds : tie.Need-loop-holds Inv-loop μ-loop
-loop-holds c = search needs
-
-one-read-requires : tie.Need-one-read-requires Inv-loop μ-loop
-one-read-requires c κs = search needs
-
-enum-told : tie.Need-enum-told Inv-loop μ-loop
-enum-told c = search needs
-
-same-length : tie.Need-same-length Inv-loop μ-loop
-same-length c = search needs
-
 returns : tie.Need-returns Inv-loop μ-loop
 returns c =
     let c4 = c .before .before .before .before in
     let c6 = c4 .before .before in
     reads-same (omega (arith, c .before .before .before .buffer .given)) (c6 .loop .inv .2 _ (reads-failed (is-failed _ (c .before .match .keys1)) (c4 .one-read .ensures)))
 
-enum-known-bytes : tie.Need-enum-known-bytes Inv-loop μ-loop
-enum-known-bytes c = search needs
-
-same-length-2 : tie.Need-same-length-2 Inv-loop μ-loop
-same-length-2 c = search needs
-
 returns-2 : tie.Need-returns-2 Inv-loop μ-loop
 returns-2 c =
     let c5 = c .before .before .before .before .before in
     let c7 = c5 .before .before in
     reads-same (omega (arith, c .before .before .before .before .buffer .given)) (c7 .loop .inv .2 _ (reads-whole (c .before .bytes .given .1) (c5 .one-read .ensures)))
-
-enum-known-bytes-2 : tie.Need-enum-known-bytes-2 Inv-loop μ-loop
-enum-known-bytes-2 c = search needs
 
 loop-less : tie.Need-loop-less Inv-loop μ-loop
 loop-less c =
@@ -76,17 +55,5 @@ loop-again c =
 pub read-all-spec : {M : Type 1} → statement M
 read-all-spec =
     tie.close
-    (tie.spec
-    Inv-loop
-    μ-loop
-    loop-holds
-    one-read-requires
-    enum-told
-    same-length
-    returns
-    enum-known-bytes
-    same-length-2
-    returns-2
-    enum-known-bytes-2
-    loop-less
-    loop-again)
+    (tie.spec Inv-loop μ-loop (λ c. search needs) (λ c κs. search needs) (λ c. search needs) (λ c. search needs) returns (λ c. search needs)
+    (λ c. search needs) returns-2 (λ c. search needs) loop-less loop-again)

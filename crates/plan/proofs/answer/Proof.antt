@@ -6,9 +6,6 @@ use Rattle.listing.proofs.Room.{whole-text}
 use Rattle.plan.proofs.answer.Statement.{statement}
 use Rattle.plan.proofs.answer.Tie as tie
 
-plan-requires : tie.Need-plan-requires
-plan-requires c κs = search needs
-
 slice-aggregate-result : tie.Need-slice-aggregate-result
 slice-aggregate-result c =
     let c3 = c .before .before .before in
@@ -20,4 +17,4 @@ returns c =
     (whole-text (c3 .before .before .before .before .pre) (c3 .plan .ensures)) .1
 
 pub answer-spec : {M : Type 1} → statement M
-answer-spec = tie.close (tie.spec plan-requires slice-aggregate-result returns)
+answer-spec = tie.close (tie.spec (λ c κs. search needs) slice-aggregate-result returns)

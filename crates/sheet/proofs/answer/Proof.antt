@@ -6,9 +6,6 @@ use Rattle.listing.proofs.Room.{whole-text}
 use Rattle.sheet.proofs.answer.Statement.{statement}
 use Rattle.sheet.proofs.answer.Tie as tie
 
-sheet-requires : tie.Need-sheet-requires
-sheet-requires c κs = search needs
-
 slice-aggregate-result : tie.Need-slice-aggregate-result
 slice-aggregate-result c =
     let c3 = c .before .before .before in
@@ -20,4 +17,4 @@ returns c =
     (whole-text (c3 .before .before .before .before .pre) (c3 .sheet .ensures)) .1
 
 pub answer-spec : {M : Type 1} → statement M
-answer-spec = tie.close (tie.spec sheet-requires slice-aggregate-result returns)
+answer-spec = tie.close (tie.spec (λ c κs. search needs) slice-aggregate-result returns)

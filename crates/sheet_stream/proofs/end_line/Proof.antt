@@ -5,21 +5,6 @@ use borrow.Author.Needs.{needs}
 use Rattle.sheet_stream.proofs.end_line.Statement.{statement}
 use Rattle.sheet_stream.proofs.end_line.Tie as tie
 
-answer-line-requires : tie.Need-answer-line-requires
-answer-line-requires c κs = search needs
-
-enum-told : tie.Need-enum-told
-enum-told c = search needs
-
-refused-requires : tie.Need-refused-requires
-refused-requires c κs = search needs
-
-enum-known-response : tie.Need-enum-known-response
-enum-known-response c = search needs
-
-no-bytes-requires : tie.Need-no-bytes-requires
-no-bytes-requires c κs = search needs
-
 returns : tie.Need-returns
 returns c =
     let a = c .before .before .before .before .before .before .args in
@@ -33,11 +18,4 @@ returns-2 c =
 pub end-line-spec : {M : Type 1} → statement M
 end-line-spec =
     tie.close
-    (tie.spec
-    answer-line-requires
-    enum-told
-    refused-requires
-    enum-known-response
-    no-bytes-requires
-    returns
-    returns-2)
+    (tie.spec (search needs) (search needs) (search needs) (search needs) (search needs) returns returns-2)

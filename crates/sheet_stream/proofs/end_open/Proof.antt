@@ -6,20 +6,11 @@ use borrow.Author.Needs.{needs}
 use Rattle.sheet_stream.proofs.end_open.Statement.{statement}
 use Rattle.sheet_stream.proofs.end_open.Tie as tie
 
-without-end-requires : tie.Need-without-end-requires
-without-end-requires c κs = search needs
-
-array-share-prefix-bytes : tie.Need-array-share-prefix-bytes
-array-share-prefix-bytes c = search needs
-
 slice-aggregate-end-line : tie.Need-slice-aggregate-end-line
 slice-aggregate-end-line c = simp length-take (omega (arith, c .before .without-end .ensures .0, c .before .before .pre .1))
-
-end-line-requires : tie.Need-end-line-requires
-end-line-requires c κs = search needs
 
 returns : tie.Need-returns
 returns c = rw (sym (c .before .before .without-end .ensures .1)) (c .end-line .ensures)
 
 pub end-open-spec : {M : Type 1} → statement M
-end-open-spec = tie.close (tie.spec without-end-requires array-share-prefix-bytes slice-aggregate-end-line end-line-requires returns)
+end-open-spec = tie.close (tie.spec (search needs) (search needs) slice-aggregate-end-line (search needs) returns)

@@ -26,17 +26,8 @@ going c = L.goes-on (c .before .before .before .before .args .stream) (c .if1 .l
 inside : (c : tie.After-line-end) → c .line-end .result ≤ length (c .before .before .before .before .before .args .fragment .now)
 inside c = L.within-line (c .before .before .before .before .before .args .fragment .now) _ (c .line-end .ensures)
 
-refused-requires : tie.Need-refused-requires
-refused-requires c κs = search needs
-
 returns : tie.Need-returns
 returns c = c .refused .ensures ∙ L.stopped (c .before .before .before .before .before .args .stream) (c .before .before .before .before .before .args .fragment .now) (c .before .if1 .taken) .0
-
-line-end-requires : tie.Need-line-end-requires
-line-end-requires c κs = search needs
-
-is-fed-requires : tie.Need-is-fed-requires
-is-fed-requires c κs = search needs
 
 -- a line feed ends it
 ends : (c : tie.Then2) → fedAt (c .before .before .before .before .before .before .before .args .fragment .now) (c .before .before .line-end .result) ≡ true
@@ -45,14 +36,8 @@ ends c = sym (c .before .is-fed .ensures) ∙ c .if2 .taken
 sub-last : tie.Need-sub-last
 sub-last c = L.fed-some _ _ (ends c)
 
-slice-aggregate-keep-bytes : tie.Need-slice-aggregate-keep-bytes
-slice-aggregate-keep-bytes c = search needs
-
 slice-aggregate-keep-bytes-2 : tie.Need-slice-aggregate-keep-bytes-2
 slice-aggregate-keep-bytes-2 c = simp length-take (omega (arith, inside (c .before .before .before .before)))
-
-keep-bytes-requires : tie.Need-keep-bytes-requires
-keep-bytes-requires c κs = search needs
 
 -- the room is as long as it was
 room : (c : tie.After-keep-bytes) → length (c .keep-bytes .last .0) ≡ 200
@@ -63,20 +48,11 @@ room c =
     ∙ length-sets (a .stream .kept) (a .stream .count) (take (length (a .stream .kept) - a .stream .count) (take (n - 1) (a .fragment .now)))
     ∙ long (c .before .before .before .before .before .before .before .before .before .before)
 
-array-write-kept : tie.Need-array-write-kept
-array-write-kept c = search needs
-
-add-kept : tie.Need-add-kept
-add-kept c = search needs
-
 array-share-prefix-kept : tie.Need-array-share-prefix-kept
 array-share-prefix-kept c = simp length-set (omega (arith, room (c .before .before), c .if3 .taken))
 
 slice-aggregate-end-line : tie.Need-slice-aggregate-end-line
 slice-aggregate-end-line c = simp (length-take, length-set) (omega (arith, room (c .before .before .before), c .before .if3 .taken))
-
-end-line-requires : tie.Need-end-line-requires
-end-line-requires c κs = search needs
 
 returns-2 : tie.Need-returns-2
 returns-2 c =
@@ -95,22 +71,10 @@ returns-3 c =
     L.fed-line (s .args .stream) (going (c .before .before .before .before .before .before .before .before .before)) (s .args .fragment .now) _ (c .before .before .before .before .before .before .before .before .line-end .ensures) (long s) _ (k .result) (k .last .0) (k .ensures .1) (k .ensures .0) (ends (c .before .before .before .before .before .before)) refl _
     (c .end-open .ensures ∙ ap (λ (l : List ℕ). endsWith (s .args .stream) l (c .before .before .before .before .before .before .before .before .line-end .result) false) (sym (L.closing-full (s .args .stream .standing) (k .result) (k .last .0) false (c .before .if3 .left))))
 
-is-sound-requires : tie.Need-is-sound-requires
-is-sound-requires c κs = search needs
-
-refused-requires-2 : tie.Need-refused-requires-2
-refused-requires-2 c κs = search needs
-
 returns-4 : tie.Need-returns-4
 returns-4 c =
     let a = c .before .before .before .before .before .before .before .before .before .before .before .args in
     c .refused2 .ensures ∙ sym (feed-29 (a .stream) (a .fragment .now) (L.sound-as (a .stream) (going (c .before .before .before .before .before .before .before)) _ (c .before .before .is-sound .ensures) ∙ not-true _ (c .before .if4 .taken)))
-
-slice-aggregate-keep-bytes-3 : tie.Need-slice-aggregate-keep-bytes-3
-slice-aggregate-keep-bytes-3 c = search needs
-
-keep-bytes-requires-2 : tie.Need-keep-bytes-requires-2
-keep-bytes-requires-2 c κs = search needs
 
 returns-5 : tie.Need-returns-5
 returns-5 c =
@@ -124,26 +88,6 @@ returns-5 c =
 pub feed-spec : {M : Type 1} → statement M
 feed-spec =
     tie.close
-    (tie.spec
-    refused-requires
-    returns
-    line-end-requires
-    is-fed-requires
-    sub-last
-    slice-aggregate-keep-bytes
-    slice-aggregate-keep-bytes-2
-    keep-bytes-requires
-    array-write-kept
-    add-kept
-    array-share-prefix-kept
-    slice-aggregate-end-line
-    end-line-requires
-    returns-2
-    end-open-requires
-    returns-3
-    is-sound-requires
-    refused-requires-2
-    returns-4
-    slice-aggregate-keep-bytes-3
-    keep-bytes-requires-2
-    returns-5)
+    (tie.spec (search needs) returns (search needs) (search needs) sub-last (λ c. search needs) slice-aggregate-keep-bytes-2 (search needs) (search needs)
+    (search needs) array-share-prefix-kept slice-aggregate-end-line (search needs) returns-2 end-open-requires returns-3 (search needs) (search needs)
+    returns-4 (λ c. search needs) (search needs) returns-5)

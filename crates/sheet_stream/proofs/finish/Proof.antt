@@ -13,9 +13,6 @@ use Rattle.sheet_stream.proofs.finish.Tie as tie
 going : (c : tie.Else1) → L.Going (c .before .before .before .args .stream)
 going c = L.goes-on (c .before .before .before .args .stream) (c .if1 .left)
 
-refused-requires : tie.Need-refused-requires
-refused-requires c κs = search needs
-
 returns : tie.Need-returns
 returns c = c .refused .ensures ∙ L.stopped (c .before .before .before .before .args .stream) [] (c .before .if1 .taken) .1
 
@@ -25,17 +22,8 @@ end-open-requires c κs = (omega (arith, c .if2 .taken), going (c .before) .coun
 returns-2 : tie.Need-returns-2
 returns-2 c = L.finished-by (c .before .before .before .before .before .args .stream) (going (c .before .before)) _ (c .before .if2 .taken) (c .end-open .ensures)
 
-is-sound-requires : tie.Need-is-sound-requires
-is-sound-requires c κs = search needs
-
-refused-requires-2 : tie.Need-refused-requires-2
-refused-requires-2 c κs = search needs
-
 returns-3 : tie.Need-returns-3
 returns-3 c = c .refused2 .ensures ∙ sym (finish-29 (c .before .before .before .before .before .before .before .before .args .stream) (L.sound-as (c .before .before .before .before .before .before .before .before .args .stream) (going (c .before .before .before .before .before)) _ (c .before .before .is-sound .ensures) ∙ not-true _ (c .before .if3 .taken)))
-
-no-bytes-requires : tie.Need-no-bytes-requires
-no-bytes-requires c κs = search needs
 
 returns-4 : tie.Need-returns-4
 returns-4 c = rw (c .no-bytes .ensures) (sym (finish-none (c .before .before .before .before .before .before .before .before .args .stream) (L.sound-as (c .before .before .before .before .before .before .before .before .args .stream) (going (c .before .before .before .before .before)) _ (c .before .before .is-sound .ensures) ∙ not-false _ (c .before .if3 .left)) (c .before .before .before .before .if2 .left)))
@@ -43,13 +31,4 @@ returns-4 c = rw (c .no-bytes .ensures) (sym (finish-none (c .before .before .be
 pub finish-spec : {M : Type 1} → statement M
 finish-spec =
     tie.close
-    (tie.spec
-    refused-requires
-    returns
-    end-open-requires
-    returns-2
-    is-sound-requires
-    refused-requires-2
-    returns-3
-    no-bytes-requires
-    returns-4)
+    (tie.spec (search needs) returns end-open-requires returns-2 (search needs) (search needs) returns-3 (search needs) returns-4)

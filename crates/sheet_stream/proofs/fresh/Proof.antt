@@ -3,14 +3,8 @@ use borrow.Author.Needs.{needs}
 use Rattle.sheet_stream.proofs.fresh.Statement.{statement}
 use Rattle.sheet_stream.proofs.fresh.Tie as tie
 
-no-step-requires : tie.Need-no-step-requires
-no-step-requires c κs = search needs
-
-no-bytes-requires : tie.Need-no-bytes-requires
-no-bytes-requires c κs = search needs
-
 returns : tie.Need-returns
 returns c = rw (c .no-bytes .ensures, c .before .no-step .ensures)
 
 pub fresh-spec : {M : Type 1} → statement M
-fresh-spec = tie.close (tie.spec no-step-requires no-bytes-requires returns)
+fresh-spec = tie.close (tie.spec (search needs) (search needs) returns)

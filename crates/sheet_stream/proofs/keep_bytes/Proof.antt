@@ -22,12 +22,6 @@ returns c =
     let z : length (a .room .now) - a .count ≡ 0 = omega (arith, c .if1 .taken) in
     (rw z, omega (arith, c .if1 .taken))
 
-sub-least : tie.Need-sub-least Inv-loop μ-loop
-sub-least c = search needs
-
-least-requires : tie.Need-least-requires Inv-loop μ-loop
-least-requires c κs = search needs
-
 loop-holds : tie.Need-loop-holds Inv-loop μ-loop
 loop-holds c = (omega arith, refl, refl)
 
@@ -81,19 +75,5 @@ returns-2 c =
 pub keep-bytes-spec : {M : Type 1} → statement M
 keep-bytes-spec =
     tie.close
-    (tie.spec
-    Inv-loop
-    μ-loop
-    returns
-    sub-least
-    least-requires
-    loop-holds
-    shared-slice-read-room
-    add-room
-    slice-write-room
-    add-i
-    loop-less
-    loop-again
-    add-result
-    same-length
-    returns-2)
+    (tie.spec Inv-loop μ-loop returns (search needs) (search needs) loop-holds shared-slice-read-room add-room slice-write-room add-i loop-less loop-again
+    add-result same-length returns-2)

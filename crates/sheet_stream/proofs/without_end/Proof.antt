@@ -7,21 +7,12 @@ use borrow.Author.Needs.{needs}
 use Rattle.sheet_stream.proofs.without_end.Statement.{statement}
 use Rattle.sheet_stream.proofs.without_end.Tie as tie
 
-sub-last : tie.Need-sub-last
-sub-last c = search needs
-
-array-read-if1 : tie.Need-array-read-if1
-array-read-if1 c = search needs
-
 returns : tie.Need-returns
 returns c =
     let a = c .before .args in
     let p = c .before .pre in
     let z : length (a .t1) ≡ 200 = search needs in
     (z, L.unended-none (a .t1) (a .count) (p .0) (omega (arith, z, p .1)) (c .if1 .taken))
-
-array-write-bytes : tie.Need-array-write-bytes
-array-write-bytes c = search needs
 
 returns-2 : tie.Need-returns-2
 returns-2 c =
@@ -31,4 +22,4 @@ returns-2 c =
     (length-set (a .t1) _ 0 ∙ z, L.unended-one (a .t1) (a .count) (p .0) (omega (arith, z, p .1)) (c .if1 .left))
 
 pub without-end-spec : {M : Type 1} → statement M
-without-end-spec = tie.close (tie.spec sub-last array-read-if1 returns array-write-bytes returns-2)
+without-end-spec = tie.close (tie.spec (search needs) (search needs) returns (search needs) returns-2)

@@ -9,12 +9,6 @@ use Rattle.angle.specs.Ellipsoids.{shape, ellipsoidOf}
 use Rattle.angle.proofs.ellipsoids.ellipsoid.Statement.{statement}
 use Rattle.angle.proofs.ellipsoids.ellipsoid.Tie as tie
 
-axis-requires : tie.Need-axis-requires
-axis-requires c κs = search needs
-
-flattening-requires : tie.Need-flattening-requires
-flattening-requires c κs = search needs
-
 returns : tie.Need-returns
 unfolding ellipsoidOf shape round ofBits
 returns c =
@@ -23,4 +17,4 @@ returns c =
     cc
 
 pub ellipsoid-spec : {M : Type 1} → statement M
-ellipsoid-spec = tie.close (tie.spec axis-requires flattening-requires returns)
+ellipsoid-spec = tie.close (tie.spec (search needs) (search needs) returns)

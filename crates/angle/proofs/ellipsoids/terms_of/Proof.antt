@@ -14,36 +14,6 @@ none-is : row (# 0) (# 0) ≡ figureOf (pos zero)
 unfolding figureOf
 none-is = refl
 
-ellipsoid-requires : tie.Need-ellipsoid-requires
-ellipsoid-requires c κs = search needs
-
-terms-from-requires : tie.Need-terms-from-requires
-terms-from-requires c κs = search needs
-
-ellipsoid-requires-2 : tie.Need-ellipsoid-requires-2
-ellipsoid-requires-2 c κs = search needs
-
-terms-from-requires-2 : tie.Need-terms-from-requires-2
-terms-from-requires-2 c κs = search needs
-
-ellipsoid-requires-3 : tie.Need-ellipsoid-requires-3
-ellipsoid-requires-3 c κs = search needs
-
-terms-from-requires-3 : tie.Need-terms-from-requires-3
-terms-from-requires-3 c κs = search needs
-
-ellipsoid-requires-4 : tie.Need-ellipsoid-requires-4
-ellipsoid-requires-4 c κs = search needs
-
-terms-from-requires-4 : tie.Need-terms-from-requires-4
-terms-from-requires-4 c κs = search needs
-
-ellipsoid-requires-5 : tie.Need-ellipsoid-requires-5
-ellipsoid-requires-5 c κs = search needs
-
-terms-from-requires-5 : tie.Need-terms-from-requires-5
-terms-from-requires-5 c κs = search needs
-
 returns : tie.Need-returns
 returns c =
     let a = c .before .before .before in
@@ -78,19 +48,5 @@ returns-5 c =
 pub terms-of-spec : {M : Type 1} → statement M
 terms-of-spec =
     tie.close
-    (tie.spec
-    ellipsoid-requires
-    terms-from-requires
-    ellipsoid-requires-2
-    terms-from-requires-2
-    ellipsoid-requires-3
-    terms-from-requires-3
-    ellipsoid-requires-4
-    terms-from-requires-4
-    ellipsoid-requires-5
-    terms-from-requires-5
-    returns
-    returns-2
-    returns-3
-    returns-4
-    returns-5)
+    (tie.spec (search needs) (search needs) (search needs) (search needs) (search needs) (search needs) (search needs) (search needs) (search needs)
+    (search needs) returns returns-2 returns-3 returns-4 returns-5)

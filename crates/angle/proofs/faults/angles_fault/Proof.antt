@@ -10,9 +10,6 @@ use Rattle.angle.specs.Ranges.{anglesFault}
 use Rattle.angle.proofs.faults.angles_fault.Statement.{statement}
 use Rattle.angle.proofs.faults.angles_fault.Tie as tie
 
-is-latitude-requires : tie.Need-is-latitude-requires
-is-latitude-requires c κs = search needs
-
 latitude : (c : tie.After-is-latitude) (t : Bool) → c .is-latitude .result ≡ t → latitudeRange (c .before .args .latitude) ≡ t
 latitude c t h = told (pos 0) (c .before .args .latitude) (pos 2880000000) (c .before .fits .latitude) (c .is-latitude .ensures) h
 
@@ -24,9 +21,6 @@ returns : tie.Need-returns
 unfolding anglesFault
 returns c = rw (latitude (c .before) false (not-true _ (c .if1 .taken)))
 
-is-longitude-requires : tie.Need-is-longitude-requires
-is-longitude-requires c κs = search needs
-
 returns-2 : tie.Need-returns-2
 unfolding anglesFault
 returns-2 c = rw (latitude (c .before .before .before) true (not-false _ (c .before .before .if1 .left)), longitude (c .before) false (not-true _ (c .if2 .taken)))
@@ -37,4 +31,4 @@ returns-3 c = rw (latitude (c .before .before .before) true (not-false _ (c .bef
 
 pub angles-fault-spec : {M : Type 1} → statement M
 angles-fault-spec =
-    tie.close (tie.spec is-latitude-requires returns is-longitude-requires returns-2 returns-3)
+    tie.close (tie.spec (search needs) returns (search needs) returns-2 returns-3)

@@ -12,9 +12,6 @@ use Rattle.angle.specs.Ranges.{anglesFault, originFault}
 use Rattle.angle.proofs.faults.origin_fault.Statement.{statement}
 use Rattle.angle.proofs.faults.origin_fault.Tie as tie
 
-is-ellipsoid-requires : tie.Need-is-ellipsoid-requires
-is-ellipsoid-requires c κs = search needs
-
 code : (c : tie.After-is-ellipsoid) (t : Bool) → c .is-ellipsoid .result ≡ t → ellipsoidRange (c .before .before .args .o .ellipsoid) ≡ t
 code c t h = told (pos 1) (c .before .before .args .o .ellipsoid) (pos 4) (search needs) (c .is-ellipsoid .ensures) h
 
@@ -31,15 +28,9 @@ returns : tie.Need-returns
 unfolding originFault
 returns c = rw (code (c .before) false (not-true _ (c .if1 .taken)))
 
-is-offset-requires : tie.Need-is-offset-requires
-is-offset-requires c κs = search needs
-
 returns-2 : tie.Need-returns-2
 unfolding originFault
 returns-2 c = rw (code (c .before .before .before .before) true (not-false _ (c .before .before .before .if1 .left)), easting (c .before) false (not-true _ (c .if2 .taken)))
-
-is-offset-requires-2 : tie.Need-is-offset-requires-2
-is-offset-requires-2 c κs = search needs
 
 -- past the first two tests, and past all three
 first-two : (c : tie.Else2) → (ellipsoidRange (c .before .before .before .before .before .before .args .o .ellipsoid) ≡ true) × (offsetRange (c .before .before .before .before .before .before .args .o .«false_easting») ≡ true)
@@ -50,9 +41,6 @@ unfolding originFault
 returns-3 c =
     let p = first-two (c .before .before .before) in
     rw (p .0, p .1, northing (c .before) false (not-true _ (c .if3 .taken)))
-
-angles-fault-requires : tie.Need-angles-fault-requires
-angles-fault-requires c κs = search needs
 
 returns-4 : tie.Need-returns-4
 unfolding originFault anglesFault
@@ -65,12 +53,4 @@ returns-4 c =
 pub origin-fault-spec : {M : Type 1} → statement M
 origin-fault-spec =
     tie.close
-    (tie.spec
-    is-ellipsoid-requires
-    returns
-    is-offset-requires
-    returns-2
-    is-offset-requires-2
-    returns-3
-    angles-fault-requires
-    returns-4)
+    (tie.spec (search needs) returns (search needs) returns-2 (search needs) returns-3 (search needs) returns-4)

@@ -44,21 +44,6 @@ int-to-float-along c = y-float (c .before .before)
 int-to-float-up : tie.Need-int-to-float-up
 int-to-float-up c = z-float (c .before .before .before)
 
-root-requires : tie.Need-root-requires
-root-requires c κs = search needs
-
-tangent-requires : tie.Need-tangent-requires
-tangent-requires c κs = search needs
-
-arctan-small-requires : tie.Need-arctan-small-requires
-arctan-small-requires c κs = search needs
-
-arctan-small-requires-2 : tie.Need-arctan-small-requires-2
-arctan-small-requires-2 c κs = search needs
-
-height-at-requires : tie.Need-height-at-requires
-height-at-requires c κs = search needs
-
 returns : tie.Need-returns
 unfolding foundAt seconds round ofBits
 returns c =
@@ -71,13 +56,4 @@ returns c =
 pub found-spec : {M : Type 1} → statement M
 found-spec =
     tie.close
-    (tie.spec
-    int-to-float-across
-    int-to-float-along
-    int-to-float-up
-    root-requires
-    tangent-requires
-    arctan-small-requires
-    arctan-small-requires-2
-    height-at-requires
-    returns)
+    (tie.spec int-to-float-across int-to-float-along int-to-float-up (search needs) (search needs) (search needs) (search needs) (search needs) returns)

@@ -40,30 +40,18 @@ inside c t h =
     let a = c .before .before .before in
     sym (c .in-area .ensures ∙ rw (toZ-ofZ w64 (a .args .x) (a .fits .x), toZ-ofZ w64 (a .args .y) (a .fits .y), toZ-ofZ w64 (a .args .z) (a .fits .z))) ∙ h
 
-is-ellipsoid-requires : tie.Need-is-ellipsoid-requires
-is-ellipsoid-requires c κs = search needs
-
 returns : tie.Need-returns
 returns c = let a = c .before .before .args in by-code (a .code) (a .x) (a .y) (a .z) (good-code (c .before) false (not-true _ (c .if1 .taken)))
-
-in-area-requires : tie.Need-in-area-requires
-in-area-requires c κs = search needs
 
 returns-2 : tie.Need-returns-2
 returns-2 c =
     let a = c .before .before .before .before .args in
     by-area (a .code) (a .x) (a .y) (a .z) (good-code (c .before .before .before) true (not-false _ (c .before .before .if1 .left))) (inside (c .before) false (not-true _ (c .if2 .taken)))
 
-ellipsoid-requires : tie.Need-ellipsoid-requires
-ellipsoid-requires c κs = search needs
-
 found-requires : tie.Need-found-requires
 found-requires c κs =
     let a = c .before .before .before .before .before in
     rw (toZ-ofZ w64 (a .args .x) (a .fits .x), toZ-ofZ w64 (a .args .y) (a .fits .y), toZ-ofZ w64 (a .args .z) (a .fits .z)) (inside (c .before .before) true (not-false _ (c .before .if2 .left)))
-
-in-angles-requires : tie.Need-in-angles-requires
-in-angles-requires c κs = search needs
 
 returns-3 : tie.Need-returns-3
 returns-3 c =
@@ -77,12 +65,4 @@ returns-3 c =
 pub geodetic-units-spec : {M : Type 1} → statement M
 geodetic-units-spec =
     tie.close
-    (tie.spec
-    is-ellipsoid-requires
-    returns
-    in-area-requires
-    returns-2
-    ellipsoid-requires
-    found-requires
-    in-angles-requires
-    returns-3)
+    (tie.spec (search needs) returns (search needs) returns-2 (search needs) found-requires (search needs) returns-3)

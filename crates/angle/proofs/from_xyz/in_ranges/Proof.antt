@@ -27,22 +27,13 @@ longitude c t h = moved 3240000000 10800000000 32400000000 (c .before .before .b
 height : (c : tie.After-is-height) (t : Bool) → c .is-height .result ≡ t → heightRange (c .before .before .before .before .before .args .height) ≡ t
 height c t h = let a = c .before .before .before .before .before in told (negsuc 49999999) (a .args .height) (pos 900000000) (a .fits .height) (c .is-height .ensures) h
 
-is-latitude-requires : tie.Need-is-latitude-requires
-is-latitude-requires c κs = search needs
-
 returns : tie.Need-returns
 unfolding inRanges
 returns c = rw (latitude (c .before) false (not-true _ (c .if1 .taken)))
 
-within-requires : tie.Need-within-requires
-within-requires c κs = search needs
-
 returns-2 : tie.Need-returns-2
 unfolding inRanges
 returns-2 c = rw (latitude (c .before .before .before) true (not-false _ (c .before .before .if1 .left)), longitude (c .before) false (not-true _ (c .if2 .taken)))
-
-is-height-requires : tie.Need-is-height-requires
-is-height-requires c κs = search needs
 
 returns-3 : tie.Need-returns-3
 unfolding inRanges
@@ -74,12 +65,4 @@ returns-4 c =
 pub in-ranges-spec : {M : Type 1} → statement M
 in-ranges-spec =
     tie.close
-    (tie.spec
-    is-latitude-requires
-    returns
-    within-requires
-    returns-2
-    is-height-requires
-    returns-3
-    add-longitude
-    returns-4)
+    (tie.spec (search needs) returns (search needs) returns-2 (search needs) returns-3 add-longitude returns-4)

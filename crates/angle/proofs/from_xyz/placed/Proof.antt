@@ -8,27 +8,6 @@ use Rattle.angle.specs.Geodetic.{placed}
 use Rattle.angle.proofs.from_xyz.placed.Statement.{statement}
 use Rattle.angle.proofs.from_xyz.placed.Tie as tie
 
-enum-told : tie.Need-enum-told
-enum-told c = search needs
-
-enum-known-latitude : tie.Need-enum-known-latitude
-enum-known-latitude c = search needs
-
-enum-told-2 : tie.Need-enum-told-2
-enum-told-2 c = search needs
-
-enum-known-past : tie.Need-enum-known-past
-enum-known-past c = search needs
-
-enum-told-3 : tie.Need-enum-told-3
-enum-told-3 c = search needs
-
-enum-known-height : tie.Need-enum-known-height
-enum-known-height c = search needs
-
-in-ranges-requires : tie.Need-in-ranges-requires
-in-ranges-requires c κs = search needs
-
 returns : tie.Need-returns
 unfolding placed
 returns c = rw (c .enum-told .given .1)
@@ -55,15 +34,5 @@ returns-4 c =
 pub placed-spec : {M : Type 1} → statement M
 placed-spec =
     tie.close
-    (tie.spec
-    enum-told
-    enum-known-latitude
-    enum-told-2
-    enum-known-past
-    enum-told-3
-    enum-known-height
-    in-ranges-requires
-    returns
-    returns-2
-    returns-3
+    (tie.spec (search needs) (search needs) (search needs) (search needs) (search needs) (search needs) (search needs) returns returns-2 returns-3
     returns-4)

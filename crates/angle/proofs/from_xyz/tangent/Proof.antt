@@ -5,12 +5,9 @@ use Rattle.angle.specs.Geodetic.{tangentOf}
 use Rattle.angle.proofs.from_xyz.tangent.Statement.{statement}
 use Rattle.angle.proofs.from_xyz.tangent.Tie as tie
 
-root-requires : tie.Need-root-requires
-root-requires c κs = search needs
-
 returns : tie.Need-returns
 unfolding tangentOf round ofBits
 returns c = rw (c .before .root .ensures)
 
 pub tangent-spec : {M : Type 1} → statement M
-tangent-spec = tie.close (tie.spec root-requires returns)
+tangent-spec = tie.close (tie.spec (search needs) returns)

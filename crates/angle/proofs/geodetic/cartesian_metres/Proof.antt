@@ -40,18 +40,11 @@ module _ (z lat lon h : ℤ) where
   unfolding cartesianOf
   by-none p = rw (none (cartesianTests z lat lon h) p)
 
--- ---- the tests on the way
-is-ellipsoid-requires : tie.Need-is-ellipsoid-requires
-is-ellipsoid-requires c κs = search needs
-
 code : (c : tie.After-is-ellipsoid) (t : Bool) → c .is-ellipsoid .result ≡ t → ellipsoidRange (c .before .args .code) ≡ t
 code c t h = told (pos 1) (c .before .args .code) (pos 4) (c .before .fits .code) (c .is-ellipsoid .ensures) h
 
 returns : tie.Need-returns
 returns c = let a = c .before .before .args in by-code (a .code) (a .latitude) (a .longitude) (a .height) (code (c .before) false (not-true _ (c .if1 .taken)))
-
-angles-fault-requires : tie.Need-angles-fault-requires
-angles-fault-requires c κs = search needs
 
 angles : (c : tie.After-angles-fault) → c .angles-fault .result ≡ first (angleTests (c .before .before .before .args .latitude) (c .before .before .before .args .longitude))
 unfolding anglesFault
@@ -65,9 +58,6 @@ returns-2 c =
     ap Refused (angles (c .before))
     ∙ by-angles (a .code) (a .latitude) (a .longitude) (a .height) (code (c .before .before .before) true (not-false _ (c .before .before .if1 .left)))
     (λ (z : first (angleTests (a .latitude) (a .longitude)) ≡ 0). c .if2 .taken (angles (c .before) ∙ z))
-
-is-height-requires : tie.Need-is-height-requires
-is-height-requires c κs = search needs
 
 passed-angles : (c : tie.Else2) → Passed (angleTests (c .before .before .before .before .args .latitude) (c .before .before .before .before .args .longitude))
 passed-angles c =
@@ -91,9 +81,6 @@ all-passed c =
     let p = passed-angles (c .before .before) in
     (ap not (code (c .before .before .before .before .before) true (not-false _ (c .before .before .before .before .if1 .left))), (p .0, (p .1 .0, (ap not (height (c .before) true (not-false _ (c .if3 .left))), tt))))
 
-ellipsoid-requires : tie.Need-ellipsoid-requires
-ellipsoid-requires c κs = search needs
-
 position-requires : tie.Need-position-requires
 position-requires c κs =
     let a = c .before .before .before .before .before .before .before in
@@ -112,13 +99,4 @@ returns-4 c =
 pub cartesian-metres-spec : {M : Type 1} → statement M
 cartesian-metres-spec =
     tie.close
-    (tie.spec
-    is-ellipsoid-requires
-    returns
-    angles-fault-requires
-    returns-2
-    is-height-requires
-    returns-3
-    ellipsoid-requires
-    position-requires
-    returns-4)
+    (tie.spec (search needs) returns (search needs) returns-2 (search needs) returns-3 (search needs) position-requires returns-4)

@@ -8,12 +8,6 @@ use Rattle.angle.specs.Cartesian.{cartesianUnitsOf}
 use Rattle.angle.proofs.geodetic.cartesian_units.Statement.{statement}
 use Rattle.angle.proofs.geodetic.cartesian_units.Tie as tie
 
-cartesian-metres-requires : tie.Need-cartesian-metres-requires
-cartesian-metres-requires c κs = search needs
-
-in-units-requires : tie.Need-in-units-requires
-in-units-requires c κs = search needs
-
 returns : tie.Need-returns
 unfolding cartesianUnitsOf
 returns c =
@@ -25,4 +19,4 @@ returns c =
     cc
 
 pub cartesian-units-spec : {M : Type 1} → statement M
-cartesian-units-spec = tie.close (tie.spec cartesian-metres-requires in-units-requires returns)
+cartesian-units-spec = tie.close (tie.spec (search needs) (search needs) returns)

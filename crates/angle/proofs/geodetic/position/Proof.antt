@@ -35,37 +35,16 @@ module _ (c : tie.Start) where
 int-to-float-radians : tie.Need-int-to-float-radians
 int-to-float-radians c = read-back (c .before .args .latitude) (c .before .fits .latitude) (latitude (c .before))
 
-radians-requires : tie.Need-radians-requires
-radians-requires c κs = search needs
-
 sub-radians : tie.Need-sub-radians
 sub-radians c = rw (same (c .before .before)) (past-fits (c .before .before))
 
 int-to-float-radians-2 : tie.Need-int-to-float-radians-2
 int-to-float-radians-2 c = let a = c .before .before .before in rw (same a) (read-back _ (past-fits a) (past.past-float (a .args .longitude) (a .pre .1)))
 
-radians-requires-2 : tie.Need-radians-requires-2
-radians-requires-2 c κs = search needs
-
-sine-requires : tie.Need-sine-requires
-sine-requires c κs = search needs
-
-cosine-requires : tie.Need-cosine-requires
-cosine-requires c κs = search needs
-
 int-to-float-h : tie.Need-int-to-float-h
 int-to-float-h c =
     let a = c .before .before .before .before .before .before .before in
     read-back (a .args .height) (a .fits .height) (height a)
-
-sine-requires-2 : tie.Need-sine-requires-2
-sine-requires-2 c κs = search needs
-
-cosine-requires-2 : tie.Need-cosine-requires-2
-cosine-requires-2 c κs = search needs
-
-prime-vertical-requires : tie.Need-prime-vertical-requires
-prime-vertical-requires c κs = search needs
 
 returns : tie.Need-returns
 unfolding cartesianAt radians round ofBits
@@ -80,16 +59,5 @@ returns c =
 pub position-spec : {M : Type 1} → statement M
 position-spec =
     tie.close
-    (tie.spec
-    int-to-float-radians
-    radians-requires
-    sub-radians
-    int-to-float-radians-2
-    radians-requires-2
-    sine-requires
-    cosine-requires
-    int-to-float-h
-    sine-requires-2
-    cosine-requires-2
-    prime-vertical-requires
-    returns)
+    (tie.spec int-to-float-radians (search needs) sub-radians int-to-float-radians-2 (search needs) (search needs) (search needs) int-to-float-h
+    (search needs) (search needs) (search needs) returns)

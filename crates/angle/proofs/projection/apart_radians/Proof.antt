@@ -39,9 +39,6 @@ int-to-float-radians c =
     let a = c .before in
     subst (λ (z : ℤ). T (inFloat binary64 (toZ w64 (ofZ w64 z)))) (sym (same a)) (read-back (apart a) (apart-fits a) (apart-float a))
 
-radians-requires : tie.Need-radians-requires
-radians-requires c κs = search needs
-
 returns : tie.Need-returns
 unfolding radians
 returns c =
@@ -51,4 +48,4 @@ returns c =
     cc
 
 pub apart-radians-spec : {M : Type 1} → statement M
-apart-radians-spec = tie.close (tie.spec sub-radians int-to-float-radians radians-requires returns)
+apart-radians-spec = tie.close (tie.spec sub-radians int-to-float-radians (search needs) returns)

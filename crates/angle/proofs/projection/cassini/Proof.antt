@@ -36,10 +36,6 @@ module _ (o : OriginNumbers) (lat lon : ℤ) where
   unfolding cassiniOf originFault
   by-point h = ap (λ (f : ℕ). unless f Refused laid) (sym (on (originTests o) (pointTests (o .longitude) lat lon) (passed (originTests o) tt h)))
 
--- ---- the faults on the way
-origin-fault-requires : tie.Need-origin-fault-requires
-origin-fault-requires c κs = search needs
-
 returns : tie.Need-returns
 returns c =
     let d = c .before in
@@ -49,9 +45,6 @@ returns c =
 
 sound : (c : tie.Else1) → originFault (c .before .before .args .o) ≡ 0
 sound c = sym (c .before .origin-fault .ensures) ∙ c .if1 .left
-
-point-fault-requires : tie.Need-point-fault-requires
-point-fault-requires c κs = search needs
 
 module _ (c : tie.After-point-fault) where
   point : ℕ
@@ -102,10 +95,4 @@ returns-3 c =
 pub cassini-spec : {M : Type 1} → statement M
 cassini-spec =
     tie.close
-    (tie.spec
-    origin-fault-requires
-    returns
-    point-fault-requires
-    returns-2
-    place-once-requires
-    returns-3)
+    (tie.spec (search needs) returns (search needs) returns-2 place-once-requires returns-3)

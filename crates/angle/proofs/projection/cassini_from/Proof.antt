@@ -14,9 +14,6 @@ use Rattle.angle.proofs.NoFault.{point-near}
 use Rattle.angle.proofs.projection.cassini_from.Statement.{statement}
 use Rattle.angle.proofs.projection.cassini_from.Tie as tie
 
-point-fault-requires : tie.Need-point-fault-requires
-point-fault-requires c κs = search needs
-
 module _ (c : tie.After-point-fault) where
   abbrev fault : ℕ
   fault = let a = c .before .before .args in first (pointTests (a .origin .longitude) (a .latitude) (a .longitude))
@@ -59,4 +56,4 @@ returns-2 c =
 
 pub cassini-from-spec : {M : Type 1} → statement M
 cassini-from-spec =
-    tie.close (tie.spec point-fault-requires returns place-requires returns-2)
+    tie.close (tie.spec (search needs) returns place-requires returns-2)

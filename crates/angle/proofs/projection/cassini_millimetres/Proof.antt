@@ -8,18 +8,6 @@ use Rattle.angle.proofs.Made.{by-refusal-millimetres, by-origin-millime
 use Rattle.angle.proofs.projection.cassini_millimetres.Statement.{statement}
 use Rattle.angle.proofs.projection.cassini_millimetres.Tie as tie
 
-make-origin-requires : tie.Need-make-origin-requires
-make-origin-requires c κs = search needs
-
-enum-known-n : tie.Need-enum-known-n
-enum-known-n c = search needs
-
-enum-known-made : tie.Need-enum-known-made
-enum-known-made c = search needs
-
-cassini-millimetres-from-requires : tie.Need-cassini-millimetres-from-requires
-cassini-millimetres-from-requires c κs = search needs
-
 returns : tie.Need-returns
 returns c =
     let a = c .before .before .before .before .args in
@@ -36,10 +24,4 @@ returns-2 c =
 pub cassini-millimetres-spec : {M : Type 1} → statement M
 cassini-millimetres-spec =
     tie.close
-    (tie.spec
-    make-origin-requires
-    enum-known-n
-    enum-known-made
-    cassini-millimetres-from-requires
-    returns
-    returns-2)
+    (tie.spec (search needs) (search needs) (search needs) (search needs) returns returns-2)

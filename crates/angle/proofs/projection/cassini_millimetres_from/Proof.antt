@@ -8,12 +8,6 @@ use Rattle.angle.specs.Cassini.{cassiniMillimetresFromOf}
 use Rattle.angle.proofs.projection.cassini_millimetres_from.Statement.{statement}
 use Rattle.angle.proofs.projection.cassini_millimetres_from.Tie as tie
 
-cassini-from-requires : tie.Need-cassini-from-requires
-cassini-from-requires c κs = search needs
-
-in-millimetres-requires : tie.Need-in-millimetres-requires
-in-millimetres-requires c κs = search needs
-
 returns : tie.Need-returns
 unfolding cassiniMillimetresFromOf
 returns c =
@@ -24,4 +18,4 @@ returns c =
 
 pub cassini-millimetres-from-spec : {M : Type 1} → statement M
 cassini-millimetres-from-spec =
-    tie.close (tie.spec cassini-from-requires in-millimetres-requires returns)
+    tie.close (tie.spec (search needs) (search needs) returns)

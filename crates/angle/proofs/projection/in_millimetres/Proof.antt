@@ -4,21 +4,6 @@ use Rattle.angle.specs.Cassini.{inMillimetres}
 use Rattle.angle.proofs.projection.in_millimetres.Statement.{statement}
 use Rattle.angle.proofs.projection.in_millimetres.Tie as tie
 
-enum-known-g : tie.Need-enum-known-g
-enum-known-g c = search needs
-
-enum-known-g-2 : tie.Need-enum-known-g-2
-enum-known-g-2 c = search needs
-
-round-places-requires : tie.Need-round-places-requires
-round-places-requires c κs = search needs
-
-round-places-requires-2 : tie.Need-round-places-requires-2
-round-places-requires-2 c κs = search needs
-
-both-requires : tie.Need-both-requires
-both-requires c κs = search needs
-
 returns : tie.Need-returns
 unfolding inMillimetres
 returns c = rw (c .before .g .given .1)
@@ -30,11 +15,4 @@ returns-2 c = rw (c .before .before .before .before .g2 .given .1) (cc)
 pub in-millimetres-spec : {M : Type 1} → statement M
 in-millimetres-spec =
     tie.close
-    (tie.spec
-    enum-known-g
-    enum-known-g-2
-    round-places-requires
-    round-places-requires-2
-    both-requires
-    returns
-    returns-2)
+    (tie.spec (search needs) (search needs) (search needs) (search needs) (search needs) returns returns-2)

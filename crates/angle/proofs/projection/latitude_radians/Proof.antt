@@ -17,9 +17,6 @@ int-to-float-radians c =
     let z = a .args .latitude in
     read-back z (a .fits .latitude) (in-float 2880000000 z tt (natural-upto (natural 0 z 2880000000 (a .pre))))
 
-radians-requires : tie.Need-radians-requires
-radians-requires c κs = search needs
-
 returns : tie.Need-returns
 unfolding radians
 returns c =
@@ -28,4 +25,4 @@ returns c =
     cc
 
 pub latitude-radians-spec : {M : Type 1} → statement M
-latitude-radians-spec = tie.close (tie.spec int-to-float-radians radians-requires returns)
+latitude-radians-spec = tie.close (tie.spec int-to-float-radians (search needs) returns)

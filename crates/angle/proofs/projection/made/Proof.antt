@@ -14,9 +14,6 @@ tests : (c : tie.Start) → Passed (originTests (c .args .o))
 unfolding originFault
 tests c = passed (originTests (c .args .o)) tt (c .pre .0)
 
-ellipsoid-requires : tie.Need-ellipsoid-requires
-ellipsoid-requires c κs = search needs
-
 metres-requires : tie.Need-metres-requires
 metres-requires c κs =
     let d = c .before .before .before in
@@ -42,4 +39,4 @@ returns c =
     cc (toZ-ofZ w64 (o .ellipsoid) p, toZ-ofZ w64 (o .longitude) r, toZ-ofZ w64 (o .«false_easting») s, toZ-ofZ w64 (o .«false_northing») t)
 
 pub made-spec : {M : Type 1} → statement M
-made-spec = tie.close (tie.spec ellipsoid-requires metres-requires metres-requires-2 returns)
+made-spec = tie.close (tie.spec (search needs) metres-requires metres-requires-2 returns)

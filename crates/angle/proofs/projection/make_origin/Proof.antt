@@ -15,9 +15,6 @@ use Rattle.angle.proofs.NoFault.{origin-latitude}
 use Rattle.angle.proofs.projection.make_origin.Statement.{statement}
 use Rattle.angle.proofs.projection.make_origin.Tie as tie
 
-origin-fault-requires : tie.Need-origin-fault-requires
-origin-fault-requires c κs = search needs
-
 returns : tie.Need-returns
 unfolding originOf
 returns c =
@@ -52,4 +49,4 @@ returns-2 c =
     ap Made (c .made .ensures) ∙ sym (unless-none (originFault o) Refused (Made (originMade o)) (sound d))
 
 pub make-origin-spec : {M : Type 1} → statement M
-make-origin-spec = tie.close (tie.spec origin-fault-requires returns origin-arc-requires made-requires returns-2)
+make-origin-spec = tie.close (tie.spec (search needs) returns origin-arc-requires made-requires returns-2)

@@ -11,12 +11,6 @@ use Rattle.angle.proofs.projection.origin_arc.Tie as tie
 latitude-radians-requires : tie.Need-latitude-radians-requires
 latitude-radians-requires c κs = rw (toZ-ofZ w64 (c .args .latitude) (c .fits .latitude)) (c .pre)
 
-ellipsoid-requires : tie.Need-ellipsoid-requires
-ellipsoid-requires c κs = search needs
-
-terms-of-requires : tie.Need-terms-of-requires
-terms-of-requires c κs = search needs
-
 meridian-arc-requires : tie.Need-meridian-arc-requires
 meridian-arc-requires c κs = c .terms-of .ensures ∙ sym (ap termsOf (c .before .ellipsoid .ensures))
 
@@ -29,4 +23,4 @@ returns c =
 
 pub origin-arc-spec : {M : Type 1} → statement M
 origin-arc-spec =
-    tie.close (tie.spec latitude-radians-requires ellipsoid-requires terms-of-requires meridian-arc-requires returns)
+    tie.close (tie.spec latitude-radians-requires (search needs) (search needs) meridian-arc-requires returns)

@@ -11,15 +11,6 @@ use Rattle.angle.proofs.projection.parallel_at.Tie as tie
 latitude-radians-requires : tie.Need-latitude-radians-requires
 latitude-radians-requires c κs = rw (toZ-ofZ w64 (c .args .latitude) (c .fits .latitude)) (c .pre)
 
-sine-requires : tie.Need-sine-requires
-sine-requires c κs = search needs
-
-cosine-requires : tie.Need-cosine-requires
-cosine-requires c κs = search needs
-
-prime-vertical-requires : tie.Need-prime-vertical-requires
-prime-vertical-requires c κs = search needs
-
 returns : tie.Need-returns
 unfolding parallelOf
 returns c =
@@ -29,4 +20,4 @@ returns c =
 
 pub parallel-at-spec : {M : Type 1} → statement M
 parallel-at-spec =
-    tie.close (tie.spec latitude-radians-requires sine-requires cosine-requires prime-vertical-requires returns)
+    tie.close (tie.spec latitude-radians-requires (search needs) (search needs) (search needs) returns)

@@ -11,9 +11,6 @@ use Rattle.angle.proofs.Arcs.{at-is}
 use Rattle.angle.proofs.projection.place.Statement.{statement}
 use Rattle.angle.proofs.projection.place.Tie as tie
 
-terms-from-requires : tie.Need-terms-from-requires
-terms-from-requires c κs = search needs
-
 parallel-at-requires : tie.Need-parallel-at-requires
 parallel-at-requires c κs =
     let a = c .before .before in
@@ -48,10 +45,4 @@ returns c =
 pub place-spec : {M : Type 1} → statement M
 place-spec =
     tie.close
-    (tie.spec
-    terms-from-requires
-    parallel-at-requires
-    meridian-arc-requires
-    apart-radians-requires
-    lay-requires
-    returns)
+    (tie.spec (search needs) parallel-at-requires meridian-arc-requires apart-radians-requires lay-requires returns)

@@ -34,9 +34,6 @@ made-requires c κs =
     let e = ap₂ (λ (y z : ℤ). meridianArc (ellipsoidOf y) (radians z)) (toZ-ofZ w64 (o .ellipsoid) f) (toZ-ofZ w64 (o .latitude) g) in
     (a .pre .0, c .origin-arc .ensures ∙ e)
 
-terms-of-requires : tie.Need-terms-of-requires
-terms-of-requires c κs = search needs
-
 parallel-at-requires : tie.Need-parallel-at-requires
 parallel-at-requires c κs =
     let a = c .before .before .before .before .before .before .before in
@@ -85,12 +82,4 @@ returns c =
 pub place-once-spec : {M : Type 1} → statement M
 place-once-spec =
     tie.close
-    (tie.spec
-    origin-arc-requires
-    made-requires
-    terms-of-requires
-    parallel-at-requires
-    meridian-arc-requires
-    apart-radians-requires
-    lay-requires
-    returns)
+    (tie.spec origin-arc-requires made-requires (search needs) parallel-at-requires meridian-arc-requires apart-radians-requires lay-requires returns)

@@ -20,9 +20,6 @@ use Rattle.angle.proofs.Wholes.{fits, sub-pos, apart-is}
 use Rattle.angle.proofs.projection.point_fault.Statement.{statement}
 use Rattle.angle.proofs.projection.point_fault.Tie as tie
 
-angles-fault-requires : tie.Need-angles-fault-requires
-angles-fault-requires c κs = search needs
-
 angles : (c : tie.After-angles-fault) → c .angles-fault .result ≡ first (angleTests (c .before .args .latitude) (c .before .args .longitude))
 unfolding anglesFault
 angles c =
@@ -77,9 +74,6 @@ sub-within c = subst (λ (z : ℤ). SFits w64 z) (sym (west c)) (west-fits c)
 add-within : tie.Need-add-within
 add-within c = subst (λ (z : ℤ). SFits w64 z) (sym (east c)) (east-fits c)
 
-within-requires : tie.Need-within-requires
-within-requires c κs = search needs
-
 apart : (c : tie.After-within) (t : Bool) → c .within .result ≡ t
     → nearby (c .before .before .before .args .longitude) (c .before .before .before .args .origin) ≡ t
 apart c t h =
@@ -108,4 +102,4 @@ returns-3 c =
 
 pub point-fault-spec : {M : Type 1} → statement M
 point-fault-spec =
-    tie.close (tie.spec angles-fault-requires returns sub-within add-within within-requires returns-2 returns-3)
+    tie.close (tie.spec (search needs) returns sub-within add-within (search needs) returns-2 returns-3)

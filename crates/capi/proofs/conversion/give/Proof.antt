@@ -10,15 +10,6 @@ use Rattle.capi.specs.Chains.{pointNumbers}
 use Rattle.capi.proofs.conversion.give.Statement.{statement}
 use Rattle.capi.proofs.conversion.give.Tie as tie
 
-enum-known-answer : tie.Need-enum-known-answer
-enum-known-answer c = search needs
-
-status-requires : tie.Need-status-requires
-status-requires c κs = search needs
-
-enum-known-answer-2 : tie.Need-enum-known-answer-2
-enum-known-answer-2 c = search needs
-
 -- the room there is
 room : (c : tie.After-struct-told7) → length (c .before .before .before .before .before .before .before .before .before .before .args .out .now) ≡ 7
 room c = c .before .before .before .before .before .before .before .before .before .before .pre
@@ -63,17 +54,5 @@ returns-2 c =
 pub give-spec : {M : Type 1} → statement M
 give-spec =
     tie.close
-    (tie.spec
-    enum-known-answer
-    status-requires
-    enum-known-answer-2
-    slice-set-from-issue
-    slice-set-from-order
-    slice-set-from-datum
-    slice-set-from-epoch
-    slice-set-from-x
-    slice-set-from-y
-    slice-set-from-z
-    returns
-    same-length
-    returns-2)
+    (tie.spec (λ c. search needs) (λ c κs. search needs) (λ c. search needs) slice-set-from-issue slice-set-from-order slice-set-from-datum
+    slice-set-from-epoch slice-set-from-x slice-set-from-y slice-set-from-z returns same-length returns-2)

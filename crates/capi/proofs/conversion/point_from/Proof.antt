@@ -5,27 +5,6 @@ use Rattle.rounding.proofs.Machine.{told}
 use Rattle.capi.proofs.conversion.point_from.Statement.{statement}
 use Rattle.capi.proofs.conversion.point_from.Tie as tie
 
-shared-slice-copy-out-t4 : tie.Need-shared-slice-copy-out-t4
-shared-slice-copy-out-t4 c = search needs
-
-shared-slice-copy-out-t6 : tie.Need-shared-slice-copy-out-t6
-shared-slice-copy-out-t6 c = search needs
-
-shared-slice-copy-out-t9 : tie.Need-shared-slice-copy-out-t9
-shared-slice-copy-out-t9 c = search needs
-
-shared-slice-copy-out-t11 : tie.Need-shared-slice-copy-out-t11
-shared-slice-copy-out-t11 c = search needs
-
-shared-slice-copy-out-t14 : tie.Need-shared-slice-copy-out-t14
-shared-slice-copy-out-t14 c = search needs
-
-shared-slice-copy-out-t16 : tie.Need-shared-slice-copy-out-t16
-shared-slice-copy-out-t16 c = search needs
-
-shared-slice-copy-out-t18 : tie.Need-shared-slice-copy-out-t18
-shared-slice-copy-out-t18 c = search needs
-
 returns : tie.Need-returns
 unfolding pointFrom
 returns c =
@@ -38,12 +17,5 @@ returns c =
 pub point-from-spec : {M : Type 1} → statement M
 point-from-spec =
     tie.close
-    (tie.spec
-    shared-slice-copy-out-t4
-    shared-slice-copy-out-t6
-    shared-slice-copy-out-t9
-    shared-slice-copy-out-t11
-    shared-slice-copy-out-t14
-    shared-slice-copy-out-t16
-    shared-slice-copy-out-t18
+    (tie.spec (λ c. search needs) (λ c. search needs) (λ c. search needs) (λ c. search needs) (λ c. search needs) (λ c. search needs) (λ c. search needs)
     returns)

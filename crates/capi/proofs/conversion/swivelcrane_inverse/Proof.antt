@@ -9,40 +9,22 @@ use Rattle.capi.proofs.Conversions.{sizes, unsized, converted}
 use Rattle.capi.proofs.conversion.swivelcrane_inverse.Statement.{statement}
 use Rattle.capi.proofs.conversion.swivelcrane_inverse.Tie as tie
 
-are-sized-requires : tie.Need-are-sized-requires
-are-sized-requires c κs = search needs
-
 returns : tie.Need-returns
 returns c = let s = c .before .before .args in unsized inverseOf (s .profile) (s .chain .now) (s .point .now) (s .out .now) (sym (c .before .are-sized .ensures) ∙ not-true _ (c .if1 .taken))
 
 point-from-requires : tie.Need-point-from-requires
 point-from-requires c κs = let e = sizes _ _ _ (sym (c .before .are-sized .ensures) ∙ not-false _ (c .if1 .left)) .0 in omega (arith, e)
 
-inverse-by-requires : tie.Need-inverse-by-requires
-inverse-by-requires c κs = search needs
-
 give-requires : tie.Need-give-requires
 give-requires c κs = sizes _ _ _ (sym (c .before .before .before .before .are-sized .ensures) ∙ not-false _ (c .before .before .before .if1 .left)) .1
 
-same-length : tie.Need-same-length
-same-length c = search needs
-
 returns-2 : tie.Need-returns-2
 returns-2 c =
-    let c4 = c .before .before .before .before in
-    let start = c4 .before .before .before in
-    let s = start .args in
-    converted inverseOf (s .profile) (s .chain .now) (s .point .now) (s .out .now) (sym (c4 .before .before .are-sized .ensures) ∙ not-false _ (c4 .before .if1 .left))
-    (rd (start .fits .profile)) (c4 .point-from .ensures) (c .before .before .before .inverse-by .ensures) (c .before .give .ensures) (told (c .before .give .ok))
+    let sized = c .before .before .before .before .before in
+    converted inverseOf _ _ _ _ (sym (sized .before .are-sized .ensures) ∙ not-false _ (sized .if1 .left))
+    (rd (sized .before .before .fits .profile)) (c .before .before .before .before .point-from .ensures) (c .before .before .before .inverse-by .ensures) (c .before .give .ensures) (told (c .before .give .ok))
 
 pub swivelcrane-inverse-spec : {M : Type 1} → statement M
 swivelcrane-inverse-spec =
     tie.close
-    (tie.spec
-    are-sized-requires
-    returns
-    point-from-requires
-    inverse-by-requires
-    give-requires
-    same-length
-    returns-2)
+    (tie.spec (λ c κs. search needs) returns point-from-requires (λ c κs. search needs) give-requires (λ c. search needs) returns-2)

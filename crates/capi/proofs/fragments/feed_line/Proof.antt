@@ -22,34 +22,10 @@ sub-last c =
     let s = c .before .before .before in
     omega (arith, fed-some (s .args .fragment .now) (s .args .end) (s .pre .6))
 
-bytes-from-requires : tie.Need-bytes-from-requires
-bytes-from-requires c κs = search needs
-
-slice-aggregate-keep-bytes : tie.Need-slice-aggregate-keep-bytes
-slice-aggregate-keep-bytes c = search needs
-
-kept-in-requires : tie.Need-kept-in-requires
-kept-in-requires c κs = search needs
-
 slice-aggregate-keep-bytes-2 : tie.Need-slice-aggregate-keep-bytes-2
 slice-aggregate-keep-bytes-2 c =
     let s = c .before .before .before .before .before .before .before .before .before in
     sym (length-take-le (s .args .end - 1) (s .args .fragment .now) (omega (arith, within-line (s .args .fragment .now) (s .args .end) (s .pre .5))))
-
-keep-bytes-requires : tie.Need-keep-bytes-requires
-keep-bytes-requires c κs = search needs
-
-array-write-room : tie.Need-array-write-room
-array-write-room c = search needs
-
-array-read-if2 : tie.Need-array-read-if2
-array-read-if2 c = search needs
-
-can-come-requires : tie.Need-can-come-requires
-can-come-requires c κs = search needs
-
-add-room : tie.Need-add-room
-add-room c = search needs
 
 -- the room is as long as it was, and a line feed fits
 has-room : (c : tie.Then1) → c .before .before .keep-bytes .result + 1 ≤ length (set (c .before .before .keep-bytes .last .0) (c .before .before .keep-bytes .result) 10)
@@ -87,18 +63,6 @@ feed-point-requires c κs =
       ap (λ (x : ℕ). eqb x 80) (getD-take (k .keep-bytes .result + 1) (set (k .keep-bytes .last .0) (k .keep-bytes .result) 10) 0 0 (omega arith)) ∙ p .0,
     )
 
-same-length : tie.Need-same-length
-same-length c = search needs
-
-same-length-2 : tie.Need-same-length-2
-same-length-2 c = search needs
-
-same-length-3 : tie.Need-same-length-3
-same-length-3 c = search needs
-
-same-length-4 : tie.Need-same-length-4
-same-length-4 c = search needs
-
 -- so what is handed over is the line that ends
 fed : (c : tie.After-told) → endsWith (streamFrom (c .before .before .before .before .before .before .before .before .before .before .before .before .before .before .before .before .before .before .before .before .before .before .before .before .before .before .before .args .numbers .now) (c .before .before .before .before .before .before .before .before .before .before .before .before .before .before .before .before .before .before .before .before .before .before .before .before .before .before .before .args .bytes .now)) (take (c .before .before .before .before .before .before .before .before .before .before .before .before .before .before .before .before .before .keep-bytes .result + 1) (set (c .before .before .before .before .before .before .before .before .before .before .before .before .before .before .before .before .before .keep-bytes .last .0) (c .before .before .before .before .before .before .before .before .before .before .before .before .before .before .before .before .before .keep-bytes .result) lineFeed)) (c .before .before .before .before .before .before .before .before .before .before .before .before .before .before .before .before .before .before .before .before .before .before .before .before .before .before .before .args .end) false ≡ feedOf (streamFrom (c .before .before .before .before .before .before .before .before .before .before .before .before .before .before .before .before .before .before .before .before .before .before .before .before .before .before .before .args .numbers .now) (c .before .before .before .before .before .before .before .before .before .before .before .before .before .before .before .before .before .before .before .before .before .before .before .before .before .before .before .args .bytes .now)) (c .before .before .before .before .before .before .before .before .before .before .before .before .before .before .before .before .before .before .before .before .before .before .before .before .before .before .before .args .fragment .now)
 fed c =
@@ -113,49 +77,10 @@ returns : tie.Need-returns
 returns c =
     rw (told (c .before .before .before .before .before .before .feed-point .ok), ← fed c) (c .before .before .before .before .before .before .feed-point .ensures)
 
-feed-value-requires : tie.Need-feed-value-requires
-feed-value-requires c κs = search needs
-
-same-length-5 : tie.Need-same-length-5
-same-length-5 c = search needs
-
-same-length-6 : tie.Need-same-length-6
-same-length-6 c = search needs
-
-same-length-7 : tie.Need-same-length-7
-same-length-7 c = search needs
-
-same-length-8 : tie.Need-same-length-8
-same-length-8 c = search needs
-
-returns-2 : tie.Need-returns-2
-returns-2 c = search needs
-
 pub feed-line-spec : {M : Type 1} → statement M
 feed-line-spec =
     tie.close
-    (tie.spec
-    sub-last
-    bytes-from-requires
-    slice-aggregate-keep-bytes
-    kept-in-requires
-    slice-aggregate-keep-bytes-2
-    keep-bytes-requires
-    array-write-room
-    array-read-if2
-    can-come-requires
-    add-room
-    array-share-prefix-room
-    slice-aggregate-feed-point
-    feed-point-requires
-    same-length
-    same-length-2
-    same-length-3
-    same-length-4
-    returns
-    feed-value-requires
-    same-length-5
-    same-length-6
-    same-length-7
-    same-length-8
-    returns-2)
+    (tie.spec sub-last (λ c κs. search needs) (λ c. search needs) (λ c κs. search needs) slice-aggregate-keep-bytes-2 (λ c κs. search needs)
+    (λ c. search needs) (λ c. search needs) (λ c κs. search needs) (λ c. search needs) array-share-prefix-room slice-aggregate-feed-point
+    feed-point-requires (λ c. search needs) (λ c. search needs) (λ c. search needs) (λ c. search needs) returns (λ c κs. search needs)
+    (λ c. search needs) (λ c. search needs) (λ c. search needs) (λ c. search needs) (λ c. search needs))

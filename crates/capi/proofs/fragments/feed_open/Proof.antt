@@ -15,15 +15,6 @@ use borrow.Author.Needs.{needs}
 use Rattle.capi.proofs.fragments.feed_open.Statement.{statement}
 use Rattle.capi.proofs.fragments.feed_open.Tie as tie
 
-is-answered-requires : tie.Need-is-answered-requires
-is-answered-requires c κs = search needs
-
-minus-requires : tie.Need-minus-requires
-minus-requires c κs = search needs
-
-same-length : tie.Need-same-length
-same-length c = search needs
-
 returns : tie.Need-returns
 returns c =
     let s = c .before .before .before .before .before .before in
@@ -31,39 +22,12 @@ returns c =
     (answered-as (s .args .numbers .now) (s .args .bytes .now) (s .pre .0) (s .pre .1) false (sym (not-true _ (c .before .if1 .taken)) ∙ c .before .before .is-answered .ensures))
     (told (c .minus .ok) ∙ c .minus .ensures)
 
-kept-in-requires : tie.Need-kept-in-requires
-kept-in-requires c κs = search needs
-
-keep-bytes-requires : tie.Need-keep-bytes-requires
-keep-bytes-requires c κs = search needs
-
-cast-numbers : tie.Need-cast-numbers
-cast-numbers c = search needs
-
-slice-set-from-told : tie.Need-slice-set-from-told
-slice-set-from-told c = search needs
-
 -- a slice has fewer bytes than an i64 counts, and the first line lies in the fragment
 short : (s : tie.Start) → s .args .end < 9223372036854775808
 short s = omega (arith, s .good .1 .1 .0 .1, within-line (s .args .fragment .now) (s .args .end) (s .pre .4))
 
 cast-told : tie.Need-cast-told
 cast-told c = fits 9223372036854775807 (omega (arith, short (c .before .before .before .before .before .before .before .before .before .before .before))) (lit< tt)
-
-slice-set-from-told-2 : tie.Need-slice-set-from-told-2
-slice-set-from-told-2 c = search needs
-
-slice-set-of-told : tie.Need-slice-set-of-told
-slice-set-of-told c = search needs
-
-same-length-2 : tie.Need-same-length-2
-same-length-2 c = search needs
-
-same-length-3 : tie.Need-same-length-3
-same-length-3 c = search needs
-
-same-length-4 : tie.Need-same-length-4
-same-length-4 c = search needs
 
 returns-2 : tie.Need-returns-2
 returns-2 c =
@@ -78,19 +42,5 @@ returns-2 c =
 pub feed-open-spec : {M : Type 1} → statement M
 feed-open-spec =
     tie.close
-    (tie.spec
-    is-answered-requires
-    minus-requires
-    same-length
-    returns
-    kept-in-requires
-    keep-bytes-requires
-    cast-numbers
-    slice-set-from-told
-    cast-told
-    slice-set-from-told-2
-    slice-set-of-told
-    same-length-2
-    same-length-3
-    same-length-4
-    returns-2)
+    (tie.spec (λ c κs. search needs) (λ c κs. search needs) (λ c. search needs) returns (λ c κs. search needs) (λ c κs. search needs) (λ c. search needs)
+    (λ c. search needs) cast-told (λ c. search needs) (λ c. search needs) (λ c. search needs) (λ c. search needs) (λ c. search needs) returns-2)

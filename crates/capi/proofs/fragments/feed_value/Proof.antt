@@ -14,12 +14,6 @@ use borrow.Author.Needs.{needs}
 use Rattle.capi.proofs.fragments.feed_value.Statement.{statement}
 use Rattle.capi.proofs.fragments.feed_value.Tie as tie
 
-stream-from-requires : tie.Need-stream-from-requires
-stream-from-requires c κs = search needs
-
-feed-requires : tie.Need-feed-requires
-feed-requires c κs = search needs
-
 -- what the library answers
 answer : (c : tie.After-feed) → c .feed .result ≡ feedOf (streamFrom (c .before .before .before .before .before .before .before .args .numbers .now) (c .before .before .before .before .before .before .before .args .bytes .now)) (c .before .before .before .before .before .before .before .args .fragment .now)
 answer c = c .feed .ensures ∙ ap (λ (x : Stream). feedOf x (c .before .before .before .before .before .before .before .args .fragment .now)) (c .before .stream-from .ensures)
@@ -42,18 +36,6 @@ give-requires c κs =
     let x = streamFrom (n .numbers .now) (n .bytes .now) in
     (s .pre .0, s .pre .1, s .pre .2, s .pre .3, rw (answer a) (fed-countable x (n .fragment .now) k), rw (answer a) (fed-short x (n .fragment .now) k))
 
-same-length : tie.Need-same-length
-same-length c = search needs
-
-same-length-2 : tie.Need-same-length-2
-same-length-2 c = search needs
-
-same-length-3 : tie.Need-same-length-3
-same-length-3 c = search needs
-
-same-length-4 : tie.Need-same-length-4
-same-length-4 c = search needs
-
 returns : tie.Need-returns
 returns c =
     let g = c .before .before .before .before .before in
@@ -63,13 +45,5 @@ returns c =
 pub feed-value-spec : {M : Type 1} → statement M
 feed-value-spec =
     tie.close
-    (tie.spec
-    stream-from-requires
-    feed-requires
-    tell-requires
-    give-requires
-    same-length
-    same-length-2
-    same-length-3
-    same-length-4
-    returns)
+    (tie.spec (λ c κs. search needs) (λ c κs. search needs) tell-requires give-requires (λ c. search needs) (λ c. search needs) (λ c. search needs)
+    (λ c. search needs) returns)

@@ -15,9 +15,6 @@ use borrow.Author.Needs.{needs}
 use Rattle.capi.proofs.fragments.swivelcrane_feed.Statement.{statement}
 use Rattle.capi.proofs.fragments.swivelcrane_feed.Tie as tie
 
-are-sized-requires : tie.Need-are-sized-requires
-are-sized-requires c κs = search needs
-
 returns : tie.Need-returns
 returns c =
     let s = c .before .before .before .before .before .args in
@@ -40,12 +37,6 @@ two-told c =
 in-range-requires : tie.Need-in-range-requires
 in-range-requires c κs = parts (c .before) .state
 
-minus-requires : tie.Need-minus-requires
-minus-requires c κs = search needs
-
-same-length : tie.Need-same-length
-same-length c = search needs
-
 returns-2 : tie.Need-returns-2
 returns-2 c =
     let s = c .before .before .before .before .before .before .before .before .before .args in
@@ -60,25 +51,10 @@ returns-2 c =
 good : (c : tie.Else2) → stateRange (c .before .before .before .before .before .before .before .before .args .numbers .now) ≡ true
 good c = sym (c .before .in-range .ensures) ∙ not-false _ (c .if2 .left)
 
-line-end-requires : tie.Need-line-end-requires
-line-end-requires c κs = search needs
-
-is-fed-requires : tie.Need-is-fed-requires
-is-fed-requires c κs = search needs
-
 feed-open-requires : tie.Need-feed-open-requires
 feed-open-requires c κs =
     let p = parts (c .before .before .before .before .before .before .before .before .before) in
     (p .state, good (c .before .before .before .before .before .before), p .line, two-told (c .before .before .before .before .before .before .before .before .before), c .before .before .before .before .before .line-end .ensures, sym (c .before .before .before .before .is-fed .ensures) ∙ not-true _ (c .before .before .before .if3 .taken))
-
-same-length-2 : tie.Need-same-length-2
-same-length-2 c = search needs
-
-same-length-3 : tie.Need-same-length-3
-same-length-3 c = search needs
-
-same-length-4 : tie.Need-same-length-4
-same-length-4 c = search needs
 
 returns-3 : tie.Need-returns-3
 returns-3 c =
@@ -95,18 +71,6 @@ feed-line-requires : tie.Need-feed-line-requires
 feed-line-requires c κs =
     let p = parts (c .before .before .before .before .before .before .before .before .before .before) in
     (p .state, good (c .before .before .before .before .before .before .before), p .line, p .room, two-told (c .before .before .before .before .before .before .before .before .before .before), c .before .before .before .before .before .before .line-end .ensures, sym (c .before .before .before .before .before .is-fed .ensures) ∙ not-false _ (c .before .before .before .before .if3 .left))
-
-same-length-5 : tie.Need-same-length-5
-same-length-5 c = search needs
-
-same-length-6 : tie.Need-same-length-6
-same-length-6 c = search needs
-
-same-length-7 : tie.Need-same-length-7
-same-length-7 c = search needs
-
-same-length-8 : tie.Need-same-length-8
-same-length-8 c = search needs
 
 returns-4 : tie.Need-returns-4
 returns-4 c =
@@ -125,23 +89,6 @@ returns-4 c =
 pub swivelcrane-feed-spec : {M : Type 1} → statement M
 swivelcrane-feed-spec =
     tie.close
-    (tie.spec
-    are-sized-requires
-    returns
-    in-range-requires
-    minus-requires
-    same-length
-    returns-2
-    line-end-requires
-    is-fed-requires
-    feed-open-requires
-    same-length-2
-    same-length-3
-    same-length-4
-    returns-3
-    feed-line-requires
-    same-length-5
-    same-length-6
-    same-length-7
-    same-length-8
-    returns-4)
+    (tie.spec (λ c κs. search needs) returns in-range-requires (λ c κs. search needs) (λ c. search needs) returns-2 (λ c κs. search needs)
+    (λ c κs. search needs) feed-open-requires (λ c. search needs) (λ c. search needs) (λ c. search needs) returns-3 feed-line-requires
+    (λ c. search needs) (λ c. search needs) (λ c. search needs) (λ c. search needs) returns-4)

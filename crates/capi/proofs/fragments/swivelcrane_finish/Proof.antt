@@ -12,9 +12,6 @@ use borrow.Author.Needs.{needs}
 use Rattle.capi.proofs.fragments.swivelcrane_finish.Statement.{statement}
 use Rattle.capi.proofs.fragments.swivelcrane_finish.Tie as tie
 
-are-sized-requires : tie.Need-are-sized-requires
-are-sized-requires c κs = search needs
-
 returns : tie.Need-returns
 returns c =
     let s = c .before .before .before .before .args in
@@ -30,12 +27,6 @@ parts c = sized-parts _ _ _ (sized c)
 in-range-requires : tie.Need-in-range-requires
 in-range-requires c κs = parts (c .before) .state
 
-minus-requires : tie.Need-minus-requires
-minus-requires c κs = search needs
-
-same-length : tie.Need-same-length
-same-length c = search needs
-
 returns-2 : tie.Need-returns-2
 returns-2 c =
     let s = c .before .before .before .before .before .before .before .before .args in
@@ -47,9 +38,6 @@ good c = sym (c .before .in-range .ensures) ∙ not-false _ (c .if2 .left)
 
 stream-from-requires : tie.Need-stream-from-requires
 stream-from-requires c κs = (parts (c .before .before .before .before .before) .state, parts (c .before .before .before .before .before) .line, good (c .before .before))
-
-finish-requires : tie.Need-finish-requires
-finish-requires c κs = search needs
 
 -- what the library answers
 answer : (c : tie.After-finish) → c .finish .result ≡ finishOf (streamFrom (c .before .before .before .before .before .before .before .before .before .before .before .args .numbers .now) (c .before .before .before .before .before .before .before .before .before .before .before .args .bytes .now))
@@ -63,15 +51,6 @@ give-requires c κs =
     let k = countable (s .numbers .now) (s .bytes .now) (p .state) (good (c .before .before .before .before .before .before .before)) in
     (p .state, good (c .before .before .before .before .before .before .before), p .line, p .room, rw (answer (c .before .before .before)) (finished-countable x k), rw (answer (c .before .before .before)) (finished-short x k))
 
-same-length-2 : tie.Need-same-length-2
-same-length-2 c = search needs
-
-same-length-3 : tie.Need-same-length-3
-same-length-3 c = search needs
-
-same-length-4 : tie.Need-same-length-4
-same-length-4 c = search needs
-
 returns-3 : tie.Need-returns-3
 returns-3 c =
     let s = c .before .before .before .before .before .before .before .before .before .before .before .before .before .before .before .before .before .before .before .before .args in
@@ -80,17 +59,5 @@ returns-3 c =
 pub swivelcrane-finish-spec : {M : Type 1} → statement M
 swivelcrane-finish-spec =
     tie.close
-    (tie.spec
-    are-sized-requires
-    returns
-    in-range-requires
-    minus-requires
-    same-length
-    returns-2
-    stream-from-requires
-    finish-requires
-    give-requires
-    same-length-2
-    same-length-3
-    same-length-4
-    returns-3)
+    (tie.spec (λ c κs. search needs) returns in-range-requires (λ c κs. search needs) (λ c. search needs) returns-2 stream-from-requires
+    (λ c κs. search needs) give-requires (λ c. search needs) (λ c. search needs) (λ c. search needs) returns-3)

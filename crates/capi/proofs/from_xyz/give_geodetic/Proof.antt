@@ -7,29 +7,8 @@ use Rattle.rounding.proofs.Machine.{told}
 use Rattle.capi.proofs.from_xyz.give_geodetic.Statement.{statement}
 use Rattle.capi.proofs.from_xyz.give_geodetic.Tie as tie
 
-enum-known-answer : tie.Need-enum-known-answer
-enum-known-answer c = search needs
-
-status-requires : tie.Need-status-requires
-status-requires c κs = search needs
-
-enum-known-answer-2 : tie.Need-enum-known-answer-2
-enum-known-answer-2 c = search needs
-
-slice-set-from-latitude : tie.Need-slice-set-from-latitude
-slice-set-from-latitude c = search needs
-
-slice-set-from-longitude : tie.Need-slice-set-from-longitude
-slice-set-from-longitude c = search needs
-
-slice-set-from-height : tie.Need-slice-set-from-height
-slice-set-from-height c = search needs
-
 returns : tie.Need-returns
 returns c = declined (ap ofGeodetic (c .before .before .answer .given .1)) (told (c .status .ok) ∙ c .status .ensures)
-
-same-length : tie.Need-same-length
-same-length c = search needs
 
 returns-2 : tie.Need-returns-2
 returns-2 c = numbers (ap ofGeodetic (c .before .answer2 .given .1)) (search needs) (c .before .before .before .pre)
@@ -37,13 +16,5 @@ returns-2 c = numbers (ap ofGeodetic (c .before .answer2 .given .1)) (search nee
 pub give-geodetic-spec : {M : Type 1} → statement M
 give-geodetic-spec =
     tie.close
-    (tie.spec
-    enum-known-answer
-    status-requires
-    enum-known-answer-2
-    slice-set-from-latitude
-    slice-set-from-longitude
-    slice-set-from-height
-    returns
-    same-length
-    returns-2)
+    (tie.spec (λ c. search needs) (λ c κs. search needs) (λ c. search needs) (λ c. search needs) (λ c. search needs) (λ c. search needs) returns
+    (λ c. search needs) returns-2)

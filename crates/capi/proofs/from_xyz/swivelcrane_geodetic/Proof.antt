@@ -13,15 +13,6 @@ returns : tie.Need-returns
 unfolding geodeticCall
 returns c = wrong (rw (ne-eqb _ _ (c .if1 .taken)))
 
-geodetic-units-requires : tie.Need-geodetic-units-requires
-geodetic-units-requires c κs = search needs
-
-give-geodetic-requires : tie.Need-give-geodetic-requires
-give-geodetic-requires c κs = search needs
-
-same-length : tie.Need-same-length
-same-length c = search needs
-
 returns-2 : tie.Need-returns-2
 unfolding geodeticCall
 returns-2 c =
@@ -33,4 +24,4 @@ returns-2 c =
 
 pub swivelcrane-geodetic-spec : {M : Type 1} → statement M
 swivelcrane-geodetic-spec =
-    tie.close (tie.spec returns geodetic-units-requires give-geodetic-requires same-length returns-2)
+    tie.close (tie.spec returns (λ c κs. search needs) (λ c κs. search needs) (λ c. search needs) returns-2)

@@ -13,15 +13,6 @@ returns : tie.Need-returns
 unfolding cartesianCall
 returns c = wrong (rw (ne-eqb _ _ (c .if1 .taken)))
 
-cartesian-metres-requires : tie.Need-cartesian-metres-requires
-cartesian-metres-requires c κs = search needs
-
-give-metres-requires : tie.Need-give-metres-requires
-give-metres-requires c κs = search needs
-
-same-length : tie.Need-same-length
-same-length c = search needs
-
 returns-2 : tie.Need-returns-2
 unfolding cartesianCall
 returns-2 c =
@@ -35,4 +26,4 @@ returns-2 c =
 pub swivelcrane-cartesian-spec : {M : Type 1} → statement M
 swivelcrane-cartesian-spec =
     tie.close
-    (tie.spec returns cartesian-metres-requires give-metres-requires same-length returns-2)
+    (tie.spec returns (λ c κs. search needs) (λ c κs. search needs) (λ c. search needs) returns-2)

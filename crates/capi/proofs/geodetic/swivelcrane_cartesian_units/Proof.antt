@@ -13,15 +13,6 @@ returns : tie.Need-returns
 unfolding unitsCall
 returns c = wrong (rw (ne-eqb _ _ (c .if1 .taken)))
 
-cartesian-units-requires : tie.Need-cartesian-units-requires
-cartesian-units-requires c κs = search needs
-
-give-units-requires : tie.Need-give-units-requires
-give-units-requires c κs = search needs
-
-same-length : tie.Need-same-length
-same-length c = search needs
-
 returns-2 : tie.Need-returns-2
 unfolding unitsCall
 returns-2 c =
@@ -33,4 +24,4 @@ returns-2 c =
 
 pub swivelcrane-cartesian-units-spec : {M : Type 1} → statement M
 swivelcrane-cartesian-units-spec =
-    tie.close (tie.spec returns cartesian-units-requires give-units-requires same-length returns-2)
+    tie.close (tie.spec returns (λ c κs. search needs) (λ c κs. search needs) (λ c. search needs) returns-2)

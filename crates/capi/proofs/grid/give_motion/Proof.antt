@@ -10,15 +10,6 @@ use Rattle.capi.proofs.Laws.{declined, numbers}
 use Rattle.capi.proofs.grid.give_motion.Statement.{statement}
 use Rattle.capi.proofs.grid.give_motion.Tie as tie
 
-enum-known-answer : tie.Need-enum-known-answer
-enum-known-answer c = search needs
-
-status-requires : tie.Need-status-requires
-status-requires c κs = search needs
-
-enum-known-answer-2 : tie.Need-enum-known-answer-2
-enum-known-answer-2 c = search needs
-
 -- the room there is
 room : (c : tie.After-struct-told6) → length (c .before .before .before .before .before .before .before .before .before .args .out .now) ≡ 16
 room c = c .before .before .before .before .before .before .before .before .before .pre
@@ -92,26 +83,6 @@ returns-2 c =
 pub give-motion-spec : {M : Type 1} → statement M
 give-motion-spec =
     tie.close
-    (tie.spec
-    enum-known-answer
-    status-requires
-    enum-known-answer-2
-    slice-set-from-east
-    slice-set-from-north
-    slice-set-from-up
-    slice-set-of-out
-    slice-set-of-out-2
-    slice-set-from-datum
-    slice-set-from-before
-    slice-set-from-datum-2
-    slice-set-from-after
-    slice-set-from-x
-    slice-set-from-y
-    slice-set-from-z
-    slice-set-of-out-3
-    slice-set-of-out-4
-    slice-set-of-out-5
-    slice-set-of-out-6
-    returns
-    same-length
-    returns-2)
+    (tie.spec (λ c. search needs) (λ c κs. search needs) (λ c. search needs) slice-set-from-east slice-set-from-north slice-set-from-up slice-set-of-out
+    slice-set-of-out-2 slice-set-from-datum slice-set-from-before slice-set-from-datum-2 slice-set-from-after slice-set-from-x slice-set-from-y
+    slice-set-from-z slice-set-of-out-3 slice-set-of-out-4 slice-set-of-out-5 slice-set-of-out-6 returns same-length returns-2)

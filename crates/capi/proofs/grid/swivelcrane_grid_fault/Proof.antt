@@ -12,18 +12,6 @@ returns : tie.Need-returns
 unfolding gridFaultCall
 returns c = wrong (rw (ne-eqb _ _ (c .if1 .taken)))
 
-check-grid-requires : tie.Need-check-grid-requires
-check-grid-requires c κs = search needs
-
-fault-in-requires : tie.Need-fault-in-requires
-fault-in-requires c κs = search needs
-
-give-grid-fault-requires : tie.Need-give-grid-fault-requires
-give-grid-fault-requires c κs = search needs
-
-same-length : tie.Need-same-length
-same-length c = search needs
-
 returns-2 : tie.Need-returns-2
 unfolding gridFaultCall
 returns-2 c =
@@ -34,4 +22,4 @@ returns-2 c =
 
 pub swivelcrane-grid-fault-spec : {M : Type 1} → statement M
 swivelcrane-grid-fault-spec =
-    tie.close (tie.spec returns check-grid-requires fault-in-requires give-grid-fault-requires same-length returns-2)
+    tie.close (tie.spec returns (λ c κs. search needs) (λ c κs. search needs) (λ c κs. search needs) (λ c. search needs) returns-2)

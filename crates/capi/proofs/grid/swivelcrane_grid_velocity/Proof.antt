@@ -26,15 +26,6 @@ returns : tie.Need-returns
 unfolding gridVelocityCall
 returns c = wrong (rw (ne-eqb _ _ (c .if1 .taken)))
 
-motion-at-requires : tie.Need-motion-at-requires
-motion-at-requires c κs = search needs
-
-give-motion-requires : tie.Need-give-motion-requires
-give-motion-requires c κs = search needs
-
-same-length : tie.Need-same-length
-same-length c = search needs
-
 returns-2 : tie.Need-returns-2
 unfolding gridVelocityCall
 returns-2 c =
@@ -48,4 +39,4 @@ returns-2 c =
     (told (c .before .give-motion .ok))
 
 pub swivelcrane-grid-velocity-spec : {M : Type 1} → statement M
-swivelcrane-grid-velocity-spec = tie.close (tie.spec returns motion-at-requires give-motion-requires same-length returns-2)
+swivelcrane-grid-velocity-spec = tie.close (tie.spec returns (λ c κs. search needs) (λ c κs. search needs) (λ c. search needs) returns-2)

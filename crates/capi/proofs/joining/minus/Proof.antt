@@ -18,9 +18,6 @@ read c = toZ-pos w64 (c .args .number) (search needs)
 small : (c : tie.Start) → SFits w64 (negℤ (pos (c .args .number)))
 small c = fits (c .args .number) (omega (arith, abs-neg (pos (c .args .number)))) (search needs)
 
-cast-result : tie.Need-cast-result
-cast-result c = search needs
-
 sub-result : tie.Need-sub-result
 sub-result c = fit0- (read c) (small c)
 
@@ -28,4 +25,4 @@ returns : tie.Need-returns
 returns c = rd0- (read c) (small c)
 
 pub minus-spec : {M : Type 1} → statement M
-minus-spec = tie.close (tie.spec cast-result sub-result returns)
+minus-spec = tie.close (tie.spec (λ c. search needs) sub-result returns)

@@ -20,22 +20,10 @@ use Rattle.capi.proofs.Joinings.{whole, few, unsized, refused-call, giv
 use Rattle.capi.proofs.joining.swivelcrane_join.Statement.{statement}
 use Rattle.capi.proofs.joining.swivelcrane_join.Tie as tie
 
-are-sized-requires : tie.Need-are-sized-requires
-are-sized-requires c κs = search needs
-
 returns : tie.Need-returns
 returns c =
     let s = c .before .before .args in
     unsized (s .first-profile) (s .second-profile) (s .first .now) (s .second .now) (s .out .now) (sym (c .before .are-sized .ensures) ∙ not-true _ (c .if1 .taken))
-
-chain-from-requires : tie.Need-chain-from-requires
-chain-from-requires c κs = search needs
-
-chain-from-requires-2 : tie.Need-chain-from-requires-2
-chain-from-requires-2 c κs = search needs
-
-join-requires : tie.Need-join-requires
-join-requires c κs = search needs
 
 -- the two chains joined
 module _ (c : tie.After-join) where
@@ -75,9 +63,6 @@ module _ (c : tie.After-join) where
       let w = whole (length rows) (length more) (length room) sized in
       omega (arith, w .2, few one two rows more (w .0) (w .1) (ap (λ (j : Joined). j .refusal) (sym is) ∙ e))
 
-minus-requires : tie.Need-minus-requires
-minus-requires c κs = search needs
-
 returns-2 : tie.Need-returns-2
 returns-2 c =
     let j = c .before .before in
@@ -92,15 +77,6 @@ copy-requires-2 c κs =
     let j = d .before .before .before in
     omega (arith, fit j (d .before .before .if2 .left), ap length (d .copy .ensures), length-sets (room j) 0 (rows j))
 
-add-result : tie.Need-add-result
-add-result c = search needs
-
-cast-result : tie.Need-cast-result
-cast-result c = search needs
-
-same-length : tie.Need-same-length
-same-length c = search needs
-
 returns-3 : tie.Need-returns-3
 returns-3 c =
     let d = c .before .before .before .before in
@@ -112,17 +88,5 @@ returns-3 c =
 pub swivelcrane-join-spec : {M : Type 1} → statement M
 swivelcrane-join-spec =
     tie.close
-    (tie.spec
-    are-sized-requires
-    returns
-    chain-from-requires
-    chain-from-requires-2
-    join-requires
-    minus-requires
-    returns-2
-    copy-requires
-    copy-requires-2
-    add-result
-    cast-result
-    same-length
-    returns-3)
+    (tie.spec (λ c κs. search needs) returns (λ c κs. search needs) (λ c κs. search needs) (λ c κs. search needs) (λ c κs. search needs) returns-2
+    copy-requires copy-requires-2 (λ c. search needs) (λ c. search needs) (λ c. search needs) returns-3)

@@ -6,27 +6,6 @@ use Rattle.capi.proofs.Laws.{numbers}
 use Rattle.capi.proofs.later.give_fault.Statement.{statement}
 use Rattle.capi.proofs.later.give_fault.Tie as tie
 
-status-requires : tie.Need-status-requires
-status-requires c κs = search needs
-
-status-requires-2 : tie.Need-status-requires-2
-status-requires-2 c κs = search needs
-
-status-requires-3 : tie.Need-status-requires-3
-status-requires-3 c κs = search needs
-
-slice-set-from-number : tie.Need-slice-set-from-number
-slice-set-from-number c = search needs
-
-slice-set-from-line : tie.Need-slice-set-from-line
-slice-set-from-line c = search needs
-
-slice-set-from-place : tie.Need-slice-set-from-place
-slice-set-from-place c = search needs
-
-same-length : tie.Need-same-length
-same-length c = search needs
-
 returns : tie.Need-returns
 returns c =
     let c2 = c .before in
@@ -36,12 +15,5 @@ returns c =
 pub give-fault-spec : {M : Type 1} → statement M
 give-fault-spec =
     tie.close
-    (tie.spec
-    status-requires
-    status-requires-2
-    status-requires-3
-    slice-set-from-number
-    slice-set-from-line
-    slice-set-from-place
-    same-length
-    returns)
+    (tie.spec (λ c κs. search needs) (λ c κs. search needs) (λ c κs. search needs) (λ c. search needs) (λ c. search needs) (λ c. search needs)
+    (λ c. search needs) returns)

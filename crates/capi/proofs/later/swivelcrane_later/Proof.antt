@@ -12,15 +12,6 @@ returns : tie.Need-returns
 unfolding laterCall
 returns c = wrong (rw (ne-eqb _ _ (c .if1 .taken)))
 
-later-verdict-requires : tie.Need-later-verdict-requires
-later-verdict-requires c κs = search needs
-
-give-requires : tie.Need-give-requires
-give-requires c κs = search needs
-
-same-length : tie.Need-same-length
-same-length c = search needs
-
 returns-2 : tie.Need-returns-2
 unfolding laterCall
 returns-2 c = by (c .before .give .ensures) (rw (eq-eqb _ _ (c .before .before .before .before .if1 .left)) (ap ofVerdict (sym (c .before .before .before .later-verdict .ensures))))
@@ -28,4 +19,4 @@ returns-2 c = by (c .before .give .ensures) (rw (eq-eqb _ _ (c .before .before .
 
 pub swivelcrane-later-spec : {M : Type 1} → statement M
 swivelcrane-later-spec =
-    tie.close (tie.spec returns later-verdict-requires give-requires same-length returns-2)
+    tie.close (tie.spec returns (λ c κs. search needs) (λ c κs. search needs) (λ c. search needs) returns-2)

@@ -12,15 +12,6 @@ returns : tie.Need-returns
 unfolding laterFaultCall
 returns c = wrong (rw (ne-eqb _ _ (c .if1 .taken)))
 
-later-fault-requires : tie.Need-later-fault-requires
-later-fault-requires c κs = search needs
-
-give-fault-requires : tie.Need-give-fault-requires
-give-fault-requires c κs = search needs
-
-same-length : tie.Need-same-length
-same-length c = search needs
-
 returns-2 : tie.Need-returns-2
 unfolding laterFaultCall
 returns-2 c = by (c .before .give-fault .ensures) (rw (eq-eqb _ _ (c .before .before .before .before .if1 .left)) (ap ofLaterFault (sym (c .before .before .before .later-fault .ensures))))
@@ -28,4 +19,4 @@ returns-2 c = by (c .before .give-fault .ensures) (rw (eq-eqb _ _ (c .before .be
 
 pub swivelcrane-later-fault-spec : {M : Type 1} → statement M
 swivelcrane-later-fault-spec =
-    tie.close (tie.spec returns later-fault-requires give-fault-requires same-length returns-2)
+    tie.close (tie.spec returns (λ c κs. search needs) (λ c κs. search needs) (λ c. search needs) returns-2)

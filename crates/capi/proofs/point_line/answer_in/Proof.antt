@@ -13,35 +13,14 @@ use borrow.Author.Needs.{needs}
 use Rattle.capi.proofs.point_line.answer_in.Statement.{statement}
 use Rattle.capi.proofs.point_line.answer_in.Tie as tie
 
-lines-in-requires : tie.Need-lines-in-requires
-lines-in-requires c κs = search needs
-
 add-line : tie.Need-add-line
 add-line c = omega (arith, c .lines-in .ensures .1)
-
-shared-slice-copy-out-flag : tie.Need-shared-slice-copy-out-flag
-shared-slice-copy-out-flag c = search needs
-
-flag-requires : tie.Need-flag-requires
-flag-requires c κs = search needs
-
-shared-slice-copy-out-profile : tie.Need-shared-slice-copy-out-profile
-shared-slice-copy-out-profile c = search needs
-
-steps-end-requires : tie.Need-steps-end-requires
-steps-end-requires c κs = search needs
 
 sub-answer-point : tie.Need-sub-answer-point
 sub-answer-point c = omega (arith, c .steps-end .ensures .0)
 
-part-answer-point-start : tie.Need-part-answer-point-start
-part-answer-point-start c = search needs
-
 part-answer-point-end : tie.Need-part-answer-point-end
 part-answer-point-end c = omega (arith, c .steps-end .ensures .1, c .before .before .before .before .before .before .pre .0)
-
-answer-point-requires : tie.Need-answer-point-requires
-answer-point-requires c κs = search needs
 
 returns : tie.Need-returns
 returns c =
@@ -53,15 +32,5 @@ returns c =
 pub answer-in-spec : {M : Type 1} → statement M
 answer-in-spec =
     tie.close
-    (tie.spec
-    lines-in-requires
-    add-line
-    shared-slice-copy-out-flag
-    flag-requires
-    shared-slice-copy-out-profile
-    steps-end-requires
-    sub-answer-point
-    part-answer-point-start
-    part-answer-point-end
-    answer-point-requires
-    returns)
+    (tie.spec (λ c κs. search needs) add-line (λ c. search needs) (λ c κs. search needs) (λ c. search needs) (λ c κs. search needs) sub-answer-point
+    (λ c. search needs) part-answer-point-end (λ c κs. search needs) returns)

@@ -10,18 +10,6 @@ use borrow.Author.Needs.{needs}
 use Rattle.capi.proofs.point_line.can_come.Statement.{statement}
 use Rattle.capi.proofs.point_line.can_come.Tie as tie
 
-shared-slice-copy-out-flag : tie.Need-shared-slice-copy-out-flag
-shared-slice-copy-out-flag c = search needs
-
-flag-requires : tie.Need-flag-requires
-flag-requires c κs = search needs
-
-lines-in-requires : tie.Need-lines-in-requires
-lines-in-requires c κs = search needs
-
-steps-in-requires : tie.Need-steps-in-requires
-steps-in-requires c κs = search needs
-
 returns : tie.Need-returns
 unfolding pointTime
 returns c =
@@ -31,4 +19,4 @@ returns c =
     (ap₂ leb (c .steps-in .ensures) (c .before .lines-in .ensures .0))
 
 pub can-come-spec : {M : Type 1} → statement M
-can-come-spec = tie.close (tie.spec shared-slice-copy-out-flag flag-requires lines-in-requires steps-in-requires returns)
+can-come-spec = tie.close (tie.spec (λ c. search needs) (λ c κs. search needs) (λ c κs. search needs) (λ c κs. search needs) returns)

@@ -15,45 +15,6 @@ use borrow.Author.Needs.{needs}
 use Rattle.capi.proofs.point_line.put_passed.Statement.{statement}
 use Rattle.capi.proofs.point_line.put_passed.Tie as tie
 
-lines-in-requires : tie.Need-lines-in-requires
-lines-in-requires c κs = search needs
-
-add-lines : tie.Need-add-lines
-add-lines c = search needs
-
-cast-lines : tie.Need-cast-lines
-cast-lines c = search needs
-
-slice-copy-out-flag : tie.Need-slice-copy-out-flag
-slice-copy-out-flag c = search needs
-
-flag-requires : tie.Need-flag-requires
-flag-requires c κs = search needs
-
-bit-requires : tie.Need-bit-requires
-bit-requires c κs = search needs
-
-slice-copy-out-t12 : tie.Need-slice-copy-out-t12
-slice-copy-out-t12 c = search needs
-
-slice-copy-out-t16 : tie.Need-slice-copy-out-t16
-slice-copy-out-t16 c = search needs
-
-slice-copy-out-t18 : tie.Need-slice-copy-out-t18
-slice-copy-out-t18 c = search needs
-
-slice-copy-out-t20 : tie.Need-slice-copy-out-t20
-slice-copy-out-t20 c = search needs
-
-slice-aggregate-copy : tie.Need-slice-aggregate-copy
-slice-aggregate-copy c = search needs
-
-copy-requires : tie.Need-copy-requires
-copy-requires c κs = search needs
-
-same-length : tie.Need-same-length
-same-length c = search needs
-
 returns : tie.Need-returns
 returns c =
     let bits = c .before .before .before .before .before .before .before .before in
@@ -68,18 +29,6 @@ returns c =
 pub put-passed-spec : {M : Type 1} → statement M
 put-passed-spec =
     tie.close
-    (tie.spec
-    lines-in-requires
-    add-lines
-    cast-lines
-    slice-copy-out-flag
-    flag-requires
-    bit-requires
-    slice-copy-out-t12
-    slice-copy-out-t16
-    slice-copy-out-t18
-    slice-copy-out-t20
-    slice-aggregate-copy
-    copy-requires
-    same-length
+    (tie.spec (λ c κs. search needs) (λ c. search needs) (λ c. search needs) (λ c. search needs) (λ c κs. search needs) (λ c κs. search needs)
+    (λ c. search needs) (λ c. search needs) (λ c. search needs) (λ c. search needs) (λ c. search needs) (λ c κs. search needs) (λ c. search needs)
     returns)

@@ -11,23 +11,8 @@ use Rattle.capi.proofs.Laws.{declined, given}
 use Rattle.capi.proofs.rounded.give.Statement.{statement}
 use Rattle.capi.proofs.rounded.give.Tie as tie
 
-enum-known-answer : tie.Need-enum-known-answer
-enum-known-answer c = search needs
-
-status-requires : tie.Need-status-requires
-status-requires c κs = search needs
-
-enum-known-answer-2 : tie.Need-enum-known-answer-2
-enum-known-answer-2 c = search needs
-
-slice-set-from-n : tie.Need-slice-set-from-n
-slice-set-from-n c = search needs
-
 returns : tie.Need-returns
 returns c = declined (ap ofRounded (c .before .before .answer .given .1)) (told (c .status .ok) ∙ c .status .ensures)
-
-same-length : tie.Need-same-length
-same-length c = search needs
 
 returns-2 : tie.Need-returns-2
 returns-2 c = numbers (ap ofRounded (c .before .answer2 .given .1)) (search needs) (c .before .before .before .pre)
@@ -35,11 +20,4 @@ returns-2 c = numbers (ap ofRounded (c .before .answer2 .given .1)) (search need
 pub give-spec : {M : Type 1} → statement M
 give-spec =
     tie.close
-    (tie.spec
-    enum-known-answer
-    status-requires
-    enum-known-answer-2
-    slice-set-from-n
-    returns
-    same-length
-    returns-2)
+    (tie.spec (λ c. search needs) (λ c κs. search needs) (λ c. search needs) (λ c. search needs) returns (λ c. search needs) returns-2)

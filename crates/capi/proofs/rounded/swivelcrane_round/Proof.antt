@@ -12,15 +12,6 @@ returns : tie.Need-returns
 unfolding roundCall
 returns c = wrong (rw (ne-eqb _ _ (c .if1 .taken)))
 
-round-places-requires : tie.Need-round-places-requires
-round-places-requires c κs = search needs
-
-give-requires : tie.Need-give-requires
-give-requires c κs = search needs
-
-same-length : tie.Need-same-length
-same-length c = search needs
-
 returns-2 : tie.Need-returns-2
 unfolding roundCall
 returns-2 c =
@@ -29,4 +20,4 @@ returns-2 c =
 
 pub swivelcrane-round-spec : {M : Type 1} → statement M
 swivelcrane-round-spec =
-    tie.close (tie.spec returns round-places-requires give-requires same-length returns-2)
+    tie.close (tie.spec returns (λ c κs. search needs) (λ c κs. search needs) (λ c. search needs) returns-2)

@@ -8,71 +8,23 @@ use Rattle.rounding.proofs.Machine.{rd}
 use Rattle.capi.proofs.row.put.Statement.{statement}
 use Rattle.capi.proofs.row.put.Tie as tie
 
-mul-number : tie.Need-mul-number
-mul-number c = search needs
-
-slice-set-from-number : tie.Need-slice-set-from-number
-slice-set-from-number c = search needs
-
-add-issue : tie.Need-add-issue
-add-issue c = search needs
-
-mul-issue : tie.Need-mul-issue
-mul-issue c = search needs
-
 slice-set-from-issue : tie.Need-slice-set-from-issue
 slice-set-from-issue c = simp length-set (omega (arith, c .pre))
-
-add-order : tie.Need-add-order
-add-order c = search needs
-
-mul-order : tie.Need-mul-order
-mul-order c = search needs
 
 slice-set-from-order : tie.Need-slice-set-from-order
 slice-set-from-order c = simp length-set (omega (arith, c .pre))
 
-add-datum : tie.Need-add-datum
-add-datum c = search needs
-
-mul-datum : tie.Need-mul-datum
-mul-datum c = search needs
-
 slice-set-from-datum : tie.Need-slice-set-from-datum
 slice-set-from-datum c = simp length-set (omega (arith, c .pre))
-
-add-epoch : tie.Need-add-epoch
-add-epoch c = search needs
-
-mul-epoch : tie.Need-mul-epoch
-mul-epoch c = search needs
 
 slice-set-from-epoch : tie.Need-slice-set-from-epoch
 slice-set-from-epoch c = simp length-set (omega (arith, c .pre))
 
-add-x : tie.Need-add-x
-add-x c = search needs
-
-mul-x : tie.Need-mul-x
-mul-x c = search needs
-
 slice-set-from-x : tie.Need-slice-set-from-x
 slice-set-from-x c = simp length-set (omega (arith, c .pre))
 
-add-y : tie.Need-add-y
-add-y c = search needs
-
-mul-y : tie.Need-mul-y
-mul-y c = search needs
-
 slice-set-from-y : tie.Need-slice-set-from-y
 slice-set-from-y c = simp length-set (omega (arith, c .pre))
-
-add-z : tie.Need-add-z
-add-z c = search needs
-
-mul-z : tie.Need-mul-z
-mul-z c = search needs
 
 slice-set-from-z : tie.Need-slice-set-from-z
 slice-set-from-z c = simp length-set (omega (arith, c .pre))
@@ -96,29 +48,7 @@ returns c =
 pub put-spec : {M : Type 1} → statement M
 put-spec =
     tie.close
-    (tie.spec
-    mul-number
-    slice-set-from-number
-    add-issue
-    mul-issue
-    slice-set-from-issue
-    add-order
-    mul-order
-    slice-set-from-order
-    add-datum
-    mul-datum
-    slice-set-from-datum
-    add-epoch
-    mul-epoch
-    slice-set-from-epoch
-    add-x
-    mul-x
-    slice-set-from-x
-    add-y
-    mul-y
-    slice-set-from-y
-    add-z
-    mul-z
-    slice-set-from-z
-    same-length
-    returns)
+    (tie.spec (λ c. search needs) (λ c. search needs) (λ c. search needs) (λ c. search needs) slice-set-from-issue (λ c. search needs) (λ c. search needs)
+    slice-set-from-order (λ c. search needs) (λ c. search needs) slice-set-from-datum (λ c. search needs) (λ c. search needs) slice-set-from-epoch
+    (λ c. search needs) (λ c. search needs) slice-set-from-x (λ c. search needs) (λ c. search needs) slice-set-from-y (λ c. search needs)
+    (λ c. search needs) slice-set-from-z same-length returns)

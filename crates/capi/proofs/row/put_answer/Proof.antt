@@ -10,23 +10,8 @@ use Rattle.capi.specs.PointRow.{placeOf}
 use Rattle.capi.proofs.row.put_answer.Statement.{statement}
 use Rattle.capi.proofs.row.put_answer.Tie as tie
 
-enum-known-answer : tie.Need-enum-known-answer
-enum-known-answer c = search needs
-
-status-requires : tie.Need-status-requires
-status-requires c κs = search needs
-
-put-requires : tie.Need-put-requires
-put-requires c κs = search needs
-
-enum-known-answer-2 : tie.Need-enum-known-answer-2
-enum-known-answer-2 c = search needs
-
 put-requires-2 : tie.Need-put-requires-2
 put-requires-2 c κs = c .before .before .before .before .before .before .before .before .before .before .before .pre
-
-same-length : tie.Need-same-length
-same-length c = search needs
 
 returns : tie.Need-returns
 returns c =
@@ -34,9 +19,6 @@ returns c =
     let s = st .before .before .before .before .before .args in
     c .before .put .ensures
     ∙ ap (sets (s .out .now) (s .at)) (ap (λ (z : ℤ). z ∷ pos 0 ∷ pos 0 ∷ pos 0 ∷ pos 0 ∷ pos 0 ∷ pos 0 ∷ pos 0 ∷ []) (told (st .status .ok) ∙ st .status .ensures) ∙ ap placeOf (sym (st .before .before .before .answer .given .1)))
-
-same-length-2 : tie.Need-same-length-2
-same-length-2 c = search needs
 
 -- 0 and a point's numbers, each as it is read
 point : {a b c d e f g a' b' c' d' e' f' g' : ℤ} → a ≡ a' → b ≡ b' → c ≡ c' → d ≡ d' → e ≡ e' → f ≡ f' → g ≡ g'
@@ -60,13 +42,5 @@ returns-2 c =
 pub put-answer-spec : {M : Type 1} → statement M
 put-answer-spec =
     tie.close
-    (tie.spec
-    enum-known-answer
-    status-requires
-    put-requires
-    enum-known-answer-2
-    put-requires-2
-    same-length
-    returns
-    same-length-2
-    returns-2)
+    (tie.spec (λ c. search needs) (λ c κs. search needs) (λ c κs. search needs) (λ c. search needs) put-requires-2 (λ c. search needs) returns
+    (λ c. search needs) returns-2)

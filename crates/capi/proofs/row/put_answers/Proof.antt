@@ -28,30 +28,6 @@ loop-holds c =
     let z : length (s .points .now) / 7 - 0 ≡ length (s .points .now) / 7 = omega arith in
     (omega arith, refl, ap (λ (n : ℕ). sets (s .out .now) 0 (answersOf (convertReady (s .ready) (s .direction)) n (s .points .now))) z)
 
-mul-point-from : tie.Need-mul-point-from Inv-loop μ-loop
-mul-point-from c = search needs
-
-mul-point-from-2 : tie.Need-mul-point-from-2 Inv-loop μ-loop
-mul-point-from-2 c = search needs
-
-sub-point-from : tie.Need-sub-point-from Inv-loop μ-loop
-sub-point-from c = search needs
-
-part-point-from-start : tie.Need-part-point-from-start Inv-loop μ-loop
-part-point-from-start c = search needs
-
-part-point-from-end : tie.Need-part-point-from-end Inv-loop μ-loop
-part-point-from-end c = search needs
-
-point-from-requires : tie.Need-point-from-requires Inv-loop μ-loop
-point-from-requires c κs = search needs
-
-convert-ready-requires : tie.Need-convert-ready-requires Inv-loop μ-loop
-convert-ready-requires c κs = search needs
-
-mul-put-answer : tie.Need-mul-put-answer Inv-loop μ-loop
-mul-put-answer c = search needs
-
 -- there is room for the answer
 room : (c : tie.After-put-answer-arg Inv-loop μ-loop) → 8 * c .before .before .before .before .before .loop .i + 8 ≤ length (c .before .before .before .before .before .loop .out)
 room c =
@@ -60,12 +36,6 @@ room c =
 
 put-answer-requires : tie.Need-put-answer-requires Inv-loop μ-loop
 put-answer-requires c κs = room c
-
-add-i : tie.Need-add-i Inv-loop μ-loop
-add-i c = search needs
-
-loop-less : tie.Need-loop-less Inv-loop μ-loop
-loop-less c = omega arith
 
 loop-again : tie.Need-loop-again Inv-loop μ-loop
 loop-again c =
@@ -98,21 +68,6 @@ returns c =
 pub put-answers-spec : {M : Type 1} → statement M
 put-answers-spec =
     tie.close
-    (tie.spec
-    Inv-loop
-    μ-loop
-    loop-holds
-    mul-point-from
-    mul-point-from-2
-    sub-point-from
-    part-point-from-start
-    part-point-from-end
-    point-from-requires
-    convert-ready-requires
-    mul-put-answer
-    put-answer-requires
-    add-i
-    loop-less
-    loop-again
-    same-length
-    returns)
+    (tie.spec Inv-loop μ-loop loop-holds (λ c. search needs) (λ c. search needs) (λ c. search needs) (λ c. search needs) (λ c. search needs)
+    (λ c κs. search needs) (λ c κs. search needs) (λ c. search needs) put-answer-requires (λ c. search needs) (λ c. omega arith) loop-again
+    same-length returns)

@@ -17,19 +17,10 @@ use Rattle.capi.proofs.PointRows.{unsized, refused-lent, room, refused-
 use Rattle.capi.proofs.row.swivelcrane_row.Statement.{statement}
 use Rattle.capi.proofs.row.swivelcrane_row.Tie as tie
 
-are-whole-requires : tie.Need-are-whole-requires
-are-whole-requires c κs = search needs
-
 returns : tie.Need-returns
 returns c =
     let s = c .before .before .args in
     unsized (s .profile) (s .direction) (s .chain .now) (s .points .now) (s .answers .now) (sym (c .before .are-whole .ensures) ∙ not-true _ (c .if1 .taken))
-
-lent-fault-requires : tie.Need-lent-fault-requires
-lent-fault-requires c κs = search needs
-
-status-requires : tie.Need-status-requires
-status-requires c κs = search needs
 
 -- whole rows, and what they are refused for before the chain
 module _ (c : tie.After-lent-fault) where
@@ -62,15 +53,6 @@ returns-2 c =
     let f = c .before .before in
     refused-lent (profile f) (direction f) (steps f) (points f) (answers f) (sized f) (λ e. c .before .if2 .taken (found f ∙ e)) (told (c .status .ok) ∙ c .status .ensures ∙ ap pos (found f))
 
-chain-from-requires : tie.Need-chain-from-requires
-chain-from-requires c κs = search needs
-
-ready-chain-requires : tie.Need-ready-chain-requires
-ready-chain-requires c κs = search needs
-
-status-requires-2 : tie.Need-status-requires-2
-status-requires-2 c κs = search needs
-
 -- the chain made ready, where nothing was refused before it
 module _ (c : tie.After-ready-chain) where
   abbrev at : tie.After-lent-fault
@@ -88,17 +70,11 @@ returns-3 c =
     let f = at w in
     refused-chain (profile f) (direction f) (steps f) (points f) (answers f) (sized f) (good w) (ready-fault (chainFrom (profile f) (steps f)) (ready w)) (c .before .if3 .taken) (told (c .status2 .ok) ∙ c .status2 .ensures)
 
-direction-from-requires : tie.Need-direction-from-requires
-direction-from-requires c κs = search needs
-
 put-answers-requires : tie.Need-put-answers-requires
 put-answers-requires c κs =
     let w = c .before .before .before in
     let f = at w in
     room (profile f) (direction f) (steps f) (points f) (answers f) (sized f) (good w)
-
-same-length : tie.Need-same-length
-same-length c = search needs
 
 returns-4 : tie.Need-returns-4
 returns-4 c =
@@ -111,17 +87,5 @@ returns-4 c =
 pub swivelcrane-row-spec : {M : Type 1} → statement M
 swivelcrane-row-spec =
     tie.close
-    (tie.spec
-    are-whole-requires
-    returns
-    lent-fault-requires
-    status-requires
-    returns-2
-    chain-from-requires
-    ready-chain-requires
-    status-requires-2
-    returns-3
-    direction-from-requires
-    put-answers-requires
-    same-length
-    returns-4)
+    (tie.spec (λ c κs. search needs) returns (λ c κs. search needs) (λ c κs. search needs) returns-2 (λ c κs. search needs) (λ c κs. search needs)
+    (λ c κs. search needs) returns-3 (λ c κs. search needs) put-answers-requires (λ c. search needs) returns-4)

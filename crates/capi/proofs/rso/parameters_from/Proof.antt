@@ -5,30 +5,6 @@ use Rattle.capi.specs.Rso.{parametersFrom}
 use Rattle.capi.proofs.rso.parameters_from.Statement.{statement}
 use Rattle.capi.proofs.rso.parameters_from.Tie as tie
 
-shared-slice-copy-out-t3 : tie.Need-shared-slice-copy-out-t3
-shared-slice-copy-out-t3 c = search needs
-
-shared-slice-copy-out-t5 : tie.Need-shared-slice-copy-out-t5
-shared-slice-copy-out-t5 c = search needs
-
-shared-slice-copy-out-t7 : tie.Need-shared-slice-copy-out-t7
-shared-slice-copy-out-t7 c = search needs
-
-shared-slice-copy-out-t9 : tie.Need-shared-slice-copy-out-t9
-shared-slice-copy-out-t9 c = search needs
-
-shared-slice-copy-out-t11 : tie.Need-shared-slice-copy-out-t11
-shared-slice-copy-out-t11 c = search needs
-
-shared-slice-copy-out-t13 : tie.Need-shared-slice-copy-out-t13
-shared-slice-copy-out-t13 c = search needs
-
-shared-slice-copy-out-t15 : tie.Need-shared-slice-copy-out-t15
-shared-slice-copy-out-t15 c = search needs
-
-shared-slice-copy-out-t17 : tie.Need-shared-slice-copy-out-t17
-shared-slice-copy-out-t17 c = search needs
-
 returns : tie.Need-returns
 unfolding parametersFrom
 returns c =
@@ -37,13 +13,5 @@ returns c =
 pub parameters-from-spec : {M : Type 1} → statement M
 parameters-from-spec =
     tie.close
-    (tie.spec
-    shared-slice-copy-out-t3
-    shared-slice-copy-out-t5
-    shared-slice-copy-out-t7
-    shared-slice-copy-out-t9
-    shared-slice-copy-out-t11
-    shared-slice-copy-out-t13
-    shared-slice-copy-out-t15
-    shared-slice-copy-out-t17
-    returns)
+    (tie.spec (λ c. search needs) (λ c. search needs) (λ c. search needs) (λ c. search needs) (λ c. search needs) (λ c. search needs) (λ c. search needs)
+    (λ c. search needs) returns)

@@ -23,18 +23,6 @@ returns-2 : tie.Need-returns-2
 unfolding rsoForwardCall
 returns-2 c = wrong (rw (eq-eqb _ _ (c .before .if1 .left), ne-eqb _ _ (c .if2 .taken)))
 
-parameters-from-requires : tie.Need-parameters-from-requires
-parameters-from-requires c κs = search needs
-
-forward-requires : tie.Need-forward-requires
-forward-requires c κs = search needs
-
-give-metres-requires : tie.Need-give-metres-requires
-give-metres-requires c κs = search needs
-
-same-length : tie.Need-same-length
-same-length c = search needs
-
 returns-3 : tie.Need-returns-3
 unfolding rsoForwardCall
 returns-3 c =
@@ -44,4 +32,4 @@ returns-3 c =
     (told (c .before .before .give-metres .ok))
 
 pub swivelcrane-rso-forward-spec : {M : Type 1} → statement M
-swivelcrane-rso-forward-spec = tie.close (tie.spec returns returns-2 parameters-from-requires forward-requires give-metres-requires same-length returns-3)
+swivelcrane-rso-forward-spec = tie.close (tie.spec returns returns-2 (λ c κs. search needs) (λ c κs. search needs) (λ c κs. search needs) (λ c. search needs) returns-3)

@@ -22,18 +22,6 @@ returns-2 : tie.Need-returns-2
 unfolding rsoReverseCall
 returns-2 c = wrong (rw (eq-eqb _ _ (c .before .if1 .left), ne-eqb _ _ (c .if2 .taken)))
 
-parameters-from-requires : tie.Need-parameters-from-requires
-parameters-from-requires c κs = search needs
-
-reverse-requires : tie.Need-reverse-requires
-reverse-requires c κs = search needs
-
-give-angles-requires : tie.Need-give-angles-requires
-give-angles-requires c κs = search needs
-
-same-length : tie.Need-same-length
-same-length c = search needs
-
 returns-3 : tie.Need-returns-3
 unfolding rsoReverseCall
 returns-3 c =
@@ -43,4 +31,4 @@ returns-3 c =
     (told (c .before .give-angles .ok))
 
 pub swivelcrane-rso-reverse-spec : {M : Type 1} → statement M
-swivelcrane-rso-reverse-spec = tie.close (tie.spec returns returns-2 parameters-from-requires reverse-requires give-angles-requires same-length returns-3)
+swivelcrane-rso-reverse-spec = tie.close (tie.spec returns returns-2 (λ c κs. search needs) (λ c κs. search needs) (λ c κs. search needs) (λ c. search needs) returns-3)

@@ -8,23 +8,11 @@ use borrow.Author.Needs.{needs}
 use Rattle.capi.proofs.state.chain_in.Statement.{statement}
 use Rattle.capi.proofs.state.chain_in.Tie as tie
 
-shared-slice-copy-out-profile : tie.Need-shared-slice-copy-out-profile
-shared-slice-copy-out-profile c = search needs
-
-steps-end-requires : tie.Need-steps-end-requires
-steps-end-requires c κs = search needs
-
 sub-chain-from : tie.Need-sub-chain-from
 sub-chain-from c = omega (arith, c .steps-end .ensures .0)
 
-part-chain-from-start : tie.Need-part-chain-from-start
-part-chain-from-start c = search needs
-
 part-chain-from-end : tie.Need-part-chain-from-end
 part-chain-from-end c = omega (arith, c .steps-end .ensures .1, c .before .before .pre .0)
-
-chain-from-requires : tie.Need-chain-from-requires
-chain-from-requires c κs = search needs
 
 returns : tie.Need-returns
 returns c =
@@ -32,4 +20,4 @@ returns c =
     c .chain-from .ensures ∙ chain-read n (told {z = number n 5} (c .before .before .before .profile .given)) (c .before .before .steps-end .ensures .0)
 
 pub chain-in-spec : {M : Type 1} → statement M
-chain-in-spec = tie.close (tie.spec shared-slice-copy-out-profile steps-end-requires sub-chain-from part-chain-from-start part-chain-from-end chain-from-requires returns)
+chain-in-spec = tie.close (tie.spec (λ c. search needs) (λ c κs. search needs) sub-chain-from (λ c. search needs) part-chain-from-end (λ c κs. search needs) returns)

@@ -4,18 +4,6 @@ use borrow.Author.Needs.{needs}
 use Rattle.capi.proofs.state.convention_number.Statement.{statement}
 use Rattle.capi.proofs.state.convention_number.Tie as tie
 
-enum-told : tie.Need-enum-told
-enum-told c = search needs
-
-cast-result : tie.Need-cast-result
-cast-result c = search needs
-
-enum-told-2 : tie.Need-enum-told-2
-enum-told-2 c = search needs
-
-cast-result-2 : tie.Need-cast-result-2
-cast-result-2 c = search needs
-
 returns : tie.Need-returns
 returns c = rw (c .enum-told .given .1)
 
@@ -23,4 +11,4 @@ returns-2 : tie.Need-returns-2
 returns-2 c = rw (c .enum-told2 .given .1)
 
 pub convention-number-spec : {M : Type 1} → statement M
-convention-number-spec = tie.close (tie.spec enum-told cast-result enum-told-2 cast-result-2 returns returns-2)
+convention-number-spec = tie.close (tie.spec (λ c. search needs) (λ c. search needs) (λ c. search needs) (λ c. search needs) returns returns-2)

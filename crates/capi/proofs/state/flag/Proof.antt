@@ -8,11 +8,8 @@ use borrow.Author.Needs.{needs}
 use Rattle.capi.proofs.state.flag.Statement.{statement}
 use Rattle.capi.proofs.state.flag.Tie as tie
 
-equal-requires : tie.Need-equal-requires
-equal-requires c κs = search needs
-
 returns : tie.Need-returns
 returns c = ap not (c .equal .ensures ∙ ap (equal (pos 0)) (rd (c .before .fits .n)))
 
 pub flag-spec : {M : Type 1} → statement M
-flag-spec = tie.close (tie.spec equal-requires returns)
+flag-spec = tie.close (tie.spec (λ c κs. search needs) returns)

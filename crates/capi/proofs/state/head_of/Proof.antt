@@ -9,27 +9,6 @@ use borrow.Author.Needs.{needs}
 use Rattle.capi.proofs.state.head_of.Statement.{statement}
 use Rattle.capi.proofs.state.head_of.Tie as tie
 
-sub-lines : tie.Need-sub-lines
-sub-lines c = search needs
-
-cast-lines : tie.Need-cast-lines
-cast-lines c = search needs
-
-cast-kept : tie.Need-cast-kept
-cast-kept c = search needs
-
-bit-requires : tie.Need-bit-requires
-bit-requires c κs = search needs
-
-bit-requires-2 : tie.Need-bit-requires-2
-bit-requires-2 c κs = search needs
-
-bit-requires-3 : tie.Need-bit-requires-3
-bit-requires-3 c κs = search needs
-
-cast-steps : tie.Need-cast-steps
-cast-steps c = search needs
-
 returns : tie.Need-returns
 returns c =
     let p = c .before .before .before .before .before .before .before .before .before .pre in
@@ -41,12 +20,5 @@ returns c =
 pub head-of-spec : {M : Type 1} → statement M
 head-of-spec =
     tie.close
-    (tie.spec
-    sub-lines
-    cast-lines
-    cast-kept
-    bit-requires
-    bit-requires-2
-    bit-requires-3
-    cast-steps
-    returns)
+    (tie.spec (λ c. search needs) (λ c. search needs) (λ c. search needs) (λ c κs. search needs) (λ c κs. search needs) (λ c κs. search needs)
+    (λ c. search needs) returns)

@@ -9,42 +9,6 @@ use borrow.Author.Needs.{needs}
 use Rattle.capi.proofs.state.in_range.Statement.{statement}
 use Rattle.capi.proofs.state.in_range.Tie as tie
 
-shared-slice-copy-out-within : tie.Need-shared-slice-copy-out-within
-shared-slice-copy-out-within c = search needs
-
-within-requires : tie.Need-within-requires
-within-requires c κs = search needs
-
-shared-slice-copy-out-within-2 : tie.Need-shared-slice-copy-out-within-2
-shared-slice-copy-out-within-2 c = search needs
-
-within-requires-2 : tie.Need-within-requires-2
-within-requires-2 c κs = search needs
-
-shared-slice-copy-out-within-3 : tie.Need-shared-slice-copy-out-within-3
-shared-slice-copy-out-within-3 c = search needs
-
-within-requires-3 : tie.Need-within-requires-3
-within-requires-3 c κs = search needs
-
-shared-slice-copy-out-is-flag : tie.Need-shared-slice-copy-out-is-flag
-shared-slice-copy-out-is-flag c = search needs
-
-is-flag-requires : tie.Need-is-flag-requires
-is-flag-requires c κs = search needs
-
-shared-slice-copy-out-is-flag-2 : tie.Need-shared-slice-copy-out-is-flag-2
-shared-slice-copy-out-is-flag-2 c = search needs
-
-is-flag-requires-2 : tie.Need-is-flag-requires-2
-is-flag-requires-2 c κs = search needs
-
-shared-slice-copy-out-is-flag-3 : tie.Need-shared-slice-copy-out-is-flag-3
-shared-slice-copy-out-is-flag-3 c = search needs
-
-is-flag-requires-3 : tie.Need-is-flag-requires-3
-is-flag-requires-3 c κs = search needs
-
 returns : tie.Need-returns
 unfolding stateRange
 returns c =
@@ -60,17 +24,5 @@ returns c =
 pub in-range-spec : {M : Type 1} → statement M
 in-range-spec =
     tie.close
-    (tie.spec
-    shared-slice-copy-out-within
-    within-requires
-    shared-slice-copy-out-within-2
-    within-requires-2
-    shared-slice-copy-out-within-3
-    within-requires-3
-    shared-slice-copy-out-is-flag
-    is-flag-requires
-    shared-slice-copy-out-is-flag-2
-    is-flag-requires-2
-    shared-slice-copy-out-is-flag-3
-    is-flag-requires-3
-    returns)
+    (tie.spec (λ c. search needs) (λ c κs. search needs) (λ c. search needs) (λ c κs. search needs) (λ c. search needs) (λ c κs. search needs)
+    (λ c. search needs) (λ c κs. search needs) (λ c. search needs) (λ c κs. search needs) (λ c. search needs) (λ c κs. search needs) returns)

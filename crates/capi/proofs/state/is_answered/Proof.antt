@@ -11,35 +11,14 @@ use borrow.Author.Needs.{needs}
 use Rattle.capi.proofs.state.is_answered.Statement.{statement}
 use Rattle.capi.proofs.state.is_answered.Tie as tie
 
-shared-slice-copy-out-flag : tie.Need-shared-slice-copy-out-flag
-shared-slice-copy-out-flag c = search needs
-
-flag-requires : tie.Need-flag-requires
-flag-requires c κs = search needs
-
-lines-in-requires : tie.Need-lines-in-requires
-lines-in-requires c κs = search needs
-
 add-line : tie.Need-add-line
 add-line c = omega (arith, c .lines-in .ensures .1)
-
-shared-slice-copy-out-profile : tie.Need-shared-slice-copy-out-profile
-shared-slice-copy-out-profile c = search needs
-
-steps-end-requires : tie.Need-steps-end-requires
-steps-end-requires c κs = search needs
 
 sub-is-sound-at : tie.Need-sub-is-sound-at
 sub-is-sound-at c = omega (arith, c .steps-end .ensures .0)
 
-part-is-sound-at-start : tie.Need-part-is-sound-at-start
-part-is-sound-at-start c = search needs
-
 part-is-sound-at-end : tie.Need-part-is-sound-at-end
 part-is-sound-at-end c = omega (arith, c .steps-end .ensures .1, c .before .before .before .before .before .pre .0)
-
-is-sound-at-requires : tie.Need-is-sound-at-requires
-is-sound-at-requires c κs = search needs
 
 returns : tie.Need-returns
 returns c =
@@ -51,15 +30,5 @@ returns c =
 pub is-answered-spec : {M : Type 1} → statement M
 is-answered-spec =
     tie.close
-    (tie.spec
-    shared-slice-copy-out-flag
-    flag-requires
-    lines-in-requires
-    add-line
-    shared-slice-copy-out-profile
-    steps-end-requires
-    sub-is-sound-at
-    part-is-sound-at-start
-    part-is-sound-at-end
-    is-sound-at-requires
-    returns)
+    (tie.spec (λ c. search needs) (λ c κs. search needs) (λ c κs. search needs) add-line (λ c. search needs) (λ c κs. search needs) sub-is-sound-at
+    (λ c. search needs) part-is-sound-at-end (λ c κs. search needs) returns)

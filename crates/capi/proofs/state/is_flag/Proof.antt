@@ -6,11 +6,8 @@ use borrow.Author.Needs.{needs}
 use Rattle.capi.proofs.state.is_flag.Statement.{statement}
 use Rattle.capi.proofs.state.is_flag.Tie as tie
 
-within-requires : tie.Need-within-requires
-within-requires c κs = search needs
-
 returns : tie.Need-returns
 returns c = c .within .ensures ∙ ap isFlag (rd (c .before .fits .n))
 
 pub is-flag-spec : {M : Type 1} → statement M
-is-flag-spec = tie.close (tie.spec within-requires returns)
+is-flag-spec = tie.close (tie.spec (λ c κs. search needs) returns)

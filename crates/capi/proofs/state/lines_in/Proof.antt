@@ -10,9 +10,6 @@ use borrow.Author.Needs.{needs}
 use Rattle.capi.proofs.state.lines_in.Statement.{statement}
 use Rattle.capi.proofs.state.lines_in.Tie as tie
 
-shared-slice-copy-out-count : tie.Need-shared-slice-copy-out-count
-shared-slice-copy-out-count c = search needs
-
 count-requires : tie.Need-count-requires
 count-requires c κs =
     let n = c .before .args .n .now in
@@ -26,4 +23,4 @@ returns c =
     (e, rw e h)
 
 pub lines-in-spec : {M : Type 1} → statement M
-lines-in-spec = tie.close (tie.spec shared-slice-copy-out-count count-requires returns)
+lines-in-spec = tie.close (tie.spec (λ c. search needs) count-requires returns)

@@ -13,9 +13,6 @@ use borrow.Author.Needs.{needs}
 use Rattle.capi.proofs.state.put_new_step.Statement.{statement}
 use Rattle.capi.proofs.state.put_new_step.Tie as tie
 
-slice-copy-out-count : tie.Need-slice-copy-out-count
-slice-copy-out-count c = search needs
-
 count-requires : tie.Need-count-requires
 count-requires c κs =
     let n = c .before .args .n .now in
@@ -34,12 +31,6 @@ mul-step c = omega (arith, few c)
 element-copy-out-step : tie.Need-element-copy-out-step
 element-copy-out-step c = omega (arith, few c)
 
-row-of-requires : tie.Need-row-of-requires
-row-of-requires c κs = search needs
-
-slice-aggregate-copy : tie.Need-slice-aggregate-copy
-slice-aggregate-copy c = search needs
-
 mul-copy : tie.Need-mul-copy
 mul-copy c = omega (arith, few (c .before .before .before .before))
 
@@ -48,9 +39,6 @@ add-copy c = omega (arith, few (c .before .before .before .before))
 
 copy-requires : tie.Need-copy-requires
 copy-requires c κs = let z : length (c .before .before .row-of .result) ≡ 13 = search needs in omega (arith, z, few (c .before .before .before .before), c .before .before .before .before .before .before .pre .0)
-
-same-length : tie.Need-same-length
-same-length c = search needs
 
 returns : tie.Need-returns
 returns c =
@@ -62,15 +50,5 @@ returns c =
 pub put-new-step-spec : {M : Type 1} → statement M
 put-new-step-spec =
     tie.close
-    (tie.spec
-    slice-copy-out-count
-    count-requires
-    mul-step
-    element-copy-out-step
-    row-of-requires
-    slice-aggregate-copy
-    mul-copy
-    add-copy
-    copy-requires
-    same-length
-    returns)
+    (tie.spec (λ c. search needs) count-requires mul-step element-copy-out-step (λ c κs. search needs) (λ c. search needs) mul-copy add-copy copy-requires
+    (λ c. search needs) returns)

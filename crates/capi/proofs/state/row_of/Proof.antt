@@ -8,33 +8,6 @@ use borrow.Author.Needs.{needs}
 use Rattle.capi.proofs.state.row_of.Statement.{statement}
 use Rattle.capi.proofs.state.row_of.Tie as tie
 
-enum-known-kind : tie.Need-enum-known-kind
-enum-known-kind c = search needs
-
-cast-t13 : tie.Need-cast-t13
-cast-t13 c = search needs
-
-enum-known-kind-2 : tie.Need-enum-known-kind-2
-enum-known-kind-2 c = search needs
-
-cast-t14 : tie.Need-cast-t14
-cast-t14 c = search needs
-
-enum-known-kind-3 : tie.Need-enum-known-kind-3
-enum-known-kind-3 c = search needs
-
-convention-number-requires : tie.Need-convention-number-requires
-convention-number-requires c κs = search needs
-
-cast-t15 : tie.Need-cast-t15
-cast-t15 c = search needs
-
-enum-told : tie.Need-enum-told
-enum-told c = search needs
-
-cast-t16 : tie.Need-cast-t16
-cast-t16 c = search needs
-
 -- the ends of the step, as they were read
 datum-before : (c : tie.After-struct-told) → toZ w64 (ofZ w64 (c .before .args .step .before .datum)) ≡ c .before .args .step .before .datum
 datum-before c = search needs
@@ -67,17 +40,5 @@ returns-4 c = frame-row (c .before .before .before .before .before .before .args
 pub row-of-spec : {M : Type 1} → statement M
 row-of-spec =
     tie.close
-    (tie.spec
-    enum-known-kind
-    cast-t13
-    enum-known-kind-2
-    cast-t14
-    enum-known-kind-3
-    convention-number-requires
-    cast-t15
-    enum-told
-    cast-t16
-    returns
-    returns-2
-    returns-3
-    returns-4)
+    (tie.spec (λ c. search needs) (λ c. search needs) (λ c. search needs) (λ c. search needs) (λ c. search needs) (λ c κs. search needs)
+    (λ c. search needs) (λ c. search needs) (λ c. search needs) returns returns-2 returns-3 returns-4)

@@ -9,9 +9,6 @@ use borrow.Author.Needs.{needs}
 use Rattle.capi.proofs.state.steps_end.Statement.{statement}
 use Rattle.capi.proofs.state.steps_end.Tie as tie
 
-steps-in-requires : tie.Need-steps-in-requires
-steps-in-requires c κs = search needs
-
 few : (c : tie.After-steps-in) → c .steps-in .result ≤ 8
 few c = let n = c .before .args .n .now in let h = size-of (number n 6) 8 (counts n (c .before .pre .1) .steps) in rw (c .steps-in .ensures) h
 
@@ -25,4 +22,4 @@ returns : tie.Need-returns
 returns c = (ap (λ (k : ℕ). 7 + 13 * k) (c .steps-in .ensures), omega (arith, few c))
 
 pub steps-end-spec : {M : Type 1} → statement M
-steps-end-spec = tie.close (tie.spec steps-in-requires mul-result add-result returns)
+steps-end-spec = tie.close (tie.spec (λ c κs. search needs) mul-result add-result returns)

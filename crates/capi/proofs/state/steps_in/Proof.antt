@@ -9,9 +9,6 @@ use borrow.Author.Needs.{needs}
 use Rattle.capi.proofs.state.steps_in.Statement.{statement}
 use Rattle.capi.proofs.state.steps_in.Tie as tie
 
-shared-slice-copy-out-count : tie.Need-shared-slice-copy-out-count
-shared-slice-copy-out-count c = search needs
-
 count-requires : tie.Need-count-requires
 count-requires c κs =
     let n = c .before .args .n .now in
@@ -21,4 +18,4 @@ returns : tie.Need-returns
 returns c = c .count .ensures ∙ ap natAbs (told {z = number (c .before .before .args .n .now) 6} (c .before .count-arg .given))
 
 pub steps-in-spec : {M : Type 1} → statement M
-steps-in-spec = tie.close (tie.spec shared-slice-copy-out-count count-requires returns)
+steps-in-spec = tie.close (tie.spec (λ c. search needs) count-requires returns)

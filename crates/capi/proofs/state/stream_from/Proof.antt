@@ -10,9 +10,6 @@ use borrow.Author.Needs.{needs}
 use Rattle.capi.proofs.state.stream_from.Statement.{statement}
 use Rattle.capi.proofs.state.stream_from.Tie as tie
 
-shared-slice-copy-out-count : tie.Need-shared-slice-copy-out-count
-shared-slice-copy-out-count c = search needs
-
 count-requires : tie.Need-count-requires
 count-requires c κs =
     let n = c .before .before .args .n .now in
@@ -21,33 +18,6 @@ count-requires c κs =
 -- how many lines were answered
 lines : (c : tie.After-count) → c .count .result ≡ natAbs (number (c .before .before .before .args .n .now) 0)
 lines c = c .count .ensures ∙ ap natAbs (told {z = number (c .before .before .before .args .n .now) 0} (c .before .count-arg .given))
-
-kept-in-requires : tie.Need-kept-in-requires
-kept-in-requires c κs = search needs
-
-shared-slice-copy-out-flag : tie.Need-shared-slice-copy-out-flag
-shared-slice-copy-out-flag c = search needs
-
-flag-requires : tie.Need-flag-requires
-flag-requires c κs = search needs
-
-shared-slice-copy-out-flag-2 : tie.Need-shared-slice-copy-out-flag-2
-shared-slice-copy-out-flag-2 c = search needs
-
-flag-requires-2 : tie.Need-flag-requires-2
-flag-requires-2 c κs = search needs
-
-shared-slice-copy-out-flag-3 : tie.Need-shared-slice-copy-out-flag-3
-shared-slice-copy-out-flag-3 c = search needs
-
-flag-requires-3 : tie.Need-flag-requires-3
-flag-requires-3 c κs = search needs
-
-chain-in-requires : tie.Need-chain-in-requires
-chain-in-requires c κs = search needs
-
-bytes-from-requires : tie.Need-bytes-from-requires
-bytes-from-requires c κs = search needs
 
 add-t16 : tie.Need-add-t16
 add-t16 c =
@@ -69,17 +39,5 @@ returns c =
 pub stream-from-spec : {M : Type 1} → statement M
 stream-from-spec =
     tie.close
-    (tie.spec
-    shared-slice-copy-out-count
-    count-requires
-    kept-in-requires
-    shared-slice-copy-out-flag
-    flag-requires
-    shared-slice-copy-out-flag-2
-    flag-requires-2
-    shared-slice-copy-out-flag-3
-    flag-requires-3
-    chain-in-requires
-    bytes-from-requires
-    add-t16
-    returns)
+    (tie.spec (λ c. search needs) count-requires (λ c κs. search needs) (λ c. search needs) (λ c κs. search needs) (λ c. search needs)
+    (λ c κs. search needs) (λ c. search needs) (λ c κs. search needs) (λ c κs. search needs) (λ c κs. search needs) add-t16 returns)

@@ -5,11 +5,8 @@ use mir.ValLaws.{toZ-pos}
 use Rattle.capi.proofs.status.line_number.Statement.{statement}
 use Rattle.capi.proofs.status.line_number.Tie as tie
 
-cast-result : tie.Need-cast-result
-cast-result c = search needs
-
 returns : tie.Need-returns
 returns c = toZ-pos w64 (c .args .line) (search needs)
 
 pub line-number-spec : {M : Type 1} → statement M
-line-number-spec = tie.close (tie.spec cast-result returns)
+line-number-spec = tie.close (tie.spec (λ c. search needs) returns)

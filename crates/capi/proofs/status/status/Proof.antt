@@ -5,11 +5,8 @@ use mir.ValLaws.{toZ-pos}
 use Rattle.capi.proofs.status.status.Statement.{statement}
 use Rattle.capi.proofs.status.status.Tie as tie
 
-cast-result : tie.Need-cast-result
-cast-result c = search needs
-
 returns : tie.Need-returns
 returns c = toZ-pos w64 (c .args .number) (search needs)
 
 pub status-spec : {M : Type 1} → statement M
-status-spec = tie.close (tie.spec cast-result returns)
+status-spec = tie.close (tie.spec (λ c. search needs) returns)

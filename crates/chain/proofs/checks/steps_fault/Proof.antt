@@ -29,9 +29,6 @@ long s = sym (length-map (s .args .t1 .steps) _) ∙ s .good .0 .1 .1 .0 .1 .0 .
 returns : tie.Need-returns Inv-loop μ-loop
 returns c = let s = c .before in ap (λ (n : ℕ). first (stepsTests (s .args .t1 .profile) (take n (s .args .t1 .steps)))) (sym (c .if1 .taken))
 
-element-copy-out-previous : tie.Need-element-copy-out-previous Inv-loop μ-loop
-element-copy-out-previous c = search needs
-
 step-fault-requires : tie.Need-step-fault-requires Inv-loop μ-loop
 step-fault-requires c κs = tt
 
@@ -76,12 +73,6 @@ loop-holds c =
     let f = own (c .before) in
     (omega (arith, c .before .before .before .before .if1 .left), sym (begun (c .before) ∙ orElse-right (stepFault (profile s) (getD (steps s) 0 no-step)) (rest s) (sym f ∙ c .if2 .left)))
 
-mul-step : tie.Need-mul-step Inv-loop μ-loop
-mul-step c = omega arith
-
-element-copy-out-step : tie.Need-element-copy-out-step Inv-loop μ-loop
-element-copy-out-step c = omega arith
-
 later-fault-requires : tie.Need-later-fault-requires Inv-loop μ-loop
 later-fault-requires c κs = tt
 
@@ -118,12 +109,6 @@ returns-3 c =
     let f = found (c .before) in
     f ∙ sym (orElse-left (one (c .before)) (after (c .before)) (λ e. c .if3 .taken (f ∙ e))) ∙ turn (c .before)
 
-add-i : tie.Need-add-i Inv-loop μ-loop
-add-i c = omega arith
-
-loop-less : tie.Need-loop-less Inv-loop μ-loop
-loop-less c = omega arith
-
 loop-again : tie.Need-loop-again Inv-loop μ-loop
 loop-again c =
     let f = found (c .before) in
@@ -137,4 +122,4 @@ returns-4 c =
     ap (λ (ss : List Step). first (laterTests (profile s) (at .previous) ss)) (sym (ap (λ (k : ℕ). drop k (take (count s) (steps s))) e ∙ none-left (steps s) (count s))) ∙ at .inv .1
 
 pub steps-fault-spec : {M : Type 1} → statement M
-steps-fault-spec = tie.close (tie.spec Inv-loop μ-loop returns element-copy-out-previous step-fault-requires returns-2 loop-holds mul-step element-copy-out-step later-fault-requires returns-3 add-i loop-less loop-again returns-4)
+steps-fault-spec = tie.close (tie.spec Inv-loop μ-loop returns (search needs) step-fault-requires returns-2 loop-holds (search needs) (search needs) later-fault-requires returns-3 (search needs) (search needs) loop-again returns-4)

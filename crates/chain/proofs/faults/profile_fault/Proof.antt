@@ -8,9 +8,6 @@ use borrow.Author.Needs.{needs}
 use Rattle.chain.proofs.faults.profile_fault.Statement.{statement}
 use Rattle.chain.proofs.faults.profile_fault.Tie as tie
 
-is-profile-requires : tie.Need-is-profile-requires
-is-profile-requires c κs = search needs
-
 is : (c : tie.After-is-profile) (b : Bool) → c .is-profile .result ≡ b → profileRange (c .before .args .profile) ≡ b
 is c b e = sym (c .is-profile .ensures ∙ ap profileRange (rd (c .before .fits .profile))) ∙ e
 
@@ -23,4 +20,4 @@ unfolding profileFault
 returns-2 c = rw (is (c .before) _ (c .if1 .left))
 
 pub profile-fault-spec : {M : Type 1} → statement M
-profile-fault-spec = tie.close (tie.spec is-profile-requires returns returns-2)
+profile-fault-spec = tie.close (tie.spec (search needs) returns returns-2)

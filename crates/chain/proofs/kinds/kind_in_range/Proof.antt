@@ -5,26 +5,14 @@ use Rattle.chain.specs.Faults.{kindRange}
 use Rattle.chain.proofs.kinds.kind_in_range.Statement.{statement}
 use Rattle.chain.proofs.kinds.kind_in_range.Tie as tie
 
-enum-known-kind : tie.Need-enum-known-kind
-enum-known-kind c = search needs
-
 shift-in-range-requires : tie.Need-shift-in-range-requires
 shift-in-range-requires c κs = tt
-
-enum-known-kind-2 : tie.Need-enum-known-kind-2
-enum-known-kind-2 c = search needs
 
 velocity-in-range-requires : tie.Need-velocity-in-range-requires
 velocity-in-range-requires c κs = tt
 
-enum-known-kind-3 : tie.Need-enum-known-kind-3
-enum-known-kind-3 c = search needs
-
 bursa-wolf-in-range-requires : tie.Need-bursa-wolf-in-range-requires
 bursa-wolf-in-range-requires c κs = tt
-
-enum-told : tie.Need-enum-told
-enum-told c = search needs
 
 returns : tie.Need-returns
 returns c = c .shift-in-range .ensures ∙ ap kindRange (sym (c .before .before .kind .given .1))
@@ -40,4 +28,4 @@ unfolding kindRange
 returns-4 c = ap kindRange (sym (c .enum-told .given .1))
 
 pub kind-in-range-spec : {M : Type 1} → statement M
-kind-in-range-spec = tie.close (tie.spec enum-known-kind shift-in-range-requires enum-known-kind-2 velocity-in-range-requires enum-known-kind-3 bursa-wolf-in-range-requires enum-told returns returns-2 returns-3 returns-4)
+kind-in-range-spec = tie.close (tie.spec (search needs) shift-in-range-requires (search needs) velocity-in-range-requires (search needs) bursa-wolf-in-range-requires (search needs) returns returns-2 returns-3 returns-4)

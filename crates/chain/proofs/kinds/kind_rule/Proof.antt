@@ -7,20 +7,8 @@ use Rattle.chain.specs.declared.Kind.{Kind}
 use Rattle.chain.proofs.kinds.kind_rule.Statement.{statement}
 use Rattle.chain.proofs.kinds.kind_rule.Tie as tie
 
-enum-told : tie.Need-enum-told
-enum-told c = search needs
-
-enum-told-2 : tie.Need-enum-told-2
-enum-told-2 c = search needs
-
 velocity-rule-requires : tie.Need-velocity-rule-requires
 velocity-rule-requires c κs = tt
-
-enum-told-3 : tie.Need-enum-told-3
-enum-told-3 c = search needs
-
-enum-told-4 : tie.Need-enum-told-4
-enum-told-4 c = search needs
 
 frame-rule-requires : tie.Need-frame-rule-requires
 frame-rule-requires c κs = tt
@@ -45,4 +33,4 @@ returns-4 : tie.Need-returns-4
 returns-4 c = c .frame-rule .ensures ∙ ap (rule (c .before .before .before)) (sym (c .before .enum-told4 .given .1))
 
 pub kind-rule-spec : {M : Type 1} → statement M
-kind-rule-spec = tie.close (tie.spec enum-told enum-told-2 velocity-rule-requires enum-told-3 enum-told-4 frame-rule-requires returns returns-2 returns-3 returns-4)
+kind-rule-spec = tie.close (tie.spec (search needs) (search needs) velocity-rule-requires (search needs) (search needs) frame-rule-requires returns returns-2 returns-3 returns-4)

@@ -28,12 +28,6 @@ returns : tie.Need-returns Inv-loop μ-loop
 unfolding goodSteps
 returns c = let s = c .before .args in ap (λ (n : ℕ). goodSteps (s .profile) (take n (placesFrom (s .steps .now)))) (sym (c .if1 .taken))
 
-before-in-requires : tie.Need-before-in-requires Inv-loop μ-loop
-before-in-requires c κs = search needs
-
-is-dated-requires : tie.Need-is-dated-requires Inv-loop μ-loop
-is-dated-requires c κs = search needs
-
 -- whether the first step begins well
 first-end : (c : tie.After-is-dated Inv-loop μ-loop) (b : Bool) → c .is-dated .result ≡ b → dated (c .before .before .before .args .profile) (stepFrom (c .before .before .before .args .steps .now) .before) ≡ b
 first-end c b e = sym (c .is-dated .ensures ∙ ap₂ dated (rd (c .before .before .before .fits .profile)) (c .before .before-in .ensures)) ∙ e
@@ -63,24 +57,6 @@ module _ (c : tie.Else2 Inv-loop μ-loop) where
 loop-holds : tie.Need-loop-holds Inv-loop μ-loop
 loop-holds c = (omega arith, refl)
 
-mul-at : tie.Need-mul-at Inv-loop μ-loop
-mul-at c = search needs
-
-mul-does-follow : tie.Need-mul-does-follow Inv-loop μ-loop
-mul-does-follow c = search needs
-
-sub-does-follow : tie.Need-sub-does-follow Inv-loop μ-loop
-sub-does-follow c = search needs
-
-part-does-follow-start : tie.Need-part-does-follow-start Inv-loop μ-loop
-part-does-follow-start c = search needs
-
-part-does-follow-end : tie.Need-part-does-follow-end Inv-loop μ-loop
-part-does-follow-end c = search needs
-
-does-follow-requires : tie.Need-does-follow-requires Inv-loop μ-loop
-does-follow-requires c κs = search needs
-
 -- a turn: the step at place i, then the rest
 module _ (c : tie.After-does-follow Inv-loop μ-loop) where
   abbrev from : tie.Else2 Inv-loop μ-loop
@@ -101,15 +77,6 @@ returns-3 c =
     let e = from a in
     ends-there (year e) (ns e) (start e .pre) (at a .loop .i) (a .before .before .loop-test .taken) (at a .loop .end) (all a) (at a .loop .inv .1) (found a false (not-true _ (c .if3 .taken)))
     ∙ sym (decided e)
-
-after-at-requires : tie.Need-after-at-requires Inv-loop μ-loop
-after-at-requires c κs = search needs
-
-add-i : tie.Need-add-i Inv-loop μ-loop
-add-i c = search needs
-
-loop-less : tie.Need-loop-less Inv-loop μ-loop
-loop-less c = omega arith
 
 loop-again : tie.Need-loop-again Inv-loop μ-loop
 loop-again c =
@@ -133,23 +100,5 @@ returns-4 c =
 pub are-good-spec : {M : Type 1} → statement M
 are-good-spec =
     tie.close
-    (tie.spec
-    Inv-loop
-    μ-loop
-    returns
-    before-in-requires
-    is-dated-requires
-    returns-2
-    loop-holds
-    mul-at
-    mul-does-follow
-    sub-does-follow
-    part-does-follow-start
-    part-does-follow-end
-    does-follow-requires
-    returns-3
-    after-at-requires
-    add-i
-    loop-less
-    loop-again
-    returns-4)
+    (tie.spec Inv-loop μ-loop returns (search needs) (search needs) returns-2 loop-holds (search needs) (search needs) (search needs) (search needs)
+    (search needs) (search needs) returns-3 (search needs) (search needs) (search needs) loop-again returns-4)

@@ -11,18 +11,6 @@ use Rattle.chain.specs.Numbers.{kindFrom, stepFrom, dated, goodKind, fol
 use Rattle.chain.proofs.lent.does_follow.Statement.{statement}
 use Rattle.chain.proofs.lent.does_follow.Tie as tie
 
-before-in-requires : tie.Need-before-in-requires
-before-in-requires c κs = search needs
-
-after-in-requires : tie.Need-after-in-requires
-after-in-requires c κs = search needs
-
-same-realization-requires : tie.Need-same-realization-requires
-same-realization-requires c κs = search needs
-
-is-dated-requires : tie.Need-is-dated-requires
-is-dated-requires c κs = search needs
-
 -- the two tests that come first
 tested : (c : tie.After-is-dated) (b : Bool) → (c .before .same-realization .result && c .is-dated .result) ≡ b → (sameRealization (c .before .before .before .before .args .end) (stepFrom (c .before .before .before .before .args .n .now) .before) && dated (c .before .before .before .before .args .profile) (stepFrom (c .before .before .before .before .args .n .now) .after)) ≡ b
 tested c b e =
@@ -36,9 +24,6 @@ tested c b e =
 returns : tie.Need-returns
 unfolding follows
 returns c = let t = tested (c .before) false (not-true _ (c .if1 .taken)) in rw t
-
-is-good-kind-requires : tie.Need-is-good-kind-requires
-is-good-kind-requires c κs = search needs
 
 -- then the kind, between what was read
 module _ (s : tie.Start) where
@@ -54,4 +39,4 @@ returns-2 c =
     rw t (c .is-good-kind .ensures ∙ read s (rd (s .fits .profile)) (c .before .before .before .before .before .before-in .ensures) (c .before .before .before .before .after-in .ensures))
 
 pub does-follow-spec : {M : Type 1} → statement M
-does-follow-spec = tie.close (tie.spec before-in-requires after-in-requires same-realization-requires is-dated-requires returns is-good-kind-requires returns-2)
+does-follow-spec = tie.close (tie.spec (search needs) (search needs) (search needs) (search needs) returns (search needs) returns-2)

@@ -17,9 +17,6 @@ use Rattle.chain.proofs.LentSteps.{good-chain}
 use Rattle.chain.proofs.lent.fault_in.Statement.{statement}
 use Rattle.chain.proofs.lent.fault_in.Tie as tie
 
-is-profile-requires : tie.Need-is-profile-requires
-is-profile-requires c κs = search needs
-
 -- a profile, and few enough steps
 module _ (c : tie.Then1) where
   abbrev start : tie.Start
@@ -39,12 +36,6 @@ returns c =
     let g = sym (c .before .are-good .ensures ∙ ap (λ (y : ℤ). goodSteps y (stepsIn (s .args .steps .now))) (rd (s .fits .profile))) ∙ c .if2 .taken in
     sym (good-chain (s .args .profile) (s .args .steps .now) p (tests t .1) g)
 
-chain-from-requires : tie.Need-chain-from-requires
-chain-from-requires c κs = search needs
-
-chain-fault-requires : tie.Need-chain-fault-requires
-chain-fault-requires c κs = search needs
-
 returns-2 : tie.Need-returns-2
 returns-2 c =
     let s = c .before .before .before .before in
@@ -52,4 +43,4 @@ returns-2 c =
     ∙ ap (λ (h : Chain). first (chainTests h)) (c .before .chain-from .ensures ∙ ap (λ (y : ℤ). chainFrom y (s .args .steps .now)) (rd (s .fits .profile)))
 
 pub fault-in-spec : {M : Type 1} → statement M
-fault-in-spec = tie.close (tie.spec is-profile-requires are-good-requires returns chain-from-requires chain-fault-requires returns-2)
+fault-in-spec = tie.close (tie.spec (search needs) are-good-requires returns (search needs) (search needs) returns-2)

@@ -9,15 +9,6 @@ use Rattle.chain.specs.Numbers.{dated}
 use Rattle.chain.proofs.lent.is_dated.Statement.{statement}
 use Rattle.chain.proofs.lent.is_dated.Tie as tie
 
-realization-in-range-requires : tie.Need-realization-in-range-requires
-realization-in-range-requires c κs = search needs
-
-agrees-requires : tie.Need-agrees-requires
-agrees-requires c κs = search needs
-
-has-datum-requires : tie.Need-has-datum-requires
-has-datum-requires c κs = search needs
-
 returns : tie.Need-returns
 unfolding dated
 returns c =
@@ -25,4 +16,4 @@ returns c =
     ap₂ _&&_ (ap₂ _&&_ (c .before .before .realization-in-range .ensures) (c .before .agrees .ensures)) (c .has-datum .ensures ∙ ap (λ (y : ℤ). hasDatum y (s .args .r)) (rd (s .fits .profile)))
 
 pub is-dated-spec : {M : Type 1} → statement M
-is-dated-spec = tie.close (tie.spec realization-in-range-requires agrees-requires has-datum-requires returns)
+is-dated-spec = tie.close (tie.spec (search needs) (search needs) (search needs) returns)

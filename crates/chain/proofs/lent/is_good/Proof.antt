@@ -9,15 +9,6 @@ use Rattle.chain.specs.Numbers.{goodKind}
 use Rattle.chain.proofs.lent.is_good.Statement.{statement}
 use Rattle.chain.proofs.lent.is_good.Tie as tie
 
-kind-in-range-requires : tie.Need-kind-in-range-requires
-kind-in-range-requires c κs = search needs
-
-kind-rule-requires : tie.Need-kind-rule-requires
-kind-rule-requires c κs = search needs
-
-has-kind-requires : tie.Need-has-kind-requires
-has-kind-requires c κs = search needs
-
 returns : tie.Need-returns
 unfolding goodKind
 returns c =
@@ -25,4 +16,4 @@ returns c =
     ap₂ _&&_ (ap₂ _&&_ (c .before .before .kind-in-range .ensures) (c .before .kind-rule .ensures)) (c .has-kind .ensures ∙ ap (λ (y : ℤ). hasKind y (s .args .kind)) (rd (s .fits .profile)))
 
 pub is-good-spec : {M : Type 1} → statement M
-is-good-spec = tie.close (tie.spec kind-in-range-requires kind-rule-requires has-kind-requires returns)
+is-good-spec = tie.close (tie.spec (search needs) (search needs) (search needs) returns)

@@ -5,15 +5,9 @@ use Rattle.rounding.proofs.Machine.{told}
 use Rattle.chain.proofs.numbers.before_in.Statement.{statement}
 use Rattle.chain.proofs.numbers.before_in.Tie as tie
 
-shared-slice-copy-out-t3 : tie.Need-shared-slice-copy-out-t3
-shared-slice-copy-out-t3 c = search needs
-
-shared-slice-copy-out-t5 : tie.Need-shared-slice-copy-out-t5
-shared-slice-copy-out-t5 c = search needs
-
 returns : tie.Need-returns
 unfolding stepFrom
 returns c = rw (told (c .before .t3 .given), told (c .t5 .given))
 
 pub before-in-spec : {M : Type 1} → statement M
-before-in-spec = tie.close (tie.spec shared-slice-copy-out-t3 shared-slice-copy-out-t5 returns)
+before-in-spec = tie.close (tie.spec (search needs) (search needs) returns)

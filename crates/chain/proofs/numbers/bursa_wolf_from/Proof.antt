@@ -5,27 +5,6 @@ use Rattle.rounding.proofs.Machine.{told}
 use Rattle.chain.proofs.numbers.bursa_wolf_from.Statement.{statement}
 use Rattle.chain.proofs.numbers.bursa_wolf_from.Tie as tie
 
-shared-slice-copy-out-t4 : tie.Need-shared-slice-copy-out-t4
-shared-slice-copy-out-t4 c = search needs
-
-shared-slice-copy-out-t6 : tie.Need-shared-slice-copy-out-t6
-shared-slice-copy-out-t6 c = search needs
-
-shared-slice-copy-out-t8 : tie.Need-shared-slice-copy-out-t8
-shared-slice-copy-out-t8 c = search needs
-
-shared-slice-copy-out-t10 : tie.Need-shared-slice-copy-out-t10
-shared-slice-copy-out-t10 c = search needs
-
-shared-slice-copy-out-t12 : tie.Need-shared-slice-copy-out-t12
-shared-slice-copy-out-t12 c = search needs
-
-shared-slice-copy-out-t14 : tie.Need-shared-slice-copy-out-t14
-shared-slice-copy-out-t14 c = search needs
-
-shared-slice-copy-out-t16 : tie.Need-shared-slice-copy-out-t16
-shared-slice-copy-out-t16 c = search needs
-
 returns : tie.Need-returns
 unfolding bursaWolfFrom
 returns c =
@@ -39,12 +18,4 @@ returns c =
 pub bursa-wolf-from-spec : {M : Type 1} → statement M
 bursa-wolf-from-spec =
     tie.close
-    (tie.spec
-    shared-slice-copy-out-t4
-    shared-slice-copy-out-t6
-    shared-slice-copy-out-t8
-    shared-slice-copy-out-t10
-    shared-slice-copy-out-t12
-    shared-slice-copy-out-t14
-    shared-slice-copy-out-t16
-    returns)
+    (tie.spec (search needs) (search needs) (search needs) (search needs) (search needs) (search needs) (search needs) returns)

@@ -5,32 +5,8 @@ use Rattle.chain.specs.Numbers.{placesFrom, chainFrom}
 use Rattle.chain.proofs.numbers.chain_from.Statement.{statement}
 use Rattle.chain.proofs.numbers.chain_from.Tie as tie
 
-place-from-requires : tie.Need-place-from-requires
-place-from-requires c κs = search needs
-
-place-from-requires-2 : tie.Need-place-from-requires-2
-place-from-requires-2 c κs = search needs
-
-place-from-requires-3 : tie.Need-place-from-requires-3
-place-from-requires-3 c κs = search needs
-
-place-from-requires-4 : tie.Need-place-from-requires-4
-place-from-requires-4 c κs = search needs
-
-place-from-requires-5 : tie.Need-place-from-requires-5
-place-from-requires-5 c κs = search needs
-
-place-from-requires-6 : tie.Need-place-from-requires-6
-place-from-requires-6 c κs = search needs
-
-place-from-requires-7 : tie.Need-place-from-requires-7
-place-from-requires-7 c κs = search needs
-
-place-from-requires-8 : tie.Need-place-from-requires-8
-place-from-requires-8 c κs = search needs
-
 returns : tie.Need-returns
-unfolding chainFrom placesFrom
+unfolding placesFrom
 returns c =
     let c2 = c .before .before in
     let c3 = c2 .before in
@@ -43,13 +19,4 @@ returns c =
 pub chain-from-spec : {M : Type 1} → statement M
 chain-from-spec =
     tie.close
-    (tie.spec
-    place-from-requires
-    place-from-requires-2
-    place-from-requires-3
-    place-from-requires-4
-    place-from-requires-5
-    place-from-requires-6
-    place-from-requires-7
-    place-from-requires-8
-    returns)
+    (tie.spec (search needs) (search needs) (search needs) (search needs) (search needs) (search needs) (search needs) (search needs) returns)

@@ -6,29 +6,17 @@ use Rattle.chain.proofs.Letters.{is-letter, no-letter}
 use Rattle.chain.proofs.numbers.kind_from.Statement.{statement}
 use Rattle.chain.proofs.numbers.kind_from.Tie as tie
 
-shared-slice-copy-out-kind : tie.Need-shared-slice-copy-out-kind
-shared-slice-copy-out-kind c = search needs
-
-shift-from-requires : tie.Need-shift-from-requires
-shift-from-requires c κs = search needs
-
 returns : tie.Need-returns
 unfolding kindFrom
 returns c =
     let n = number (c .before .before .before .args .n .now) 0 in
     rw (is-letter n 84 (lit< tt) (c .before .before .kind .given) (c .before .if1 .taken)) (c .shift-from .ensures)
 
-velocity-from-requires : tie.Need-velocity-from-requires
-velocity-from-requires c κs = search needs
-
 returns-2 : tie.Need-returns-2
 unfolding kindFrom
 returns-2 c =
     let n = number (c .before .before .before .before .args .n .now) 0 in
     rw (no-letter n 84 (c .before .before .if1 .left), is-letter n 86 (lit< tt) (c .before .before .before .kind .given) (c .before .if2 .taken)) (c .velocity-from .ensures)
-
-turned-from-requires : tie.Need-turned-from-requires
-turned-from-requires c κs = search needs
 
 returns-3 : tie.Need-returns-3
 unfolding kindFrom
@@ -42,9 +30,6 @@ returns-4 c =
     let n = number (c .before .before .before .before .before .args .n .now) 0 in
     rw (no-letter n 84 (c .before .before .before .if1 .left), no-letter n 86 (c .before .before .if2 .left), no-letter n 66 (c .before .if3 .left), is-letter n 70 (lit< tt) (c .before .before .before .before .kind .given) (c .if4 .taken))
 
-unknown-requires : tie.Need-unknown-requires
-unknown-requires c κs = search needs
-
 returns-5 : tie.Need-returns-5
 unfolding kindFrom
 returns-5 c =
@@ -54,14 +39,4 @@ returns-5 c =
 pub kind-from-spec : {M : Type 1} → statement M
 kind-from-spec =
     tie.close
-    (tie.spec
-    shared-slice-copy-out-kind
-    shift-from-requires
-    returns
-    velocity-from-requires
-    returns-2
-    turned-from-requires
-    returns-3
-    returns-4
-    unknown-requires
-    returns-5)
+    (tie.spec (search needs) (search needs) returns (search needs) returns-2 (search needs) returns-3 returns-4 (search needs) returns-5)

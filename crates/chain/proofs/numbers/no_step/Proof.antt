@@ -4,12 +4,9 @@ use Rattle.chain.specs.Numbers.{noStep}
 use Rattle.chain.proofs.numbers.no_step.Statement.{statement}
 use Rattle.chain.proofs.numbers.no_step.Tie as tie
 
-unknown-requires : tie.Need-unknown-requires
-unknown-requires c κs = search needs
-
 returns : tie.Need-returns
 unfolding noStep
 returns c = rw (c .unknown .ensures)
 
 pub no-step-spec : {M : Type 1} → statement M
-no-step-spec = tie.close (tie.spec unknown-requires returns)
+no-step-spec = tie.close (tie.spec (search needs) returns)

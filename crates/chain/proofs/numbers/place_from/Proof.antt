@@ -11,24 +11,6 @@ use Rattle.chain.specs.Numbers.{stepFrom, placeFrom}
 use Rattle.chain.proofs.numbers.place_from.Statement.{statement}
 use Rattle.chain.proofs.numbers.place_from.Tie as tie
 
-sub-if2 : tie.Need-sub-if2
-sub-if2 c = search needs
-
-mul-step-from : tie.Need-mul-step-from
-mul-step-from c = search needs
-
-sub-step-from : tie.Need-sub-step-from
-sub-step-from c = search needs
-
-part-step-from-start : tie.Need-part-step-from-start
-part-step-from-start c = search needs
-
-part-step-from-end : tie.Need-part-step-from-end
-part-step-from-end c = search needs
-
-step-from-requires : tie.Need-step-from-requires
-step-from-requires c κs = search needs
-
 returns : tie.Need-returns
 unfolding placeFrom
 returns c =
@@ -36,9 +18,6 @@ returns c =
     let long : 13 ≤ length (drop (s .at) (s .n .now)) = simp length-drop (omega arith) in
     let whole : length (drop (s .at) (s .n .now)) ≤ length (s .n .now) - s .at = simp length-drop (omega arith) in
     rw (le-leb _ _ long) (c .step-from .ensures ∙ ap stepFrom (take-all _ _ whole))
-
-no-step-requires : tie.Need-no-step-requires
-no-step-requires c κs = search needs
 
 returns-2 : tie.Need-returns-2
 unfolding placeFrom
@@ -50,13 +29,4 @@ returns-2 c = let s = c .before .before .args in
 pub place-from-spec : {M : Type 1} → statement M
 place-from-spec =
     tie.close
-    (tie.spec
-    sub-if2
-    mul-step-from
-    sub-step-from
-    part-step-from-start
-    part-step-from-end
-    step-from-requires
-    returns
-    no-step-requires
-    returns-2)
+    (tie.spec (search needs) (search needs) (search needs) (search needs) (search needs) (search needs) returns (search needs) returns-2)

@@ -6,29 +6,17 @@ use Rattle.chain.proofs.Letters.{is-letter, no-letter}
 use Rattle.chain.proofs.numbers.turned_from.Statement.{statement}
 use Rattle.chain.proofs.numbers.turned_from.Tie as tie
 
-shared-slice-copy-out-convention : tie.Need-shared-slice-copy-out-convention
-shared-slice-copy-out-convention c = search needs
-
-bursa-wolf-from-requires : tie.Need-bursa-wolf-from-requires
-bursa-wolf-from-requires c κs = search needs
-
 returns : tie.Need-returns
 unfolding turnedFrom
 returns c =
     let n = number (c .before .before .before .args .n .now) 1 in
     rw (is-letter n 80 (lit< tt) (c .before .before .convention .given) (c .before .if1 .taken)) (c .bursa-wolf-from .ensures)
 
-bursa-wolf-from-requires-2 : tie.Need-bursa-wolf-from-requires-2
-bursa-wolf-from-requires-2 c κs = search needs
-
 returns-2 : tie.Need-returns-2
 unfolding turnedFrom
 returns-2 c =
     let n = number (c .before .before .before .before .args .n .now) 1 in
     rw (no-letter n 80 (c .before .before .if1 .left), is-letter n 67 (lit< tt) (c .before .before .before .convention .given) (c .before .if2 .taken)) (c .bursa-wolf-from2 .ensures)
-
-unknown-requires : tie.Need-unknown-requires
-unknown-requires c κs = search needs
 
 returns-3 : tie.Need-returns-3
 unfolding turnedFrom
@@ -39,11 +27,4 @@ returns-3 c =
 pub turned-from-spec : {M : Type 1} → statement M
 turned-from-spec =
     tie.close
-    (tie.spec
-    shared-slice-copy-out-convention
-    bursa-wolf-from-requires
-    returns
-    bursa-wolf-from-requires-2
-    returns-2
-    unknown-requires
-    returns-3)
+    (tie.spec (search needs) (search needs) returns (search needs) returns-2 (search needs) returns-3)

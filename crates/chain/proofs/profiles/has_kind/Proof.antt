@@ -10,20 +10,8 @@ use Rattle.chain.specs.declared.Kind.{Kind}
 use Rattle.chain.proofs.profiles.has_kind.Statement.{statement}
 use Rattle.chain.proofs.profiles.has_kind.Tie as tie
 
-enum-told : tie.Need-enum-told
-enum-told c = search needs
-
-enum-told-2 : tie.Need-enum-told-2
-enum-told-2 c = search needs
-
 equal-requires : tie.Need-equal-requires
 equal-requires c κs = tt
-
-enum-told-3 : tie.Need-enum-told-3
-enum-told-3 c = search needs
-
-enum-told-4 : tie.Need-enum-told-4
-enum-told-4 c = search needs
 
 equal-requires-2 : tie.Need-equal-requires-2
 equal-requires-2 c κs = tt
@@ -50,4 +38,4 @@ unfolding hasKind
 returns-4 c = ap not (c .equal2 .ensures ∙ ap (equal (pos 2009)) (rd (c .before .before .before .fits .profile))) ∙ ap (had (c .before .before .before)) (sym (c .before .enum-told4 .given .1))
 
 pub has-kind-spec : {M : Type 1} → statement M
-has-kind-spec = tie.close (tie.spec enum-told enum-told-2 equal-requires enum-told-3 enum-told-4 equal-requires-2 returns returns-2 returns-3 returns-4)
+has-kind-spec = tie.close (tie.spec (search needs) (search needs) equal-requires (search needs) (search needs) equal-requires-2 returns returns-2 returns-3 returns-4)

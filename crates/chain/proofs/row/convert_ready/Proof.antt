@@ -13,9 +13,6 @@ use Rattle.chain.proofs.row.convert_ready.Tie as tie
 returns : tie.Need-returns
 returns c = let s = c .before .args in ready-bad (s .t1) (s .direction) (s .point) (c .if1 .taken)
 
-point-fault-requires : tie.Need-point-fault-requires
-point-fault-requires c κs = search needs
-
 -- the point's own fault, under the profile that is ready
 found : (c : tie.After-point-fault) → c .point-fault .result ≡ pointFault (c .before .before .before .args .t1 .profile) (c .before .before .before .args .point)
 found c = c .point-fault .ensures ∙ ap (λ (y : ℤ). pointFault y (c .before .before .before .args .point)) (told (c .before .struct-told .given .1 .0 .1))
@@ -24,18 +21,6 @@ returns-2 : tie.Need-returns-2
 returns-2 c =
     let s = c .before .before .before .before .args in
     ready-point (s .t1) (s .direction) (s .point) (c .before .before .before .if1 .left) (found (c .before)) (c .if2 .taken)
-
-enum-told : tie.Need-enum-told
-enum-told c = search needs
-
-forward-prepared-requires : tie.Need-forward-prepared-requires
-forward-prepared-requires c κs = search needs
-
-enum-told-2 : tie.Need-enum-told-2
-enum-told-2 c = search needs
-
-inverse-prepared-requires : tie.Need-inverse-prepared-requires
-inverse-prepared-requires c κs = search needs
 
 returns-3 : tie.Need-returns-3
 returns-3 c =
@@ -52,4 +37,4 @@ returns-4 c =
     ∙ ready-goes (s .t1) (s .direction) (s .point) (e .before .before .if1 .left) (sym (found e) ∙ c .before .before .before .before .before .if2 .left)
 
 pub convert-ready-spec : {M : Type 1} → statement M
-convert-ready-spec = tie.close (tie.spec returns point-fault-requires returns-2 enum-told forward-prepared-requires enum-told-2 inverse-prepared-requires returns-3 returns-4)
+convert-ready-spec = tie.close (tie.spec returns (search needs) returns-2 (search needs) (search needs) (search needs) (search needs) returns-3 returns-4)

@@ -46,14 +46,8 @@ mul-step c = omega (arith, few (c .before .before .before))
 element-copy-out-step : tie.Need-element-copy-out-step Inv-loop μ-loop
 element-copy-out-step c = omega (arith, few (c .before .before .before))
 
-extend-requires : tie.Need-extend-requires Inv-loop μ-loop
-extend-requires c κs = search needs
-
 add-i : tie.Need-add-i Inv-loop μ-loop
 add-i c = omega (arith, few (c .before .before .before .before .before .before))
-
-loop-less : tie.Need-loop-less Inv-loop μ-loop
-loop-less c = omega arith
 
 -- a turn: the step at place i is put to the numbers
 turn : (y : ℤ) (l m : List ℤ) (ss rest : List Step) (s : Step) → ss ≡ s ∷ rest → m ≡ extendedBy y l s → extendedAll y m rest ≡ extendedAll y l ss
@@ -86,4 +80,4 @@ returns c =
     done (profile s) (k .numbers) ∙ ap (extendedAll (profile s) (k .numbers)) (sym none) ∙ k .inv .1
 
 pub prepare-steps-spec : {M : Type 1} → statement M
-prepare-steps-spec = tie.close (tie.spec Inv-loop μ-loop loop-holds mul-step element-copy-out-step extend-requires add-i loop-less loop-again returns)
+prepare-steps-spec = tie.close (tie.spec Inv-loop μ-loop loop-holds mul-step element-copy-out-step (search needs) add-i (search needs) loop-again returns)

@@ -6,9 +6,6 @@ use Rattle.chain.proofs.Readying.{ready-refused, ready-steps}
 use Rattle.chain.proofs.row.ready_chain.Statement.{statement}
 use Rattle.chain.proofs.row.ready_chain.Tie as tie
 
-chain-fault-requires : tie.Need-chain-fault-requires
-chain-fault-requires c κs = search needs
-
 returns : tie.Need-returns
 returns c = ready-refused (c .before .before .before .args .chain) (c .before .before .chain-fault .ensures) (told (c .before .struct-told .given .1 .1 .0 .1)) (c .if1 .taken)
 
@@ -21,4 +18,4 @@ returns-2 c =
     ready-steps (f .before .args .chain) (f .chain-fault .ensures) (told (c .before .before .struct-told .given .1 .1 .0 .1)) (c .before .if1 .left) (c .prepare-steps .ensures)
 
 pub ready-chain-spec : {M : Type 1} → statement M
-ready-chain-spec = tie.close (tie.spec chain-fault-requires returns prepare-steps-requires returns-2)
+ready-chain-spec = tie.close (tie.spec (search needs) returns prepare-steps-requires returns-2)

@@ -16,12 +16,6 @@ use Rattle.chain.proofs.steps.by_convention.Tie as tie
 f : (s : tie.Start) → SFits w64 (negℤ (s .args .r))
 f s = fits 1000000 (omega (arith, abs-neg (s .args .r), s .pre)) (omega arith)
 
-enum-told : tie.Need-enum-told
-enum-told c = search needs
-
-enum-told-2 : tie.Need-enum-told-2
-enum-told-2 c = search needs
-
 sub-result : tie.Need-sub-result
 sub-result c = let s = c .before .before in fit0- (rd (s .fits .r)) (f s)
 
@@ -32,4 +26,4 @@ returns-2 : tie.Need-returns-2
 returns-2 c = let s = c .before .before in rd0- (rd (s .fits .r)) (f s) ∙ ap (λ (w : Convention). byConvention w (s .args .r)) (sym (c .enum-told2 .given .1))
 
 pub by-convention-spec : {M : Type 1} → statement M
-by-convention-spec = tie.close (tie.spec enum-told enum-told-2 sub-result returns returns-2)
+by-convention-spec = tie.close (tie.spec (search needs) (search needs) sub-result returns returns-2)

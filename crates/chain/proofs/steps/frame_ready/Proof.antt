@@ -89,38 +89,14 @@ sub-dt c = fit- (told {z = c .before .before .before .args .step .before .epoch}
 row-requires : tie.Need-row-requires
 row-requires c κs = tt
 
-array-copy-out-shift-over14 : tie.Need-array-copy-out-shift-over14
-array-copy-out-shift-over14 c = search needs
-
-array-copy-out-shift-over14-2 : tie.Need-array-copy-out-shift-over14-2
-array-copy-out-shift-over14-2 c = search needs
-
 shift-over14-requires : tie.Need-shift-over14-requires
 shift-over14-requires c κs = shift-asked (c .before .before) 0 (lit< tt)
-
-array-copy-out-shift-over14-3 : tie.Need-array-copy-out-shift-over14-3
-array-copy-out-shift-over14-3 c = search needs
-
-array-copy-out-shift-over14-4 : tie.Need-array-copy-out-shift-over14-4
-array-copy-out-shift-over14-4 c = search needs
 
 shift-over14-requires-2 : tie.Need-shift-over14-requires-2
 shift-over14-requires-2 c κs = shift-asked (c .before .before .before .before .before) 1 (lit< tt)
 
-array-copy-out-shift-over14-5 : tie.Need-array-copy-out-shift-over14-5
-array-copy-out-shift-over14-5 c = search needs
-
-array-copy-out-shift-over14-6 : tie.Need-array-copy-out-shift-over14-6
-array-copy-out-shift-over14-6 c = search needs
-
 shift-over14-requires-3 : tie.Need-shift-over14-requires-3
 shift-over14-requires-3 c κs = shift-asked (c .before .before .before .before .before .before .before .before) 2 (lit< tt)
-
-array-copy-out-at-epoch : tie.Need-array-copy-out-at-epoch
-array-copy-out-at-epoch c = search needs
-
-array-copy-out-at-epoch-2 : tie.Need-array-copy-out-at-epoch-2
-array-copy-out-at-epoch-2 c = search needs
 
 at-epoch-requires : tie.Need-at-epoch-requires
 at-epoch-requires c κs = scale-asked (c .before .before .before .before .before .before .before .before .before .before .before)
@@ -145,4 +121,4 @@ returns c =
     (rd0- (scale c) (down s))
 
 pub frame-ready-spec : {M : Type 1} → statement M
-frame-ready-spec = tie.close (tie.spec sub-dt row-requires array-copy-out-shift-over14 array-copy-out-shift-over14-2 shift-over14-requires array-copy-out-shift-over14-3 array-copy-out-shift-over14-4 shift-over14-requires-2 array-copy-out-shift-over14-5 array-copy-out-shift-over14-6 shift-over14-requires-3 array-copy-out-at-epoch array-copy-out-at-epoch-2 at-epoch-requires sub-slope returns)
+frame-ready-spec = tie.close (tie.spec sub-dt row-requires (search needs) (search needs) shift-over14-requires (search needs) (search needs) shift-over14-requires-2 (search needs) (search needs) shift-over14-requires-3 (search needs) (search needs) at-epoch-requires sub-slope returns)

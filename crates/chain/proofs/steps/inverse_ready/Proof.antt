@@ -8,20 +8,11 @@ use Rattle.chain.specs.Ready.{readyParts, ReadyOk}
 use Rattle.chain.proofs.steps.inverse_ready.Statement.{statement}
 use Rattle.chain.proofs.steps.inverse_ready.Tie as tie
 
-enum-known-r : tie.Need-enum-known-r
-enum-known-r c = search needs
-
 fixed-back-requires : tie.Need-fixed-back-requires
 fixed-back-requires c κs = (subst ReadyOk (c .before .r .given .1) (c .before .before .before .pre .0), c .before .before .before .pre .1)
 
-enum-known-r-2 : tie.Need-enum-known-r-2
-enum-known-r-2 c = search needs
-
 turn-back-requires : tie.Need-turn-back-requires
 turn-back-requires c κs = (subst ReadyOk (c .before .r2 .given .1) (c .before .before .before .pre .0), c .before .before .before .pre .1)
-
-enum-known-r-3 : tie.Need-enum-known-r-3
-enum-known-r-3 c = search needs
 
 scale-back-requires : tie.Need-scale-back-requires
 scale-back-requires c κs = (subst ReadyOk (c .before .r3 .given .1) (c .before .before .before .pre .0), c .before .before .before .pre .1)
@@ -41,4 +32,4 @@ returns-3 : tie.Need-returns-3
 returns-3 c = c .scale-back .ensures ∙ ap (by (c .before .before .before .before)) (sym (c .before .before .r3 .given .1))
 
 pub inverse-ready-spec : {M : Type 1} → statement M
-inverse-ready-spec = tie.close (tie.spec enum-known-r fixed-back-requires enum-known-r-2 turn-back-requires enum-known-r-3 scale-back-requires returns returns-2 returns-3)
+inverse-ready-spec = tie.close (tie.spec (search needs) fixed-back-requires (search needs) turn-back-requires (search needs) scale-back-requires returns returns-2 returns-3)

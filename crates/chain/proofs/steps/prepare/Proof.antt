@@ -8,26 +8,14 @@ use Rattle.chain.specs.Ready.{readyKind}
 use Rattle.chain.proofs.steps.prepare.Statement.{statement}
 use Rattle.chain.proofs.steps.prepare.Tie as tie
 
-enum-known-kind : tie.Need-enum-known-kind
-enum-known-kind c = search needs
-
 shift-ready-requires : tie.Need-shift-ready-requires
 shift-ready-requires c κs = tt
-
-enum-known-kind-2 : tie.Need-enum-known-kind-2
-enum-known-kind-2 c = search needs
 
 velocity-ready-requires : tie.Need-velocity-ready-requires
 velocity-ready-requires c κs = (c .before .before .before .pre, c .before .kind2 .given .1)
 
-enum-known-kind-3 : tie.Need-enum-known-kind-3
-enum-known-kind-3 c = search needs
-
 bursa-wolf-ready-requires : tie.Need-bursa-wolf-ready-requires
 bursa-wolf-ready-requires c κs = (c .before .before .before .pre, c .before .kind3 .given .1)
-
-enum-told : tie.Need-enum-told
-enum-told c = search needs
 
 frame-ready-requires : tie.Need-frame-ready-requires
 frame-ready-requires c κs = (c .before .before .pre, c .enum-told .given .1)
@@ -54,4 +42,4 @@ unfolding readyKind
 returns-4 c = ap Scaled (c .frame-ready .ensures) ∙ ap (by (c .before .before .before)) (sym (c .before .enum-told .given .1))
 
 pub prepare-spec : {M : Type 1} → statement M
-prepare-spec = tie.close (tie.spec enum-known-kind shift-ready-requires enum-known-kind-2 velocity-ready-requires enum-known-kind-3 bursa-wolf-ready-requires enum-told frame-ready-requires returns returns-2 returns-3 returns-4)
+prepare-spec = tie.close (tie.spec (search needs) shift-ready-requires (search needs) velocity-ready-requires (search needs) bursa-wolf-ready-requires (search needs) frame-ready-requires returns returns-2 returns-3 returns-4)

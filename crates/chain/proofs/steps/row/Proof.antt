@@ -20,16 +20,10 @@ chosen : (s : tie.Start) (b : Bool) → equal (pos 9) (s .args .datum) ≡ b →
 unfolding rowOf rowIndex
 chosen s b e = ap (λ (t : Bool). getD rows (pick t 1 0) []) (sym e)
 
-array-copy-out-result : tie.Need-array-copy-out-result
-array-copy-out-result c = search needs
-
 returns : tie.Need-returns
 returns c =
     let s = c .before .before .before in
     chosen s true (sym (c .before .before .equal .ensures ∙ ap (equal (pos 9)) (rd (s .fits .datum))) ∙ c .before .if1 .taken)
-
-array-copy-out-result-2 : tie.Need-array-copy-out-result-2
-array-copy-out-result-2 c = search needs
 
 returns-2 : tie.Need-returns-2
 returns-2 c =
@@ -37,4 +31,4 @@ returns-2 c =
     chosen s false (sym (c .before .before .equal .ensures ∙ ap (equal (pos 9)) (rd (s .fits .datum))) ∙ c .before .if1 .left)
 
 pub row-spec : {M : Type 1} → statement M
-row-spec = tie.close (tie.spec equal-requires array-copy-out-result returns array-copy-out-result-2 returns-2)
+row-spec = tie.close (tie.spec equal-requires (search needs) returns (search needs) returns-2)

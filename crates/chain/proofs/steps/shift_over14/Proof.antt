@@ -36,9 +36,6 @@ module _ (c : tie.After-at-epoch) where
 ten11 : pos 100000000000 ≡ pos 100000000000
 ten11 = refl
 
-at-epoch-requires : tie.Need-at-epoch-requires
-at-epoch-requires c κs = search needs
-
 mul-result : tie.Need-mul-result
 mul-result c = fit* (t c) ten11 (f c)
 
@@ -49,4 +46,4 @@ returns : tie.Need-returns
 returns c = rd0- (rd* (t c) ten11 (f c)) (g c)
 
 pub shift-over14-spec : {M : Type 1} → statement M
-shift-over14-spec = tie.close (tie.spec at-epoch-requires mul-result sub-result returns)
+shift-over14-spec = tie.close (tie.spec (λ c κs. search needs) mul-result sub-result returns)

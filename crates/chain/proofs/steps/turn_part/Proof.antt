@@ -9,9 +9,6 @@ use Rattle.chain.specs.Parts.{stepRound, linear, part}
 use Rattle.chain.proofs.steps.turn_part.Statement.{statement}
 use Rattle.chain.proofs.steps.turn_part.Tie as tie
 
-linear-requires : tie.Need-linear-requires
-linear-requires c κs = search needs
-
 over11-requires : tie.Need-over11-requires
 over11-requires c κs = (rw (rd (c .before .fits .k)) (c .before .pre .start), rw (rd (record { sfits = c .linear .ok })) (c .linear .ensures .1))
 
@@ -25,4 +22,4 @@ returns c =
     (rd (record { sfits = c .before .linear .ok }) ∙ c .before .linear .ensures .0 ∙ of₃ (λ (a b c : ℤ). a *ℤ p .x +ℤ b *ℤ p .y +ℤ c *ℤ p .z) (rd (s .fits .a)) (rd (s .fits .b)) (rd (s .fits .c)))
 
 pub turn-part-spec : {M : Type 1} → statement M
-turn-part-spec = tie.close (tie.spec linear-requires over11-requires returns)
+turn-part-spec = tie.close (tie.spec (λ c κs. search needs) over11-requires returns)

@@ -14,8 +14,6 @@ use crate::steps::Ready;
 use crate::steps::Scale;
 use crate::steps::Turn;
 
-mod sure;
-
 // The forms of a row: the same gain everywhere, Bursa-Wolf, a frame.
 const FIXED: i64 = 0;
 
@@ -159,7 +157,7 @@ fn turn_moved(t: Turn, p: Position) -> Moved
     }
     Moved {
         good: true,
-        position: sure::turn_forward(t, p),
+        position: steps::turn_forward(t, p),
     }
 }
 

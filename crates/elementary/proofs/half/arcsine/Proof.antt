@@ -5,15 +5,9 @@ use Rattle.elementary.specs.Half.{arcsineOf}
 use Rattle.elementary.proofs.half.arcsine.Statement.{statement}
 use Rattle.elementary.proofs.half.arcsine.Tie as tie
 
-root-requires : tie.Need-root-requires
-root-requires c κs = search needs
-
-arctan-small-requires : tie.Need-arctan-small-requires
-arctan-small-requires c κs = search needs
-
 returns : tie.Need-returns
 unfolding arcsineOf round ofBits
 returns c = rw (c .arctan-small .ensures, c .before .root .ensures)
 
 pub arcsine-spec : {M : Type 1} → statement M
-arcsine-spec = tie.close (tie.spec root-requires arctan-small-requires returns)
+arcsine-spec = tie.close (tie.spec (search needs) (search needs) returns)

@@ -5,15 +5,9 @@ use Rattle.elementary.specs.Half.{arctangentOf}
 use Rattle.elementary.proofs.half.arctangent.Statement.{statement}
 use Rattle.elementary.proofs.half.arctangent.Tie as tie
 
-root-requires : tie.Need-root-requires
-root-requires c κs = search needs
-
-arctan-small-requires : tie.Need-arctan-small-requires
-arctan-small-requires c κs = search needs
-
 returns : tie.Need-returns
 unfolding arctangentOf round ofBits
 returns c = rw (c .arctan-small .ensures, c .before .root .ensures)
 
 pub arctangent-spec : {M : Type 1} → statement M
-arctangent-spec = tie.close (tie.spec root-requires arctan-small-requires returns)
+arctangent-spec = tie.close (tie.spec (search needs) (search needs) returns)

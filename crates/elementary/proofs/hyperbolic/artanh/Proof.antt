@@ -5,15 +5,9 @@ use Rattle.elementary.specs.Hyperbolic.{artanhOf}
 use Rattle.elementary.proofs.hyperbolic.artanh.Statement.{statement}
 use Rattle.elementary.proofs.hyperbolic.artanh.Tie as tie
 
-root-requires : tie.Need-root-requires
-root-requires c κs = search needs
-
-artanh-small-requires : tie.Need-artanh-small-requires
-artanh-small-requires c κs = search needs
-
 returns : tie.Need-returns
 unfolding artanhOf round ofBits
 returns c = rw (c .artanh-small .ensures, c .before .root .ensures)
 
 pub artanh-spec : {M : Type 1} → statement M
-artanh-spec = tie.close (tie.spec root-requires artanh-small-requires returns)
+artanh-spec = tie.close (tie.spec (search needs) (search needs) returns)

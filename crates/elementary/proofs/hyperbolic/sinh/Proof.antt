@@ -4,18 +4,9 @@ use Rattle.elementary.specs.Hyperbolic.{sinhOf}
 use Rattle.elementary.proofs.hyperbolic.sinh.Statement.{statement}
 use Rattle.elementary.proofs.hyperbolic.sinh.Tie as tie
 
-sine-table-requires : tie.Need-sine-table-requires
-sine-table-requires c κs = search needs
-
-slice-aggregate-polynomial : tie.Need-slice-aggregate-polynomial
-slice-aggregate-polynomial c = search needs
-
-polynomial-requires : tie.Need-polynomial-requires
-polynomial-requires c κs = search needs
-
 returns : tie.Need-returns
 unfolding sinhOf
 returns c = rw (c .polynomial .ensures, c .before .before .sine-table .ensures)
 
 pub sinh-spec : {M : Type 1} → statement M
-sinh-spec = tie.close (tie.spec sine-table-requires slice-aggregate-polynomial polynomial-requires returns)
+sinh-spec = tie.close (tie.spec (search needs) (search needs) (search needs) returns)

@@ -11,26 +11,14 @@ use borrow.Author.Needs.{needs}
 use Rattle.line.proofs.awaited.by_kind_at.Statement.{statement}
 use Rattle.line.proofs.awaited.by_kind_at.Tie as tie
 
-number-at-requires : tie.Need-number-at-requires
-number-at-requires c κs = search needs
-
 returns : tie.Need-returns
 returns c = rw (eq-eqb _ _ (c .before .if1 .taken)) (c .number-at .ensures)
-
-number-at-requires-2 : tie.Need-number-at-requires-2
-number-at-requires-2 c κs = search needs
 
 returns-2 : tie.Need-returns-2
 returns-2 c = rw (ne-eqb _ _ (c .before .before .if1 .left), eq-eqb _ _ (c .before .if2 .taken)) (c .number-at2 .ensures)
 
 returns-3 : tie.Need-returns-3
 returns-3 c = rw (ne-eqb _ _ (c .before .before .before .if1 .left), ne-eqb _ _ (c .before .before .if2 .left), eq-eqb _ _ (c .before .if3 .taken), c .if4 .taken)
-
-sub-number-at : tie.Need-sub-number-at
-sub-number-at c = search needs
-
-number-at-requires-3 : tie.Need-number-at-requires-3
-number-at-requires-3 c κs = search needs
 
 returns-4 : tie.Need-returns-4
 returns-4 c = let i = c .before .before .before .before .before .args .index in
@@ -43,13 +31,4 @@ returns-5 c = rw (ne-eqb _ _ (c .before .before .if1 .left), ne-eqb _ _ (c .befo
 pub by-kind-at-spec : {M : Type 1} → statement M
 by-kind-at-spec =
     tie.close
-    (tie.spec
-    number-at-requires
-    returns
-    number-at-requires-2
-    returns-2
-    returns-3
-    sub-number-at
-    number-at-requires-3
-    returns-4
-    returns-5)
+    (tie.spec (search needs) returns (search needs) returns-2 returns-3 (search needs) (search needs) returns-4 returns-5)

@@ -5,23 +5,14 @@ use borrow.Author.Needs.{needs}
 use Rattle.line.proofs.awaited.class_at.Statement.{statement}
 use Rattle.line.proofs.awaited.class_at.Tie as tie
 
-number-at-requires : tie.Need-number-at-requires
-number-at-requires c κs = search needs
-
 returns : tie.Need-returns
 returns c = c .number-at .ensures ∙ rw (eq-eqb _ _ (c .before .if1 .taken))
 
-grid-at-requires : tie.Need-grid-at-requires
-grid-at-requires c κs = search needs
-
 returns-2 : tie.Need-returns-2
 returns-2 c = c .grid-at .ensures ∙ rw (ne-eqb _ _ (c .before .before .if1 .left), eq-eqb _ _ (c .before .if2 .taken))
-
-lettered-at-requires : tie.Need-lettered-at-requires
-lettered-at-requires c κs = search needs
 
 returns-3 : tie.Need-returns-3
 returns-3 c = c .lettered-at .ensures ∙ rw (ne-eqb _ _ (c .before .before .if1 .left), ne-eqb _ _ (c .before .if2 .left))
 
 pub class-at-spec : {M : Type 1} → statement M
-class-at-spec = tie.close (tie.spec number-at-requires returns grid-at-requires returns-2 lettered-at-requires returns-3)
+class-at-spec = tie.close (tie.spec (search needs) returns (search needs) returns-2 (search needs) returns-3)

@@ -11,11 +11,8 @@ returns c = rw (eq-eqb _ _ (c .if1 .taken))
 returns-2 : tie.Need-returns-2
 returns-2 c = rw (ne-eqb _ _ (c .before .if1 .left), eq-eqb _ _ (c .if2 .taken))
 
-lettered-count-requires : tie.Need-lettered-count-requires
-lettered-count-requires c κs = search needs
-
 returns-3 : tie.Need-returns-3
 returns-3 c = c .lettered-count .ensures ∙ rw (ne-eqb _ _ (c .before .before .if1 .left), ne-eqb _ _ (c .before .if2 .left))
 
 pub count-of-spec : {M : Type 1} → statement M
-count-of-spec = tie.close (tie.spec returns returns-2 lettered-count-requires returns-3)
+count-of-spec = tie.close (tie.spec returns returns-2 (search needs) returns-3)

@@ -13,16 +13,10 @@ use Rattle.line.proofs.awaited.grid_at.Tie as tie
 returns : tie.Need-returns
 returns c = rw (c .if1 .taken)
 
-sub-number-at : tie.Need-sub-number-at
-sub-number-at c = search needs
-
-number-at-requires : tie.Need-number-at-requires
-number-at-requires c κs = search needs
-
 returns-2 : tie.Need-returns-2
 returns-2 c =
     let i = c .before .before .args .index in
     c .number-at .ensures ∙ sym (L.later (letters (letterG ∷ [])) (numbers 5) i (i - 1) (omega arith))
 
 pub grid-at-spec : {M : Type 1} → statement M
-grid-at-spec = tie.close (tie.spec returns sub-number-at number-at-requires returns-2)
+grid-at-spec = tie.close (tie.spec returns (search needs) (search needs) returns-2)

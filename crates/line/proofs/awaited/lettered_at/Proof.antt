@@ -18,20 +18,11 @@ rest first kind i cs e h = rw (← e) (sym (L.later (letters (first ∷ [])) (re
 returns : tie.Need-returns
 returns c = rw (c .if1 .taken)
 
-sub-i : tie.Need-sub-i
-sub-i c = search needs
-
-named-at-requires : tie.Need-named-at-requires
-named-at-requires c κs = search needs
-
 returns-2 : tie.Need-returns-2
 returns-2 c =
     let g = c .before .before .before .args in
     c .named-at .ensures ∙ rest (g .first) (g .kind) (g .index) (identifier ∷ numbers 7)
     (rw (eq-eqb _ _ (c .before .if2 .taken))) (omega arith)
-
-step-at-requires : tie.Need-step-at-requires
-step-at-requires c κs = search needs
 
 returns-3 : tie.Need-returns-3
 returns-3 c =
@@ -39,26 +30,17 @@ returns-3 c =
     c .step-at .ensures ∙ rest (g .first) (g .kind) (g .index) (stepRest (g .kind))
     (rw (ne-eqb _ _ (c .before .before .if2 .left), eq-eqb _ _ (c .before .if3 .taken))) (omega arith)
 
-number-at-requires : tie.Need-number-at-requires
-number-at-requires c κs = search needs
-
 returns-4 : tie.Need-returns-4
 returns-4 c =
     let g = c .before .before .before .before .before .args in
     c .number-at .ensures ∙ rest (g .first) (g .kind) (g .index) (numbers 5)
     (rw (ne-eqb _ _ (c .before .before .before .if2 .left), ne-eqb _ _ (c .before .before .if3 .left), eq-eqb _ _ (c .before .if4 .taken))) (omega arith)
 
-named-at-requires-2 : tie.Need-named-at-requires-2
-named-at-requires-2 c κs = search needs
-
 returns-5 : tie.Need-returns-5
 returns-5 c =
     let g = c .before .before .before .before .before .before .args in
     c .named-at2 .ensures ∙ rest (g .first) (g .kind) (g .index) (identifier ∷ numbers 2)
     (rw (ne-eqb _ _ (c .before .before .before .before .if2 .left), ne-eqb _ _ (c .before .before .before .if3 .left), ne-eqb _ _ (c .before .before .if4 .left), eq-eqb _ _ (c .before .if5 .taken))) (omega arith)
-
-number-at-requires-2 : tie.Need-number-at-requires-2
-number-at-requires-2 c κs = search needs
 
 returns-6 : tie.Need-returns-6
 returns-6 c = let g = c .before .before .before .before .before .before .before .args in c .number-at2 .ensures ∙ rest (g .first) (g .kind) (g .index) (numbers 1) (rw (ne-eqb _ _ (c .before .before .before .before .before .if2 .left), ne-eqb _ _ (c .before .before .before .before .if3 .left), ne-eqb _ _ (c .before .before .before .if4 .left), ne-eqb _ _ (c .before .before .if5 .left), eq-eqb _ _ (c .before .if6 .taken))) (omega arith)
@@ -69,17 +51,5 @@ returns-7 c = let g = c .before .before .before .before .before .before .args in
 pub lettered-at-spec : {M : Type 1} → statement M
 lettered-at-spec =
     tie.close
-    (tie.spec
-    returns
-    sub-i
-    named-at-requires
-    returns-2
-    step-at-requires
-    returns-3
-    number-at-requires
-    returns-4
-    named-at-requires-2
-    returns-5
-    number-at-requires-2
-    returns-6
-    returns-7)
+    (tie.spec returns (search needs) (search needs) returns-2 (search needs) returns-3 (search needs) returns-4 (search needs) returns-5 (search needs)
+    returns-6 returns-7)

@@ -9,9 +9,6 @@ use Rattle.line.proofs.awaited.lettered_count.Tie as tie
 returns : tie.Need-returns
 returns c = rw (eq-eqb _ _ (c .if1 .taken))
 
-step-count-requires : tie.Need-step-count-requires
-step-count-requires c κs = search needs
-
 returns-2 : tie.Need-returns-2
 returns-2 c = rw (ne-eqb _ _ (c .before .before .if1 .left), eq-eqb _ _ (c .before .if2 .taken)) (c .step-count .ensures ∙ add-one _)
 
@@ -30,4 +27,4 @@ returns-6 c = rw (ne-eqb _ _ (c .before .before .before .before .if1 .left), ne-
 pub lettered-count-spec : {M : Type 1} → statement M
 lettered-count-spec =
     tie.close
-    (tie.spec returns step-count-requires returns-2 returns-3 returns-4 returns-5 returns-6)
+    (tie.spec returns (search needs) returns-2 returns-3 returns-4 returns-5 returns-6)

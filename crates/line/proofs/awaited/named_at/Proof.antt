@@ -8,17 +8,8 @@ use borrow.Author.Needs.{needs}
 use Rattle.line.proofs.awaited.named_at.Statement.{statement}
 use Rattle.line.proofs.awaited.named_at.Tie as tie
 
-sub-number-at : tie.Need-sub-number-at
-sub-number-at c = search needs
-
-number-at-requires : tie.Need-number-at-requires
-number-at-requires c κs = search needs
-
-returns : tie.Need-returns
-returns c = search needs
-
 returns-2 : tie.Need-returns-2
 returns-2 c = let g = c .before .before .args in c .number-at .ensures ∙ sym (L.later identifier (numbers (g .count)) (g .index) (g .index - 1) (omega arith))
 
 pub named-at-spec : {M : Type 1} → statement M
-named-at-spec = tie.close (tie.spec sub-number-at number-at-requires returns returns-2)
+named-at-spec = tie.close (tie.spec (search needs) (search needs) (λ c. search needs) returns-2)

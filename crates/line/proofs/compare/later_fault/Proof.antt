@@ -4,24 +4,6 @@ use borrow.Author.Needs.{needs}
 use Rattle.line.proofs.compare.later_fault.Statement.{statement}
 use Rattle.line.proofs.compare.later_fault.Tie as tie
 
-later-verdict-requires : tie.Need-later-verdict-requires
-later-verdict-requires c κs = search needs
-
-enum-told : tie.Need-enum-told
-enum-told c = search needs
-
-no-fault-requires : tie.Need-no-fault-requires
-no-fault-requires c κs = search needs
-
-enum-told-2 : tie.Need-enum-told-2
-enum-told-2 c = search needs
-
-no-fault-requires-2 : tie.Need-no-fault-requires-2
-no-fault-requires-2 c κs = search needs
-
-enum-known-f : tie.Need-enum-known-f
-enum-known-f c = search needs
-
 returns : tie.Need-returns
 returns c = let e = sym (c .before .before .before .later-verdict .ensures) ∙ c .before .enum-told .given .1 in rw e (c .no-fault .ensures)
 
@@ -34,13 +16,4 @@ returns-3 c = let e = sym (c .before .before .before .later-verdict .ensures) �
 pub later-fault-spec : {M : Type 1} → statement M
 later-fault-spec =
     tie.close
-    (tie.spec
-    later-verdict-requires
-    enum-told
-    no-fault-requires
-    enum-told-2
-    no-fault-requires-2
-    enum-known-f
-    returns
-    returns-2
-    returns-3)
+    (tie.spec (search needs) (search needs) (search needs) (search needs) (search needs) (search needs) returns returns-2 returns-3)

@@ -4,21 +4,6 @@ use borrow.Author.Needs.{needs}
 use Rattle.line.proofs.compare.part_of.Statement.{statement}
 use Rattle.line.proofs.compare.part_of.Tie as tie
 
-later-verdict-requires : tie.Need-later-verdict-requires
-later-verdict-requires c κs = search needs
-
-enum-told : tie.Need-enum-told
-enum-told c = search needs
-
-enum-told-2 : tie.Need-enum-told-2
-enum-told-2 c = search needs
-
-enum-told-3 : tie.Need-enum-told-3
-enum-told-3 c = search needs
-
-slice-aggregate-result : tie.Need-slice-aggregate-result
-slice-aggregate-result c = search needs
-
 returns : tie.Need-returns
 returns c = let e = sym (c .before .before .later-verdict .ensures) ∙ c .enum-told .given .1 in rw e refl
 
@@ -31,12 +16,4 @@ returns-3 c = let e = sym (c .before .before .before .later-verdict .ensures) �
 pub part-of-spec : {M : Type 1} → statement M
 part-of-spec =
     tie.close
-    (tie.spec
-    later-verdict-requires
-    enum-told
-    enum-told-2
-    enum-told-3
-    slice-aggregate-result
-    returns
-    returns-2
-    returns-3)
+    (tie.spec (search needs) (search needs) (search needs) (search needs) (search needs) returns returns-2 returns-3)

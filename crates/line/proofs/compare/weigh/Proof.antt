@@ -9,23 +9,14 @@ use borrow.Author.Needs.{needs}
 use Rattle.line.proofs.compare.weigh.Statement.{statement}
 use Rattle.line.proofs.compare.weigh.Tie as tie
 
-refused-requires : tie.Need-refused-requires
-refused-requires c κs = search needs
-
 returns : tie.Need-returns
 returns c = let b = c .before in let a = b .before .before .before .args in c .refused .ensures ∙ K.other-high (a .p) (a .q) (a .equal) (b .if1 .taken)
-
-refused-requires-2 : tie.Need-refused-requires-2
-refused-requires-2 c κs = search needs
 
 returns-2 : tie.Need-returns-2
 returns-2 c =
     let b = c .before in
     let a = b .before .before .before .before .before .before .args in
     c .refused2 .ensures ∙ K.other-low (a .p) (a .q) (a .equal) (b .before .before .before .if1 .left) (b .if2 .taken)
-
-is-before-requires : tie.Need-is-before-requires
-is-before-requires c κs = search needs
 
 -- the issues, as the machine reads them
 module _ (s : tie.Start) where
@@ -56,9 +47,6 @@ returns-3 c =
     let a = start t .args in
     K.second-later (a .p) (a .q) (a .equal) (t .before .before .before .before .before .before .if1 .left) (t .before .before .before .if2 .left) (first-before t (c .if3 .taken))
 
-is-before-requires-2 : tie.Need-is-before-requires-2
-is-before-requires-2 c κs = search needs
-
 returns-4 : tie.Need-returns-4
 returns-4 c =
     let u = c .before in
@@ -73,9 +61,6 @@ returns-5 c =
     let a = start t .args in
     K.one-line (a .p) (a .q) (a .equal) (t .before .before .before .before .before .before .if1 .left) (t .before .before .before .if2 .left) (first-before t (u .before .before .before .if3 .left)) (second-before u (c .before .if4 .left)) (c .if5 .taken)
 
-refused-requires-3 : tie.Need-refused-requires-3
-refused-requires-3 c κs = search needs
-
 returns-6 : tie.Need-returns-6
 returns-6 c =
     let b = c .before in
@@ -87,15 +72,4 @@ returns-6 c =
 pub weigh-spec : {M : Type 1} → statement M
 weigh-spec =
     tie.close
-    (tie.spec
-    refused-requires
-    returns
-    refused-requires-2
-    returns-2
-    is-before-requires
-    returns-3
-    is-before-requires-2
-    returns-4
-    refused-requires-3
-    returns-5
-    returns-6)
+    (tie.spec (search needs) returns (search needs) returns-2 (search needs) returns-3 (search needs) returns-4 (search needs) returns-5 returns-6)

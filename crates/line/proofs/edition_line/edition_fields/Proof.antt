@@ -8,12 +8,6 @@ use borrow.Author.Needs.{needs}
 use Rattle.line.proofs.edition_line.edition_fields.Statement.{statement}
 use Rattle.line.proofs.edition_line.edition_fields.Tie as tie
 
-letter-requires : tie.Need-letter-requires
-letter-requires c κs = search needs
-
-number-requires : tie.Need-number-requires
-number-requires c κs = search needs
-
 returns : tie.Need-returns
 unfolding editionForm
 returns c =
@@ -24,4 +18,4 @@ returns c =
     W.done (e ∙ q) b
 
 pub edition-fields-spec : {M : Type 1} → statement M
-edition-fields-spec = tie.close (tie.spec letter-requires number-requires returns)
+edition-fields-spec = tie.close (tie.spec (search needs) (search needs) returns)

@@ -14,17 +14,8 @@ use borrow.Author.Needs.{needs}
 use Rattle.line.proofs.edition_line.read_edition.Statement.{statement}
 use Rattle.line.proofs.edition_line.read_edition.Tie as tie
 
-body-end-requires : tie.Need-body-end-requires
-body-end-requires c κs = search needs
-
 slice-aggregate-s : tie.Need-slice-aggregate-s
 slice-aggregate-s c = sym (length-take-le _ _ (omega arith))
-
-edition-fields-requires : tie.Need-edition-fields-requires
-edition-fields-requires c κs = search needs
-
-add-if2 : tie.Need-add-if2
-add-if2 c = search needs
 
 returns : tie.Need-returns
 unfolding readEdition
@@ -34,9 +25,6 @@ returns c =
     let line = c6 .before .before .args .line .now in
     let e : toZ w64 (ofZ w64 (c3 .edition-fields .result .year)) ≡ c3 .edition-fields .result .year = search needs in
     A.of-form (editionAs (Malformed (faultOf editionShape line))) editionForm _ _ (c6 .body-end .ensures) (omega arith) (c3 .edition-fields .ensures) _ (c .before .if2 .taken) (λ y q. ap Edition (e ∙ q))
-
-fault-of-requires : tie.Need-fault-of-requires
-fault-of-requires c κs = search needs
 
 returns-2 : tie.Need-returns-2
 unfolding readEdition
@@ -50,11 +38,4 @@ returns-2 c =
 pub read-edition-spec : {M : Type 1} → statement M
 read-edition-spec =
     tie.close
-    (tie.spec
-    body-end-requires
-    slice-aggregate-s
-    edition-fields-requires
-    add-if2
-    returns
-    fault-of-requires
-    returns-2)
+    (tie.spec (search needs) slice-aggregate-s (search needs) (search needs) returns (search needs) returns-2)

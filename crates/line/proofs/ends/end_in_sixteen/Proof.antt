@@ -17,37 +17,13 @@ abbrev μ-loop : tie.MeasureT-loop
 loop-holds : tie.Need-loop-holds Inv-loop μ-loop
 loop-holds c = (omega arith, stands _ _)
 
-add-if1 : tie.Need-add-if1 Inv-loop μ-loop
-add-if1 c = search needs
-
-shared-slice-read-if1 : tie.Need-shared-slice-read-if1 Inv-loop μ-loop
-shared-slice-read-if1 c = search needs
-
-add-result : tie.Need-add-result Inv-loop μ-loop
-add-result c = search needs
-
-add-result-2 : tie.Need-add-result-2 Inv-loop μ-loop
-add-result-2 c = search needs
-
 returns : tie.Need-returns Inv-loop μ-loop
 returns c = at-feed _ _ _ (c .before .before .before .loop .inv .1) (omega arith) (c .if1 .taken)
-
-add-clear : tie.Need-add-clear Inv-loop μ-loop
-add-clear c = search needs
-
-loop-less : tie.Need-loop-less Inv-loop μ-loop
-loop-less c = omega arith
 
 loop-again : tie.Need-loop-again Inv-loop μ-loop
 loop-again c =
     let k = c .before .before .before .loop in
     (omega arith, further _ _ (k .clear) (k .inv .1) (omega arith) (c .if1 .left))
-
-add-end-near : tie.Need-add-end-near Inv-loop μ-loop
-add-end-near c = search needs
-
-end-near-requires : tie.Need-end-near-requires Inv-loop μ-loop
-end-near-requires c κs = search needs
 
 returns-2 : tie.Need-returns-2 Inv-loop μ-loop
 returns-2 c =
@@ -58,18 +34,5 @@ returns-2 c =
 pub end-in-sixteen-spec : {M : Type 1} → statement M
 end-in-sixteen-spec =
     tie.close
-    (tie.spec
-    Inv-loop
-    μ-loop
-    loop-holds
-    add-if1
-    shared-slice-read-if1
-    add-result
-    add-result-2
-    returns
-    add-clear
-    loop-less
-    loop-again
-    add-end-near
-    end-near-requires
-    returns-2)
+    (tie.spec Inv-loop μ-loop loop-holds (search needs) (search needs) (search needs) (search needs) returns (search needs) (search needs) loop-again
+    (search needs) (search needs) returns-2)

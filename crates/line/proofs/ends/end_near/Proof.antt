@@ -15,24 +15,9 @@ Inv-loop input from place₀ place = place + firstLength (drop place input) ≡ 
 abbrev μ-loop : tie.MeasureT-loop
 μ-loop input from place₀ place = length input - place
 
-loop-holds : tie.Need-loop-holds Inv-loop μ-loop
-loop-holds c = search needs
-
-shared-slice-read-if1 : tie.Need-shared-slice-read-if1 Inv-loop μ-loop
-shared-slice-read-if1 c = search needs
-
-add-result : tie.Need-add-result Inv-loop μ-loop
-add-result c = search needs
-
 returns : tie.Need-returns Inv-loop μ-loop
 unfolding lineEnd
 returns c = omega (arith, length-feed (c .before .before .before .before .args .input .now) (c .before .before .before .loop .place) (omega arith) (omega arith))
-
-add-place : tie.Need-add-place Inv-loop μ-loop
-add-place c = search needs
-
-loop-less : tie.Need-loop-less Inv-loop μ-loop
-loop-less c = search needs
 
 loop-again : tie.Need-loop-again Inv-loop μ-loop
 loop-again c = omega (arith, length-more (c .before .before .before .before .args .input .now) (c .before .before .before .loop .place) (omega arith) (omega arith))
@@ -44,4 +29,4 @@ returns-2 c = omega (arith, length-none (c .before .before .args .input .now) (c
 pub end-near-spec : {M : Type 1} → statement M
 end-near-spec =
     tie.close
-    (tie.spec Inv-loop μ-loop loop-holds shared-slice-read-if1 add-result returns add-place loop-less loop-again returns-2)
+    (tie.spec Inv-loop μ-loop (search needs) (search needs) (search needs) returns (search needs) (search needs) loop-again returns-2)

@@ -12,12 +12,6 @@ returns c = rw (W.framed-empty (c .before .args .line .now) (c .if1 .taken)) (om
 returns-2 : tie.Need-returns-2
 returns-2 c = rw (W.framed-long (c .before .before .args .line .now) (c .if2 .taken)) (omega arith)
 
-sub-e : tie.Need-sub-e
-sub-e c = search needs
-
-shared-slice-read-if3 : tie.Need-shared-slice-read-if3
-shared-slice-read-if3 c = search needs
-
 returns-3 : tie.Need-returns-3
 returns-3 c = rw (W.framed (c .before .before .before .before .args .line .now) (omega arith) (omega arith) (c .if3 .taken)) (omega arith, refl)
 
@@ -26,4 +20,4 @@ returns-4 c = rw (W.framed-open (c .before .before .before .before .args .line .
 
 pub body-end-spec : {M : Type 1} → statement M
 body-end-spec =
-    tie.close (tie.spec returns returns-2 sub-e shared-slice-read-if3 returns-3 returns-4)
+    tie.close (tie.spec returns returns-2 (search needs) (search needs) returns-3 returns-4)

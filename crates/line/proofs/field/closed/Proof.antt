@@ -7,23 +7,11 @@ use borrow.Author.Needs.{needs}
 use Rattle.line.proofs.field.closed.Statement.{statement}
 use Rattle.line.proofs.field.closed.Tie as tie
 
-shared-slice-read-if2 : tie.Need-shared-slice-read-if2
-shared-slice-read-if2 c = search needs
-
-add-result : tie.Need-add-result
-add-result c = search needs
-
 returns : tie.Need-returns
 returns c = let g = c .before .before .before .before .args in W.ends-here (W.from-tab (g .s .now) (g .at) (omega arith) (omega arith)) (omega arith)
 
-add-result-2 : tie.Need-add-result-2
-add-result-2 c = search needs
-
 returns-2 : tie.Need-returns-2
 returns-2 c = let g = c .before .before .before .args in W.ends-here (W.from-end (g .s .now) (g .at) (omega arith)) (omega arith)
-
-nowhere-requires : tie.Need-nowhere-requires
-nowhere-requires c κs = search needs
 
 returns-3 : tie.Need-returns-3
 returns-3 c =
@@ -34,11 +22,4 @@ returns-3 c =
 pub closed-spec : {M : Type 1} → statement M
 closed-spec =
     tie.close
-    (tie.spec
-    shared-slice-read-if2
-    add-result
-    returns
-    add-result-2
-    returns-2
-    nowhere-requires
-    returns-3)
+    (tie.spec (search needs) (search needs) returns (search needs) returns-2 (search needs) returns-3)

@@ -7,12 +7,6 @@ use borrow.Author.Needs.{needs}
 use Rattle.line.proofs.field.letter.Statement.{statement}
 use Rattle.line.proofs.field.letter.Tie as tie
 
-single-requires : tie.Need-single-requires
-single-requires c κs = search needs
-
-nowhere-requires : tie.Need-nowhere-requires
-nowhere-requires c κs = search needs
-
 returns : tie.Need-returns
 returns c = W.sift _ (c .before .before .single .ensures) (rw (eq-eqb _ _ (c .if1 .taken))) refl
 
@@ -20,4 +14,4 @@ returns-2 : tie.Need-returns-2
 returns-2 c = W.sift-off _ (c .before .before .before .single .ensures) (rw (ne-eqb _ _ (c .before .if1 .left))) (omega arith)
 
 pub letter-spec : {M : Type 1} → statement M
-letter-spec = tie.close (tie.spec single-requires nowhere-requires returns returns-2)
+letter-spec = tie.close (tie.spec (search needs) (search needs) returns returns-2)

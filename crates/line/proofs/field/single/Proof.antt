@@ -11,27 +11,12 @@ use borrow.Author.Needs.{needs}
 use Rattle.line.proofs.field.single.Statement.{statement}
 use Rattle.line.proofs.field.single.Tie as tie
 
-shared-slice-read-if2 : tie.Need-shared-slice-read-if2
-shared-slice-read-if2 c = search needs
-
-shared-slice-read-t9 : tie.Need-shared-slice-read-t9
-shared-slice-read-t9 c = search needs
-
-add-closed : tie.Need-add-closed
-add-closed c = search needs
-
-closed-requires : tie.Need-closed-requires
-closed-requires c κs = search needs
-
 returns : tie.Need-returns
 returns c =
     let c2 = c .before .before in
     let c6 = c2 .before .before .before .before in
     let g = c6 .args in
     W.onto {rest = λ f. single (getD (g .s .now) (g .at) 0 ∷ f)} (W.head-close (g .s .now) (g .at + 1) _ _ (c .closed .ensures) refl refl (λ l e f. refl)) (omega arith) (c2 .if2 .taken) (λ f. refl)
-
-nowhere-requires : tie.Need-nowhere-requires
-nowhere-requires c κs = search needs
 
 returns-2 : tie.Need-returns-2
 returns-2 c =
@@ -41,11 +26,4 @@ returns-2 c =
 pub single-spec : {M : Type 1} → statement M
 single-spec =
     tie.close
-    (tie.spec
-    shared-slice-read-if2
-    shared-slice-read-t9
-    add-closed
-    closed-requires
-    returns
-    nowhere-requires
-    returns-2)
+    (tie.spec (search needs) (search needs) (search needs) (search needs) returns (search needs) returns-2)

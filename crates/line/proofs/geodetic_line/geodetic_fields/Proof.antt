@@ -8,18 +8,6 @@ use borrow.Author.Needs.{needs}
 use Rattle.line.proofs.geodetic_line.geodetic_fields.Statement.{statement}
 use Rattle.line.proofs.geodetic_line.geodetic_fields.Tie as tie
 
-letter-requires : tie.Need-letter-requires
-letter-requires c κs = search needs
-
-name-requires : tie.Need-name-requires
-name-requires c κs = search needs
-
-number-requires : tie.Need-number-requires
-number-requires c κs = search needs
-
-number-requires-2 : tie.Need-number-requires-2
-number-requires-2 c κs = search needs
-
 returns : tie.Need-returns
 unfolding geodeticForm
 returns c =
@@ -39,4 +27,4 @@ returns c =
 
 pub geodetic-fields-spec : {M : Type 1} → statement M
 geodetic-fields-spec =
-    tie.close (tie.spec letter-requires name-requires number-requires number-requires-2 returns)
+    tie.close (tie.spec (search needs) (search needs) (search needs) (search needs) returns)

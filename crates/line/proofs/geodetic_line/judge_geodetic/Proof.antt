@@ -9,9 +9,6 @@ use borrow.Author.Needs.{needs}
 use Rattle.line.proofs.geodetic_line.judge_geodetic.Statement.{statement}
 use Rattle.line.proofs.geodetic_line.judge_geodetic.Tie as tie
 
-angles-fault-requires : tie.Need-angles-fault-requires
-angles-fault-requires c κs = search needs
-
 returns : tie.Need-returns
 returns c =
     let g = c .before .before .before .before .args .g in
@@ -27,4 +24,4 @@ returns-2 c =
     A.judge-some geodeticFault Geodetic Refused g _ (rw (a, o) at (c .before .angles-fault .ensures)) (c .if1 .left)
 
 pub judge-geodetic-spec : {M : Type 1} → statement M
-judge-geodetic-spec = tie.close (tie.spec angles-fault-requires returns returns-2)
+judge-geodetic-spec = tie.close (tie.spec (search needs) returns returns-2)

@@ -11,20 +11,8 @@ use borrow.Author.Needs.{needs}
 use Rattle.line.proofs.geodetic_line.read_geodetic.Statement.{statement}
 use Rattle.line.proofs.geodetic_line.read_geodetic.Tie as tie
 
-body-end-requires : tie.Need-body-end-requires
-body-end-requires c κs = search needs
-
 slice-aggregate-s : tie.Need-slice-aggregate-s
 slice-aggregate-s c = sym (length-take-le _ _ (omega arith))
-
-geodetic-fields-requires : tie.Need-geodetic-fields-requires
-geodetic-fields-requires c κs = search needs
-
-add-if2 : tie.Need-add-if2
-add-if2 c = search needs
-
-judge-geodetic-requires : tie.Need-judge-geodetic-requires
-judge-geodetic-requires c κs = search needs
 
 returns : tie.Need-returns
 unfolding readGeodetic
@@ -33,9 +21,6 @@ returns c =
     let c4 = c2 .before .before in
     let c7 = c4 .before .before .before in
     A.good-form _ _ _ F.careful-geodetic _ _ _ _ (c7 .body-end .ensures) (omega arith) (c4 .geodetic-fields .ensures) _ (c2 .if2 .taken) (c .judge-geodetic .ensures)
-
-fault-of-requires : tie.Need-fault-of-requires
-fault-of-requires c κs = search needs
 
 returns-2 : tie.Need-returns-2
 unfolding readGeodetic
@@ -48,12 +33,4 @@ returns-2 c =
 pub read-geodetic-spec : {M : Type 1} → statement M
 read-geodetic-spec =
     tie.close
-    (tie.spec
-    body-end-requires
-    slice-aggregate-s
-    geodetic-fields-requires
-    add-if2
-    judge-geodetic-requires
-    returns
-    fault-of-requires
-    returns-2)
+    (tie.spec (search needs) slice-aggregate-s (search needs) (search needs) (search needs) returns (search needs) returns-2)

@@ -17,15 +17,6 @@ abbrev μ-loop : tie.MeasureT-loop
 loop-holds : tie.Need-loop-holds Inv-loop μ-loop
 loop-holds c = (N.run-none _ _, refl)
 
-shared-slice-read-b : tie.Need-shared-slice-read-b Inv-loop μ-loop
-shared-slice-read-b c = search needs
-
-is-name-byte-requires : tie.Need-is-name-byte-requires Inv-loop μ-loop
-is-name-byte-requires c κs = search needs
-
-wide-requires : tie.Need-wide-requires Inv-loop μ-loop
-wide-requires c κs = search needs
-
 mul-value : tie.Need-mul-value Inv-loop μ-loop
 mul-value c =
     let c3 = c .before .before .before in
@@ -37,15 +28,6 @@ add-value c =
     let c3 = c .before .before .before in
     let c6 = c3 .before .before .before in
     let k = c6 .loop in record { fits = N.sum-fits (k .inv .0) (omega arith) (c .wide .result) (k .scale) (omega (arith, c3 .shared-slice-known2 .given (k .i))) (k .inv .1) }
-
-sub-left : tie.Need-sub-left Inv-loop μ-loop
-sub-left c = search needs
-
-add-i : tie.Need-add-i Inv-loop μ-loop
-add-i c = search needs
-
-loop-less : tie.Need-loop-less Inv-loop μ-loop
-loop-less c = omega arith
 
 loop-again : tie.Need-loop-again Inv-loop μ-loop
 loop-again c =
@@ -67,19 +49,5 @@ returns-3 c = let k = c .before .before .before .before .before .loop in record 
 pub eight-spec : {M : Type 1} → statement M
 eight-spec =
     tie.close
-    (tie.spec
-    Inv-loop
-    μ-loop
-    loop-holds
-    shared-slice-read-b
-    is-name-byte-requires
-    wide-requires
-    mul-value
-    add-value
-    sub-left
-    add-i
-    loop-less
-    loop-again
-    returns
-    returns-2
-    returns-3)
+    (tie.spec Inv-loop μ-loop loop-holds (search needs) (search needs) (search needs) mul-value add-value (search needs) (search needs) (search needs)
+    loop-again returns returns-2 returns-3)

@@ -10,14 +10,8 @@ returns c = B.below _ (c .if1 .taken)
 returns-2 : tie.Need-returns-2
 returns-2 c = B.above _ (c .if2 .taken)
 
-cast-result : tie.Need-cast-result
-cast-result c = search needs
-
-shr-result : tie.Need-shr-result
-shr-result c = search needs
-
 returns-3 : tie.Need-returns-3
 returns-3 c = B.by-bit _ (c .before .if1 .left) (c .if2 .left)
 
 pub is-name-byte-spec : {M : Type 1} → statement M
-is-name-byte-spec = tie.close (tie.spec returns returns-2 cast-result shr-result returns-3)
+is-name-byte-spec = tie.close (tie.spec returns returns-2 (search needs) (search needs) returns-3)

@@ -6,18 +6,6 @@ use borrow.Author.Needs.{needs}
 use Rattle.line.proofs.name.name.Statement.{statement}
 use Rattle.line.proofs.name.name.Tie as tie
 
-eight-requires : tie.Need-eight-requires
-eight-requires c κs = search needs
-
-eight-requires-2 : tie.Need-eight-requires-2
-eight-requires-2 c κs = search needs
-
-nowhere-requires : tie.Need-nowhere-requires
-nowhere-requires c κs = search needs
-
-closed-requires : tie.Need-closed-requires
-closed-requires c κs = search needs
-
 returns : tie.Need-returns
 returns c =
     let c2 = c .before .before in
@@ -33,4 +21,4 @@ returns-2 c = N.name-got (c .before .before .before .eight .ensures) (c .before 
 pub name-spec : {M : Type 1} → statement M
 name-spec =
     tie.close
-    (tie.spec eight-requires eight-requires-2 nowhere-requires closed-requires returns returns-2)
+    (tie.spec (search needs) (search needs) (search needs) (search needs) returns returns-2)

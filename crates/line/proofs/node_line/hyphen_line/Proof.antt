@@ -9,15 +9,9 @@ returns : tie.Need-returns
 unfolding hyphenLine
 returns c = rw (ne-eqb _ _ (c .if1 .taken))
 
-shared-slice-read-result : tie.Need-shared-slice-read-result
-shared-slice-read-result c = search needs
-
-shared-slice-read-result-2 : tie.Need-shared-slice-read-result-2
-shared-slice-read-result-2 c = search needs
-
 returns-2 : tie.Need-returns-2
 unfolding hyphenLine
 returns-2 c = rw (eq-eqb _ _ (c .before .before .if1 .left))
 
 pub hyphen-line-spec : {M : Type 1} → statement M
-hyphen-line-spec = tie.close (tie.spec returns shared-slice-read-result shared-slice-read-result-2 returns-2)
+hyphen-line-spec = tie.close (tie.spec returns (search needs) (search needs) returns-2)

@@ -12,17 +12,8 @@ use borrow.Author.Needs.{needs}
 use Rattle.line.proofs.node_line.numbers_node.Statement.{statement}
 use Rattle.line.proofs.node_line.numbers_node.Tie as tie
 
-body-end-requires : tie.Need-body-end-requires
-body-end-requires c κs = search needs
-
 slice-aggregate-s : tie.Need-slice-aggregate-s
 slice-aggregate-s c = sym (length-take-le _ _ (omega arith))
-
-node-fields-requires : tie.Need-node-fields-requires
-node-fields-requires c κs = search needs
-
-add-if2 : tie.Need-add-if2
-add-if2 c = search needs
 
 returns : tie.Need-returns
 unfolding numbersNode
@@ -31,9 +22,6 @@ returns c =
     let c6 = c3 .before .before .before in
     let line = c6 .before .before .args .line .now in
     A.of-form (partsAs (Malformed (faultOf nodeShape line))) nodeForm _ _ (c6 .body-end .ensures) (omega arith) (c3 .node-fields .ensures) _ (c .before .if2 .taken) (λ h q. ap Parts q)
-
-fault-of-requires : tie.Need-fault-of-requires
-fault-of-requires c κs = search needs
 
 returns-2 : tie.Need-returns-2
 unfolding numbersNode
@@ -47,11 +35,4 @@ returns-2 c =
 pub numbers-node-spec : {M : Type 1} → statement M
 numbers-node-spec =
     tie.close
-    (tie.spec
-    body-end-requires
-    slice-aggregate-s
-    node-fields-requires
-    add-if2
-    returns
-    fault-of-requires
-    returns-2)
+    (tie.spec (search needs) slice-aggregate-s (search needs) (search needs) returns (search needs) returns-2)

@@ -5,19 +5,13 @@ use Rattle.line.specs.Readers.{readNode}
 use Rattle.line.proofs.node_line.read_node.Statement.{statement}
 use Rattle.line.proofs.node_line.read_node.Tie as tie
 
-hyphen-line-requires : tie.Need-hyphen-line-requires
-hyphen-line-requires c κs = search needs
-
 returns : tie.Need-returns
 unfolding readNode
 returns c = rw (sym (c .before .hyphen-line .ensures) ∙ c .if1 .taken)
-
-numbers-node-requires : tie.Need-numbers-node-requires
-numbers-node-requires c κs = search needs
 
 returns-2 : tie.Need-returns-2
 unfolding readNode
 returns-2 c = rw (sym (c .before .before .hyphen-line .ensures) ∙ c .before .if1 .left) (c .numbers-node .ensures)
 
 pub read-node-spec : {M : Type 1} → statement M
-read-node-spec = tie.close (tie.spec hyphen-line-requires returns numbers-node-requires returns-2)
+read-node-spec = tie.close (tie.spec (search needs) returns (search needs) returns-2)

@@ -4,11 +4,8 @@ use borrow.Author.Needs.{needs}
 use Rattle.line.proofs.number.above_zero.Statement.{statement}
 use Rattle.line.proofs.number.above_zero.Tie as tie
 
-cast-result : tie.Need-cast-result
-cast-result c = search needs
-
 returns : tie.Need-returns
 returns c = N.cast-is _ (c .pre)
 
 pub above-zero-spec : {M : Type 1} → statement M
-above-zero-spec = tie.close (tie.spec cast-result returns)
+above-zero-spec = tie.close (tie.spec (search needs) returns)

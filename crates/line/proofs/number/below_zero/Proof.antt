@@ -4,9 +4,6 @@ use borrow.Author.Needs.{needs}
 use Rattle.line.proofs.number.below_zero.Statement.{statement}
 use Rattle.line.proofs.number.below_zero.Tie as tie
 
-cast-result : tie.Need-cast-result
-cast-result c = search needs
-
 sub-result : tie.Need-sub-result
 sub-result c = N.neg-fits _ (c .pre)
 
@@ -14,4 +11,4 @@ returns : tie.Need-returns
 returns c = N.neg-is _ (c .pre)
 
 pub below-zero-spec : {M : Type 1} → statement M
-below-zero-spec = tie.close (tie.spec cast-result sub-result returns)
+below-zero-spec = tie.close (tie.spec (search needs) sub-result returns)

@@ -7,9 +7,6 @@ use borrow.Author.Needs.{needs}
 use Rattle.line.proofs.number.eight.Statement.{statement}
 use Rattle.line.proofs.number.eight.Tie as tie
 
-word-requires : tie.Need-word-requires
-word-requires c κs = search needs
-
 sub-digits : tie.Need-sub-digits
 sub-digits c = W.none-below (c .word .ensures) (c .before .before .pre .1)
 
@@ -25,25 +22,10 @@ mul-fours c = let u = c .word .result - 3472328296227680304 in omega (arith, and
 add-fours : tie.Need-add-fours
 add-fours c = let u = c .word .result - 3472328296227680304 in omega (arith, and-le-r (u * 10 + u / 256) 71777214294589695)
 
-mul-result : tie.Need-mul-result
-mul-result c = search needs
-
-add-result : tie.Need-add-result
-add-result c = search needs
-
 returns : tie.Need-returns
 returns c = W.value (c .before .before .pre .0) (c .word .ensures) (c .before .before .pre .1)
 
 pub eight-spec : {M : Type 1} → statement M
 eight-spec =
     tie.close
-    (tie.spec
-    word-requires
-    sub-digits
-    mul-pairs
-    add-pairs
-    mul-fours
-    add-fours
-    mul-result
-    add-result
-    returns)
+    (tie.spec (search needs) sub-digits mul-pairs add-pairs mul-fours add-fours (search needs) (search needs) returns)

@@ -17,29 +17,11 @@ abbrev μ-loop : tie.MeasureT-loop
 loop-holds : tie.Need-loop-holds Inv-loop μ-loop
 loop-holds c = (omega arith, omega (arith, c .before .pre), λ v n g. g)
 
-shared-slice-read-b : tie.Need-shared-slice-read-b Inv-loop μ-loop
-shared-slice-read-b c = search needs
-
 mul-a : tie.Need-mul-a Inv-loop μ-loop
 mul-a c = let k = c .before .before .before .before .before .loop in omega (arith, L.below-cap (k .left) (k .a) (k .inv .0) (k .inv .1))
 
-wide-requires : tie.Need-wide-requires Inv-loop μ-loop
-wide-requires c κs = search needs
-
-sub-a : tie.Need-sub-a Inv-loop μ-loop
-sub-a c = search needs
-
 add-a : tie.Need-add-a Inv-loop μ-loop
 add-a c = let k = c .before .before .before .before .before .before .loop in omega (arith, L.below-cap (k .left) (k .a) (k .inv .0) (k .inv .1))
-
-add-i : tie.Need-add-i Inv-loop μ-loop
-add-i c = search needs
-
-sub-left : tie.Need-sub-left Inv-loop μ-loop
-sub-left c = search needs
-
-loop-less : tie.Need-loop-less Inv-loop μ-loop
-loop-less c = omega arith
 
 loop-again : tie.Need-loop-again Inv-loop μ-loop
 loop-again c =
@@ -61,20 +43,5 @@ returns-4 c = let k = c .before .before .before .before .before .loop in (k .inv
 pub few-spec : {M : Type 1} → statement M
 few-spec =
     tie.close
-    (tie.spec
-    Inv-loop
-    μ-loop
-    loop-holds
-    shared-slice-read-b
-    mul-a
-    wide-requires
-    sub-a
-    add-a
-    add-i
-    sub-left
-    loop-less
-    loop-again
-    returns
-    returns-2
-    returns-3
-    returns-4)
+    (tie.spec Inv-loop μ-loop loop-holds (search needs) mul-a (search needs) (search needs) add-a (search needs) (search needs) (search needs) loop-again
+    returns returns-2 returns-3 returns-4)

@@ -10,32 +10,8 @@ use borrow.Author.Needs.{needs}
 use Rattle.line.proofs.number.number.Statement.{statement}
 use Rattle.line.proofs.number.number.Tie as tie
 
-nowhere-requires : tie.Need-nowhere-requires
-nowhere-requires c κs = search needs
-
 returns : tie.Need-returns
 returns c = let g = c .before .before .before .args in W.got-none (W.head-nothing (g .s .now) (g .at) _ (λ l. absurd (omega arith)) N.number-none) (omega arith)
-
-shared-slice-read-if2 : tie.Need-shared-slice-read-if2
-shared-slice-read-if2 c = search needs
-
-add-unsigned : tie.Need-add-unsigned
-add-unsigned c = search needs
-
-unsigned-requires : tie.Need-unsigned-requires
-unsigned-requires c κs = search needs
-
-nowhere-requires-2 : tie.Need-nowhere-requires-2
-nowhere-requires-2 c κs = search needs
-
-below-zero-requires : tie.Need-below-zero-requires
-below-zero-requires c κs = search needs
-
-unsigned-requires-2 : tie.Need-unsigned-requires-2
-unsigned-requires-2 c κs = search needs
-
-above-zero-requires : tie.Need-above-zero-requires
-above-zero-requires c κs = search needs
 
 returns-2 : tie.Need-returns-2
 returns-2 c =
@@ -54,15 +30,5 @@ returns-3 c = let z = c .above-zero .result in let e : toZ w64 (ofZ w64 z) ≡ z
 pub number-spec : {M : Type 1} → statement M
 number-spec =
     tie.close
-    (tie.spec
-    nowhere-requires
-    returns
-    shared-slice-read-if2
-    add-unsigned
-    unsigned-requires
-    nowhere-requires-2
-    below-zero-requires
-    unsigned-requires-2
-    above-zero-requires
-    returns-2
+    (tie.spec (search needs) returns (search needs) (search needs) (search needs) (search needs) (search needs) (search needs) (search needs) returns-2
     returns-3)

@@ -8,9 +8,6 @@ use borrow.Author.Needs.{needs}
 use Rattle.line.proofs.number.other_eight.Statement.{statement}
 use Rattle.line.proofs.number.other_eight.Tie as tie
 
-word-requires : tie.Need-word-requires
-word-requires c κs = search needs
-
 returns : tie.Need-returns
 returns c = λ e. absurd (never (sym e))
 
@@ -21,4 +18,4 @@ returns-2 : tie.Need-returns-2
 returns-2 c = λ e. W.there (c .before .word .ensures) (c .if1 .left) (eqb-true _ _ (not-false _ e))
 
 pub other-eight-spec : {M : Type 1} → statement M
-other-eight-spec = tie.close (tie.spec word-requires returns add-result returns-2)
+other-eight-spec = tie.close (tie.spec (search needs) returns add-result returns-2)

@@ -7,35 +7,11 @@ use borrow.Author.Needs.{needs}
 use Rattle.line.proofs.number.unsigned.Statement.{statement}
 use Rattle.line.proofs.number.unsigned.Tie as tie
 
-shared-slice-read-b : tie.Need-shared-slice-read-b
-shared-slice-read-b c = search needs
-
-add-closed : tie.Need-add-closed
-add-closed c = search needs
-
-closed-requires : tie.Need-closed-requires
-closed-requires c κs = search needs
-
 returns : tie.Need-returns
 returns c = record { got = N.zero-alone (omega arith) (c .closed .ensures) (c .before .if2 .taken); small = omega arith }
 
-add-magnitude : tie.Need-add-magnitude
-add-magnitude c = search needs
-
-wide-requires : tie.Need-wide-requires
-wide-requires c κs = search needs
-
-sub-magnitude : tie.Need-sub-magnitude
-sub-magnitude c = search needs
-
-magnitude-requires : tie.Need-magnitude-requires
-magnitude-requires c κs = search needs
-
 returns-2 : tie.Need-returns-2
 returns-2 c = record { got = N.first-digit (omega arith) _ (c .magnitude .ensures .got) (omega arith) (omega arith) (omega arith); small = c .magnitude .ensures .small }
-
-nowhere-requires : tie.Need-nowhere-requires
-nowhere-requires c κs = search needs
 
 returns-3 : tie.Need-returns-3
 returns-3 c =
@@ -46,15 +22,5 @@ returns-3 c =
 pub unsigned-spec : {M : Type 1} → statement M
 unsigned-spec =
     tie.close
-    (tie.spec
-    shared-slice-read-b
-    add-closed
-    closed-requires
-    returns
-    add-magnitude
-    wide-requires
-    sub-magnitude
-    magnitude-requires
-    returns-2
-    nowhere-requires
+    (tie.spec (search needs) (search needs) (search needs) returns (search needs) (search needs) (search needs) (search needs) returns-2 (search needs)
     returns-3)

@@ -6,9 +6,6 @@ use borrow.Author.Needs.{needs}
 use Rattle.line.proofs.origin_line.judge_origin.Statement.{statement}
 use Rattle.line.proofs.origin_line.judge_origin.Tie as tie
 
-origin-fault-requires : tie.Need-origin-fault-requires
-origin-fault-requires c κs = search needs
-
 returns : tie.Need-returns
 returns c = A.judge-none originFault Origin Refused (c .before .before .args .o) _ (c .before .origin-fault .ensures) (c .if1 .taken)
 
@@ -16,4 +13,4 @@ returns-2 : tie.Need-returns-2
 returns-2 c = A.judge-some originFault Origin Refused (c .before .before .args .o) _ (c .before .origin-fault .ensures) (c .if1 .left)
 
 pub judge-origin-spec : {M : Type 1} → statement M
-judge-origin-spec = tie.close (tie.spec origin-fault-requires returns returns-2)
+judge-origin-spec = tie.close (tie.spec (search needs) returns returns-2)

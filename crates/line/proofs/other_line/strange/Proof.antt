@@ -10,20 +10,11 @@ use borrow.Author.Needs.{needs}
 use Rattle.line.proofs.other_line.strange.Statement.{statement}
 use Rattle.line.proofs.other_line.strange.Tie as tie
 
-body-end-requires : tie.Need-body-end-requires
-body-end-requires c κs = search needs
-
-found-requires : tie.Need-found-requires
-found-requires c κs = search needs
-
 returns : tie.Need-returns
 unfolding faultOf
 returns c = let line = c .before .before .before .before .args .line .now in
     let end = c .before .before .body-end .result in
     c .found .ensures ∙ rw (L.body-some line end (c .before .before .body-end .ensures) (c .before .if1 .taken)) (L.strange-fields (take end line) (endOf line))
-
-end-of-requires : tie.Need-end-of-requires
-end-of-requires c κs = search needs
 
 found-requires-2 : tie.Need-found-requires-2
 found-requires-2 c κs = omega (arith, c .end-of .ensures, end-low (c .before .before .before .before .args .line .now))
@@ -38,4 +29,4 @@ returns-2 c = let line = c .before .before .before .before .before .args .line .
 pub strange-spec : {M : Type 1} → statement M
 strange-spec =
     tie.close
-    (tie.spec body-end-requires found-requires returns end-of-requires found-requires-2 returns-2)
+    (tie.spec (search needs) (search needs) returns (search needs) found-requires-2 returns-2)

@@ -9,9 +9,6 @@ use borrow.Author.Needs.{needs}
 use Rattle.line.proofs.point_line.judge_point.Statement.{statement}
 use Rattle.line.proofs.point_line.judge_point.Tie as tie
 
-point-fault-requires : tie.Need-point-fault-requires
-point-fault-requires c κs = search needs
-
 -- what the record is refused for
 found : (c : tie.After-point-fault) → c .point-fault .result ≡ pointFault (c .before .args .profile) (c .before .args .p)
 found c = c .point-fault .ensures ∙ ap (λ (y : ℤ). pointFault y (c .before .args .p)) (toZ-ofZ (c .before .fits .profile))
@@ -23,4 +20,4 @@ returns-2 : tie.Need-returns-2
 returns-2 c = A.judge-some (pointFault (c .before .before .args .profile)) Point Refused (c .before .before .args .p) _ (found (c .before)) (c .if1 .left)
 
 pub judge-point-spec : {M : Type 1} → statement M
-judge-point-spec = tie.close (tie.spec point-fault-requires returns returns-2)
+judge-point-spec = tie.close (tie.spec (search needs) returns returns-2)

@@ -12,33 +12,6 @@ use borrow.Author.Needs.{needs}
 use Rattle.line.proofs.point_line.point_fields.Statement.{statement}
 use Rattle.line.proofs.point_line.point_fields.Tie as tie
 
-letter-requires : tie.Need-letter-requires
-letter-requires c κs = search needs
-
-name-requires : tie.Need-name-requires
-name-requires c κs = search needs
-
-of-two-requires : tie.Need-of-two-requires
-of-two-requires c κs = search needs
-
-of-one-requires : tie.Need-of-one-requires
-of-one-requires c κs = search needs
-
-of-one-requires-2 : tie.Need-of-one-requires-2
-of-one-requires-2 c κs = search needs
-
-of-seven-requires : tie.Need-of-seven-requires
-of-seven-requires c κs = search needs
-
-number-requires : tie.Need-number-requires
-number-requires c κs = search needs
-
-number-requires-2 : tie.Need-number-requires-2
-number-requires-2 c κs = search needs
-
-number-requires-3 : tie.Need-number-requires-3
-number-requires-3 c κs = search needs
-
 -- a number, as the machine reads it
 told : {z : ℤ} → mag z < 9223372036854775808 → toZ w64 (ofZ w64 z) ≡ z
 told h = toZ-ofZ (record { sfits = h })
@@ -85,14 +58,5 @@ returns c =
 pub point-fields-spec : {M : Type 1} → statement M
 point-fields-spec =
     tie.close
-    (tie.spec
-    letter-requires
-    name-requires
-    of-two-requires
-    of-one-requires
-    of-one-requires-2
-    of-seven-requires
-    number-requires
-    number-requires-2
-    number-requires-3
+    (tie.spec (search needs) (search needs) (search needs) (search needs) (search needs) (search needs) (search needs) (search needs) (search needs)
     returns)

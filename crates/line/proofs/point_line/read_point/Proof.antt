@@ -15,20 +15,8 @@ use borrow.Author.Needs.{needs}
 use Rattle.line.proofs.point_line.read_point.Statement.{statement}
 use Rattle.line.proofs.point_line.read_point.Tie as tie
 
-body-end-requires : tie.Need-body-end-requires
-body-end-requires c κs = search needs
-
 slice-aggregate-s : tie.Need-slice-aggregate-s
 slice-aggregate-s c = sym (length-take-le _ _ (omega arith))
-
-point-fields-requires : tie.Need-point-fields-requires
-point-fields-requires c κs = search needs
-
-add-if2 : tie.Need-add-if2
-add-if2 c = search needs
-
-judge-point-requires : tie.Need-judge-point-requires
-judge-point-requires c κs = search needs
 
 returns : tie.Need-returns
 unfolding readPoint
@@ -38,9 +26,6 @@ returns c =
     let c7 = c4 .before .before .before in
     A.good-form _ _ _ (F.careful-point (c7 .before .before .args .profile)) _ _ _ _ (c7 .body-end .ensures) (omega arith) (c4 .point-fields .ensures) _ (c2 .if2 .taken)
     (c .judge-point .ensures ∙ ap (λ (y : ℤ). judged (pointFault y) line.Point line.Refused (c4 .point-fields .result .point)) (toZ-ofZ (c7 .before .before .fits .profile)))
-
-fault-of-requires : tie.Need-fault-of-requires
-fault-of-requires c κs = search needs
 
 returns-2 : tie.Need-returns-2
 unfolding readPoint
@@ -54,12 +39,4 @@ returns-2 c =
 pub read-point-spec : {M : Type 1} → statement M
 read-point-spec =
     tie.close
-    (tie.spec
-    body-end-requires
-    slice-aggregate-s
-    point-fields-requires
-    add-if2
-    judge-point-requires
-    returns
-    fault-of-requires
-    returns-2)
+    (tie.spec (search needs) slice-aggregate-s (search needs) (search needs) (search needs) returns (search needs) returns-2)

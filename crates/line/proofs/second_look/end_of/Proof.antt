@@ -11,12 +11,6 @@ returns c = L.end-empty (c .before .args .line .now) (c .if1 .taken)
 returns-2 : tie.Need-returns-2
 returns-2 c = L.end-long (c .before .before .args .line .now) (c .if2 .taken)
 
-sub-e : tie.Need-sub-e
-sub-e c = search needs
-
-shared-slice-read-if3 : tie.Need-shared-slice-read-if3
-shared-slice-read-if3 c = search needs
-
 returns-3 : tie.Need-returns-3
 returns-3 c = L.end-feed (c .before .before .before .before .args .line .now) (omega arith) (c .if3 .taken)
 
@@ -25,4 +19,4 @@ returns-4 c = L.end-open (c .before .before .before .before .args .line .now) (o
 
 pub end-of-spec : {M : Type 1} → statement M
 end-of-spec =
-    tie.close (tie.spec returns returns-2 sub-e shared-slice-read-if3 returns-3 returns-4)
+    tie.close (tie.spec returns returns-2 (search needs) (search needs) returns-3 returns-4)

@@ -14,12 +14,6 @@ use borrow.Author.Needs.{needs}
 use Rattle.line.proofs.second_look.fault_of.Statement.{statement}
 use Rattle.line.proofs.second_look.fault_of.Tie as tie
 
-end-of-requires : tie.Need-end-of-requires
-end-of-requires c κs = search needs
-
-body-end-requires : tie.Need-body-end-requires
-body-end-requires c κs = search needs
-
 slice-aggregate-s : tie.Need-slice-aggregate-s
 slice-aggregate-s c = sym (length-take-le _ _ (omega arith))
 
@@ -52,11 +46,4 @@ returns-2 c = let line = c .before .before .before .before .before .args .line .
 pub fault-of-spec : {M : Type 1} → statement M
 fault-of-spec =
     tie.close
-    (tie.spec
-    end-of-requires
-    body-end-requires
-    slice-aggregate-s
-    fields-fault-requires
-    returns
-    found-requires
-    returns-2)
+    (tie.spec (search needs) (search needs) slice-aggregate-s fields-fault-requires returns found-requires returns-2)

@@ -7,27 +7,12 @@ use borrow.Author.Needs.{needs}
 use Rattle.line.proofs.second_look.fields_fault.Statement.{statement}
 use Rattle.line.proofs.second_look.fields_fault.Tie as tie
 
-kind-of-requires : tie.Need-kind-of-requires
-kind-of-requires c κs = search needs
-
-look-requires : tie.Need-look-requires
-look-requires c κs = search needs
-
-found-requires : tie.Need-found-requires
-found-requires c κs = search needs
-
 returns : tie.Need-returns
 returns c =
     let k = c .before .before .before in
     let g = k .before .before .before .args in
     c .found .ensures ∙ L.is-letter (k .look .ensures) (g .end) (omega arith)
     ∙ L.by-kind (g .first) (g .end) (fields (g .s .now)) (k .before .kind-of .ensures)
-
-count-of-requires : tie.Need-count-of-requires
-count-of-requires c κs = search needs
-
-found-requires-2 : tie.Need-found-requires-2
-found-requires-2 c κs = search needs
 
 returns-2 : tie.Need-returns-2
 returns-2 c =
@@ -36,9 +21,6 @@ returns-2 c =
     let g = k .before .before .before .args in
     c .found2 .ensures ∙ L.is-count (k .look .ensures) (g .end) (omega arith) (λ e. c .before .if2 .taken (e ∙ sym (n .count-of .ensures)))
     ∙ L.by-kind (g .first) (g .end) (fields (g .s .now)) (k .before .kind-of .ensures)
-
-found-requires-3 : tie.Need-found-requires-3
-found-requires-3 c κs = search needs
 
 returns-3 : tie.Need-returns-3
 returns-3 c =
@@ -49,9 +31,6 @@ returns-3 c =
     c .found3 .ensures ∙ L.is-id (k .look .ensures) (g .end) (omega arith) (w .if2 .left ∙ n .count-of .ensures) (omega arith)
     ∙ L.by-kind (g .first) (g .end) (fields (g .s .now)) (k .before .kind-of .ensures)
 
-found-requires-4 : tie.Need-found-requires-4
-found-requires-4 c κs = search needs
-
 returns-4 : tie.Need-returns-4
 returns-4 c =
     let w = c .before .before .before .before .before in
@@ -60,9 +39,6 @@ returns-4 c =
     let g = k .before .before .before .args in
     c .found4 .ensures ∙ L.is-plain (k .look .ensures) (g .end) (omega arith) (w .if2 .left ∙ n .count-of .ensures) (omega arith) (omega arith)
     ∙ L.by-kind (g .first) (g .end) (fields (g .s .now)) (k .before .kind-of .ensures)
-
-found-requires-5 : tie.Need-found-requires-5
-found-requires-5 c κs = search needs
 
 returns-5 : tie.Need-returns-5
 returns-5 c =
@@ -76,17 +52,5 @@ returns-5 c =
 pub fields-fault-spec : {M : Type 1} → statement M
 fields-fault-spec =
     tie.close
-    (tie.spec
-    kind-of-requires
-    look-requires
-    found-requires
-    returns
-    count-of-requires
-    found-requires-2
-    returns-2
-    found-requires-3
-    returns-3
-    found-requires-4
-    returns-4
-    found-requires-5
-    returns-5)
+    (tie.spec (search needs) (search needs) (search needs) returns (search needs) (search needs) returns-2 (search needs) returns-3 (search needs)
+    returns-4 (search needs) returns-5)

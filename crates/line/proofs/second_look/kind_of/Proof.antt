@@ -5,15 +5,6 @@ use borrow.Author.Needs.{needs}
 use Rattle.line.proofs.second_look.kind_of.Statement.{statement}
 use Rattle.line.proofs.second_look.kind_of.Tie as tie
 
-after-requires : tie.Need-after-requires
-after-requires c κs = search needs
-
-single-requires : tie.Need-single-requires
-single-requires c κs = search needs
-
-add-if1 : tie.Need-add-if1
-add-if1 c = search needs
-
 returns : tie.Need-returns
 returns c = L.kind-read (c .before .before .before .after .ensures) (c .before .before .single .ensures) (c .if1 .taken)
 
@@ -21,4 +12,4 @@ returns-2 : tie.Need-returns-2
 returns-2 c = L.kind-none (c .before .before .before .after .ensures) (c .before .before .single .ensures) (omega arith)
 
 pub kind-of-spec : {M : Type 1} → statement M
-kind-of-spec = tie.close (tie.spec after-requires single-requires add-if1 returns returns-2)
+kind-of-spec = tie.close (tie.spec (search needs) (search needs) (search needs) returns returns-2)

@@ -18,35 +18,8 @@ Inv-loop s first kind letter₀ id₀ plain₀ count₀ at₀ letter id plain co
 abbrev μ-loop : tie.MeasureT-loop
 μ-loop s first kind letter₀ id₀ plain₀ count₀ at₀ letter id plain count at = length s + 1 - at
 
-nowhere-requires : tie.Need-nowhere-requires Inv-loop μ-loop
-nowhere-requires c κs = search needs
-
 loop-holds : tie.Need-loop-holds Inv-loop μ-loop
 loop-holds c = let g = c .before .before .args in L.looking (g .s .now) (classesOf (g .first) (g .kind)) (c .nowhere .result) (omega arith)
-
-class-at-requires : tie.Need-class-at-requires Inv-loop μ-loop
-class-at-requires c κs = search needs
-
-field-fault-requires : tie.Need-field-fault-requires Inv-loop μ-loop
-field-fault-requires c κs = search needs
-
-sooner-requires : tie.Need-sooner-requires Inv-loop μ-loop
-sooner-requires c κs = search needs
-
-sooner-requires-2 : tie.Need-sooner-requires-2 Inv-loop μ-loop
-sooner-requires-2 c κs = search needs
-
-sooner-requires-3 : tie.Need-sooner-requires-3 Inv-loop μ-loop
-sooner-requires-3 c κs = search needs
-
-after-requires : tie.Need-after-requires Inv-loop μ-loop
-after-requires c κs = search needs
-
-add-count : tie.Need-add-count Inv-loop μ-loop
-add-count c = search needs
-
-loop-less : tie.Need-loop-less Inv-loop μ-loop
-loop-less c = search needs
 
 loop-again : tie.Need-loop-again Inv-loop μ-loop
 loop-again c = let s = c .before .before .before .before .before .before .before .before .before .before .args .s .now in
@@ -61,18 +34,5 @@ returns c = L.looked (c .before .loop .inv) (omega arith)
 pub look-spec : {M : Type 1} → statement M
 look-spec =
     tie.close
-    (tie.spec
-    Inv-loop
-    μ-loop
-    nowhere-requires
-    loop-holds
-    class-at-requires
-    field-fault-requires
-    sooner-requires
-    sooner-requires-2
-    sooner-requires-3
-    after-requires
-    add-count
-    loop-less
-    loop-again
-    returns)
+    (tie.spec Inv-loop μ-loop (search needs) loop-holds (search needs) (search needs) (search needs) (search needs) (search needs) (search needs)
+    (search needs) (search needs) loop-again returns)

@@ -7,9 +7,6 @@ use borrow.Author.Needs.{needs}
 use Rattle.line.proofs.second_look.unless_read.Statement.{statement}
 use Rattle.line.proofs.second_look.unless_read.Tie as tie
 
-add-if1 : tie.Need-add-if1
-add-if1 c = search needs
-
 returns : tie.Need-returns
 returns c = rw (le-leb _ _ (c .if1 .taken))
 
@@ -17,4 +14,4 @@ returns-2 : tie.Need-returns-2
 returns-2 c = let g = c .before .args in rw (lt-leb (g .next) (length (g .s .now) + 1) (omega arith))
 
 pub unless-read-spec : {M : Type 1} → statement M
-unless-read-spec = tie.close (tie.spec add-if1 returns returns-2)
+unless-read-spec = tie.close (tie.spec (search needs) returns returns-2)

@@ -8,33 +8,6 @@ use borrow.Author.Needs.{needs}
 use Rattle.line.proofs.step_line.bursa_wolf_fields.Statement.{statement}
 use Rattle.line.proofs.step_line.bursa_wolf_fields.Tie as tie
 
-convention-letter-requires : tie.Need-convention-letter-requires
-convention-letter-requires c κs = search needs
-
-number-requires : tie.Need-number-requires
-number-requires c κs = search needs
-
-number-requires-2 : tie.Need-number-requires-2
-number-requires-2 c κs = search needs
-
-number-requires-3 : tie.Need-number-requires-3
-number-requires-3 c κs = search needs
-
-number-requires-4 : tie.Need-number-requires-4
-number-requires-4 c κs = search needs
-
-number-requires-5 : tie.Need-number-requires-5
-number-requires-5 c κs = search needs
-
-number-requires-6 : tie.Need-number-requires-6
-number-requires-6 c κs = search needs
-
-number-requires-7 : tie.Need-number-requires-7
-number-requires-7 c κs = search needs
-
-convention-of-requires : tie.Need-convention-of-requires
-convention-of-requires c κs = search needs
-
 returns : tie.Need-returns
 unfolding bursaWolfForm
 returns c =
@@ -77,14 +50,5 @@ returns c =
 pub bursa-wolf-fields-spec : {M : Type 1} → statement M
 bursa-wolf-fields-spec =
     tie.close
-    (tie.spec
-    convention-letter-requires
-    number-requires
-    number-requires-2
-    number-requires-3
-    number-requires-4
-    number-requires-5
-    number-requires-6
-    number-requires-7
-    convention-of-requires
+    (tie.spec (search needs) (search needs) (search needs) (search needs) (search needs) (search needs) (search needs) (search needs) (search needs)
     returns)

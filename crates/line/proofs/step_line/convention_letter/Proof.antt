@@ -9,12 +9,6 @@ use borrow.Author.Needs.{needs}
 use Rattle.line.proofs.step_line.convention_letter.Statement.{statement}
 use Rattle.line.proofs.step_line.convention_letter.Tie as tie
 
-single-requires : tie.Need-single-requires
-single-requires c κs = search needs
-
-nowhere-requires : tie.Need-nowhere-requires
-nowhere-requires c κs = search needs
-
 returns : tie.Need-returns
 returns c = W.sift (80 ∷ 67 ∷ []) (c .before .single .ensures) (⊎-elim (λ e. W.is-one (80 ∷ 67 ∷ []) e refl) (λ e. W.is-one (80 ∷ 67 ∷ []) e refl) (c .match .keys1)) refl
 
@@ -22,4 +16,4 @@ returns-2 : tie.Need-returns-2
 returns-2 c = let r = c .before .match .rest .1 in W.sift-off (80 ∷ 67 ∷ []) (c .before .before .single .ensures) (rw (ne-eqb _ 80 (λ e. r (inr e)), ne-eqb _ 67 (λ e. r (inl e)))) (omega arith)
 
 pub convention-letter-spec : {M : Type 1} → statement M
-convention-letter-spec = tie.close (tie.spec single-requires nowhere-requires returns returns-2)
+convention-letter-spec = tie.close (tie.spec (search needs) (search needs) returns returns-2)

@@ -9,9 +9,6 @@ use borrow.Author.Needs.{needs}
 use Rattle.line.proofs.step_line.judge_step.Statement.{statement}
 use Rattle.line.proofs.step_line.judge_step.Tie as tie
 
-step-fault-requires : tie.Need-step-fault-requires
-step-fault-requires c κs = search needs
-
 -- what the record is refused for
 found : (c : tie.After-step-fault) → c .step-fault .result ≡ stepFault (c .before .args .profile) (c .before .args .step)
 found c = c .step-fault .ensures ∙ ap (λ (y : ℤ). stepFault y (c .before .args .step)) (toZ-ofZ (c .before .fits .profile))
@@ -23,4 +20,4 @@ returns-2 : tie.Need-returns-2
 returns-2 c = A.judge-some (stepFault (c .before .before .args .profile)) Step Refused (c .before .before .args .step) _ (found (c .before)) (c .if1 .left)
 
 pub judge-step-spec : {M : Type 1} → statement M
-judge-step-spec = tie.close (tie.spec step-fault-requires returns returns-2)
+judge-step-spec = tie.close (tie.spec (search needs) returns returns-2)

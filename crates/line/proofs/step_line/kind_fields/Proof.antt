@@ -7,20 +7,11 @@ use borrow.Author.Needs.{needs}
 use Rattle.line.proofs.step_line.kind_fields.Statement.{statement}
 use Rattle.line.proofs.step_line.kind_fields.Tie as tie
 
-shift-fields-requires : tie.Need-shift-fields-requires
-shift-fields-requires c κs = search needs
-
 returns : tie.Need-returns
 returns c = rw (eq-eqb _ _ (c .before .if1 .taken)) (c .shift-fields .ensures)
 
-velocity-fields-requires : tie.Need-velocity-fields-requires
-velocity-fields-requires c κs = search needs
-
 returns-2 : tie.Need-returns-2
 returns-2 c = rw (ne-eqb _ _ (c .before .before .if1 .left), eq-eqb _ _ (c .before .if2 .taken)) (c .velocity-fields .ensures)
-
-bursa-wolf-fields-requires : tie.Need-bursa-wolf-fields-requires
-bursa-wolf-fields-requires c κs = search needs
 
 returns-3 : tie.Need-returns-3
 returns-3 c = rw (ne-eqb _ _ (c .before .before .before .if1 .left), ne-eqb _ _ (c .before .before .if2 .left), eq-eqb _ _ (c .before .if3 .taken)) (c .bursa-wolf-fields .ensures)
@@ -32,11 +23,4 @@ returns-4 c = rw (ne-eqb _ _ (c .before .before .if1 .left), ne-eqb _ _ (c .befo
 pub kind-fields-spec : {M : Type 1} → statement M
 kind-fields-spec =
     tie.close
-    (tie.spec
-    shift-fields-requires
-    returns
-    velocity-fields-requires
-    returns-2
-    bursa-wolf-fields-requires
-    returns-3
-    returns-4)
+    (tie.spec (search needs) returns (search needs) returns-2 (search needs) returns-3 returns-4)

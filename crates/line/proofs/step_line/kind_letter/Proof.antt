@@ -9,12 +9,6 @@ use borrow.Author.Needs.{needs}
 use Rattle.line.proofs.step_line.kind_letter.Statement.{statement}
 use Rattle.line.proofs.step_line.kind_letter.Tie as tie
 
-single-requires : tie.Need-single-requires
-single-requires c κs = search needs
-
-nowhere-requires : tie.Need-nowhere-requires
-nowhere-requires c κs = search needs
-
 returns : tie.Need-returns
 returns c = W.sift (84 ∷ 86 ∷ 66 ∷ 70 ∷ []) (c .before .single .ensures) (⊎-elim (λ e. W.is-one (84 ∷ 86 ∷ 66 ∷ 70 ∷ []) e refl) (λ u. ⊎-elim (λ e. W.is-one (84 ∷ 86 ∷ 66 ∷ 70 ∷ []) e refl) (λ u. ⊎-elim (λ e. W.is-one (84 ∷ 86 ∷ 66 ∷ 70 ∷ []) e refl) (λ e. W.is-one (84 ∷ 86 ∷ 66 ∷ 70 ∷ []) e refl) u) u) (c .match .keys1)) refl
 
@@ -24,4 +18,4 @@ returns-2 c =
     W.sift-off (84 ∷ 86 ∷ 66 ∷ 70 ∷ []) (c .before .before .single .ensures) (rw (ne-eqb _ 84 (λ e. r (inr (inr (inl e)))), ne-eqb _ 86 (λ e. r (inr (inr (inr e)))), ne-eqb _ 66 (λ e. r (inl e)), ne-eqb _ 70 (λ e. r (inr (inl e))))) (omega arith)
 
 pub kind-letter-spec : {M : Type 1} → statement M
-kind-letter-spec = tie.close (tie.spec single-requires nowhere-requires returns returns-2)
+kind-letter-spec = tie.close (tie.spec (search needs) (search needs) returns returns-2)

@@ -8,27 +8,6 @@ use borrow.Author.Needs.{needs}
 use Rattle.line.proofs.step_line.step_fields.Statement.{statement}
 use Rattle.line.proofs.step_line.step_fields.Tie as tie
 
-letter-requires : tie.Need-letter-requires
-letter-requires c κs = search needs
-
-kind-letter-requires : tie.Need-kind-letter-requires
-kind-letter-requires c κs = search needs
-
-number-requires : tie.Need-number-requires
-number-requires c κs = search needs
-
-number-requires-2 : tie.Need-number-requires-2
-number-requires-2 c κs = search needs
-
-number-requires-3 : tie.Need-number-requires-3
-number-requires-3 c κs = search needs
-
-number-requires-4 : tie.Need-number-requires-4
-number-requires-4 c κs = search needs
-
-kind-fields-requires : tie.Need-kind-fields-requires
-kind-fields-requires c κs = search needs
-
 returns : tie.Need-returns
 unfolding stepForm
 returns c =
@@ -59,12 +38,4 @@ returns c =
 pub step-fields-spec : {M : Type 1} → statement M
 step-fields-spec =
     tie.close
-    (tie.spec
-    letter-requires
-    kind-letter-requires
-    number-requires
-    number-requires-2
-    number-requires-3
-    number-requires-4
-    kind-fields-requires
-    returns)
+    (tie.spec (search needs) (search needs) (search needs) (search needs) (search needs) (search needs) (search needs) returns)

@@ -6,20 +6,8 @@ use borrow.Author.Needs.{needs}
 use Rattle.line.proofs.write.byte.Statement.{statement}
 use Rattle.line.proofs.write.byte.Tie as tie
 
-slice-write-out : tie.Need-slice-write-out
-slice-write-out c = search needs
-
-add-result : tie.Need-add-result
-add-result c = search needs
-
-same-length : tie.Need-same-length
-same-length c = search needs
-
-returns : tie.Need-returns
-returns c = search needs
-
 returns-2 : tie.Need-returns-2
 returns-2 c = let g = c .before .args in record { place = omega arith; list = sym (set-out (g .out .now) (g .at) (g .b) (omega arith)) }
 
 pub byte-spec : {M : Type 1} → statement M
-byte-spec = tie.close (tie.spec slice-write-out add-result same-length returns returns-2)
+byte-spec = tie.close (tie.spec (search needs) (search needs) (search needs) (λ c. search needs) returns-2)

@@ -8,33 +8,6 @@ use borrow.Author.Needs.{needs}
 use Rattle.line.proofs.write.cut_point.Statement.{statement}
 use Rattle.line.proofs.write.cut_point.Tie as tie
 
-letter-requires : tie.Need-letter-requires
-letter-requires c κs = search needs
-
-name-requires : tie.Need-name-requires
-name-requires c κs = search needs
-
-whole-requires : tie.Need-whole-requires
-whole-requires c κs = search needs
-
-whole-requires-2 : tie.Need-whole-requires-2
-whole-requires-2 c κs = search needs
-
-whole-requires-3 : tie.Need-whole-requires-3
-whole-requires-3 c κs = search needs
-
-whole-requires-4 : tie.Need-whole-requires-4
-whole-requires-4 c κs = search needs
-
-whole-requires-5 : tie.Need-whole-requires-5
-whole-requires-5 c κs = search needs
-
-whole-requires-6 : tie.Need-whole-requires-6
-whole-requires-6 c κs = search needs
-
-whole-requires-7 : tie.Need-whole-requires-7
-whole-requires-7 c κs = search needs
-
 -- the point's numbers, as the machine reads them
 module _ (s : tie.Start) where
   abbrev p : Point
@@ -88,15 +61,5 @@ same-length c = T.same-size (returns c)
 pub cut-point-spec : {M : Type 1} → statement M
 cut-point-spec =
     tie.close
-    (tie.spec
-    letter-requires
-    name-requires
-    whole-requires
-    whole-requires-2
-    whole-requires-3
-    whole-requires-4
-    whole-requires-5
-    whole-requires-6
-    whole-requires-7
-    same-length
-    returns)
+    (tie.spec (search needs) (search needs) (search needs) (search needs) (search needs) (search needs) (search needs) (search needs) (search needs)
+    same-length returns)

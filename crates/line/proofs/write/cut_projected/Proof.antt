@@ -7,21 +7,6 @@ use borrow.Author.Needs.{needs}
 use Rattle.line.proofs.write.cut_projected.Statement.{statement}
 use Rattle.line.proofs.write.cut_projected.Tie as tie
 
-letter-requires : tie.Need-letter-requires
-letter-requires c κs = search needs
-
-name-requires : tie.Need-name-requires
-name-requires c κs = search needs
-
-whole-requires : tie.Need-whole-requires
-whole-requires c κs = search needs
-
-whole-requires-2 : tie.Need-whole-requires-2
-whole-requires-2 c κs = search needs
-
-same-length : tie.Need-same-length
-same-length c = search needs
-
 returns : tie.Need-returns
 returns c =
     let c2 = c .before .before in
@@ -37,4 +22,4 @@ returns c =
 pub cut-projected-spec : {M : Type 1} → statement M
 cut-projected-spec =
     tie.close
-    (tie.spec letter-requires name-requires whole-requires whole-requires-2 same-length returns)
+    (tie.spec (search needs) (search needs) (search needs) (search needs) (search needs) returns)

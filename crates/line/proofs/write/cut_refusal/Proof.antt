@@ -4,36 +4,6 @@ use borrow.Author.Needs.{needs}
 use Rattle.line.proofs.write.cut_refusal.Statement.{statement}
 use Rattle.line.proofs.write.cut_refusal.Tie as tie
 
-letter-requires : tie.Need-letter-requires
-letter-requires c κs = search needs
-
-natural-requires : tie.Need-natural-requires
-natural-requires c κs = search needs
-
-byte-requires : tie.Need-byte-requires
-byte-requires c κs = search needs
-
-wide-requires : tie.Need-wide-requires
-wide-requires c κs = search needs
-
-natural-requires-2 : tie.Need-natural-requires-2
-natural-requires-2 c κs = search needs
-
-byte-requires-2 : tie.Need-byte-requires-2
-byte-requires-2 c κs = search needs
-
-wide-requires-2 : tie.Need-wide-requires-2
-wide-requires-2 c κs = search needs
-
-natural-requires-3 : tie.Need-natural-requires-3
-natural-requires-3 c κs = search needs
-
-byte-requires-3 : tie.Need-byte-requires-3
-byte-requires-3 c κs = search needs
-
-same-length : tie.Need-same-length
-same-length c = search needs
-
 returns : tie.Need-returns
 returns c =
     let c2 = c .before .before in
@@ -51,15 +21,5 @@ returns c =
 pub cut-refusal-spec : {M : Type 1} → statement M
 cut-refusal-spec =
     tie.close
-    (tie.spec
-    letter-requires
-    natural-requires
-    byte-requires
-    wide-requires
-    natural-requires-2
-    byte-requires-2
-    wide-requires-2
-    natural-requires-3
-    byte-requires-3
-    same-length
-    returns)
+    (tie.spec (search needs) (search needs) (search needs) (search needs) (search needs) (search needs) (search needs) (search needs) (search needs)
+    (search needs) returns)

@@ -22,10 +22,7 @@ cast-result-2 c = T.above-casts _ (c .before .fits .z) (c .if1 .left)
 returns : tie.Need-returns
 returns c = T.size-below _ (c .before .fits .z) (c .if1 .taken)
 
-returns-2 : tie.Need-returns-2
-returns-2 c = search needs
-
 pub size-spec : {M : Type 1} → statement M
 size-spec =
     tie.close
-    (tie.spec add-result sub-result cast-result add-result-2 cast-result-2 returns returns-2)
+    (tie.spec add-result sub-result cast-result add-result-2 cast-result-2 returns (λ c. search needs))

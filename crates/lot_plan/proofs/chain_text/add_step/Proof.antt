@@ -11,9 +11,6 @@ use Rattle.lot_plan.proofs.chain_text.add_step.Tie as tie
 profile : (s : tie.Start) → toZ w64 (ofZ w64 (s .args .profile)) ≡ s .args .profile
 profile s = search needs
 
-extend-requires : tie.Need-extend-requires
-extend-requires c κs = search needs
-
 returns : tie.Need-returns
 returns c = λ ss h.
     let s = c .before .before .before in
@@ -26,4 +23,4 @@ returns-2 c = λ ss h.
     rw (profile s) (took-step _ _ ss h (s .args .step) (s .pre) (sym (rw (profile s) at (x .0)) ∙ c .if1 .left) _ (rw (profile s) at (x .1)))
 
 pub add-step-spec : {M : Type 1} → statement M
-add-step-spec = tie.close (tie.spec extend-requires returns returns-2)
+add-step-spec = tie.close (tie.spec (λ c κs. search needs) returns returns-2)

@@ -24,9 +24,6 @@ fault c = rw (year (c .before .before)) at (c .profile-fault .ensures)
 returns : tie.Need-returns
 returns c = rw (not-true (c .before .args .first) (c .if1 .taken))
 
-profile-fault-requires : tie.Need-profile-fault-requires
-profile-fault-requires c κs = search needs
-
 returns-2 : tie.Need-returns-2
 returns-2 c =
     let e = fault (c .before) in
@@ -39,4 +36,4 @@ returns-3 c =
     rw (on-first (c .before .before), year (c .before .before .before)) (sym (unless-none _ Refused _ (sym e ∙ c .if2 .left)))
 
 pub judge-edition-spec : {M : Type 1} → statement M
-judge-edition-spec = tie.close (tie.spec returns profile-fault-requires returns-2 returns-3)
+judge-edition-spec = tie.close (tie.spec returns (λ c κs. search needs) returns-2 returns-3)

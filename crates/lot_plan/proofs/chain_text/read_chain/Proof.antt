@@ -20,9 +20,6 @@ abbrev μ-loop : tie.MeasureT-loop
 loop-holds : tie.Need-loop-holds Inv-loop μ-loop
 loop-holds c = begins _ _ (c .before .pre)
 
-line-end-requires : tie.Need-line-end-requires Inv-loop μ-loop
-line-end-requires c κs = search needs
-
 sub-take-line : tie.Need-sub-take-line Inv-loop μ-loop
 sub-take-line c = let l = piece _ _ _ (c .before .line-end .ensures) (omega arith) in omega arith
 
@@ -35,17 +32,11 @@ part-take-line-end c = let l = piece _ _ _ (c .before .line-end .ensures) (omega
 take-line-requires : tie.Need-take-line-requires Inv-loop μ-loop
 take-line-requires c κs = let l = piece _ _ _ (c .before .before .line-end .ensures) (omega arith) in omega (arith, l .some, l .size)
 
-enum-known-number : tie.Need-enum-known-number Inv-loop μ-loop
-enum-known-number c = search needs
-
 returns : tie.Need-returns Inv-loop μ-loop
 returns c =
     let e = c .before .before .before .before .before .before in
     stops _ _ _ _ _ _ _ (e .line-end .ensures) (omega (arith, e .before .loop-test .taken)) (c .before .before .before .take-line .ensures) (e .before .before .loop .inv) _
     (c .before .number .given .1)
-
-enum-known-year : tie.Need-enum-known-year Inv-loop μ-loop
-enum-known-year c = search needs
 
 loop-less : tie.Need-loop-less Inv-loop μ-loop
 loop-less c = let l = piece _ _ _ (c .before .before .before .before .before .before .line-end .ensures) (omega arith) in omega arith
@@ -65,18 +56,5 @@ returns-2 c = ends _ _ _ _ (omega (arith, c .loop-test .left)) (c .before .loop 
 pub read-chain-spec : {M : Type 1} → statement M
 read-chain-spec =
     tie.close
-    (tie.spec
-    Inv-loop
-    μ-loop
-    loop-holds
-    line-end-requires
-    sub-take-line
-    part-take-line-start
-    part-take-line-end
-    take-line-requires
-    enum-known-number
-    returns
-    enum-known-year
-    loop-less
-    loop-again
-    returns-2)
+    (tie.spec Inv-loop μ-loop loop-holds (λ c κs. search needs) sub-take-line part-take-line-start part-take-line-end take-line-requires
+    (λ c. search needs) returns (λ c. search needs) loop-less loop-again returns-2)

@@ -7,18 +7,6 @@ use borrow.Author.Needs.{needs}
 use Rattle.lot_plan.proofs.chain_text.take_edition.Statement.{statement}
 use Rattle.lot_plan.proofs.chain_text.take_edition.Tie as tie
 
-read-edition-requires : tie.Need-read-edition-requires
-read-edition-requires c κs = search needs
-
-enum-known-fault : tie.Need-enum-known-fault
-enum-known-fault c = search needs
-
-enum-known-year : tie.Need-enum-known-year
-enum-known-year c = search needs
-
-judge-edition-requires : tie.Need-judge-edition-requires
-judge-edition-requires c κs = search needs
-
 returns : tie.Need-returns
 returns c = λ y ss l none h. rw (sym (c .before .before .before .read-edition .ensures) ∙ c .before .fault .given .1)
 
@@ -32,10 +20,4 @@ returns-2 c = λ y ss l none h.
 pub take-edition-spec : {M : Type 1} → statement M
 take-edition-spec =
     tie.close
-    (tie.spec
-    read-edition-requires
-    enum-known-fault
-    enum-known-year
-    judge-edition-requires
-    returns
-    returns-2)
+    (tie.spec (λ c κs. search needs) (λ c. search needs) (λ c. search needs) (λ c κs. search needs) returns returns-2)

@@ -15,28 +15,16 @@ use Rattle.lot_plan.proofs.chain_text.take_line.Tie as tie
 profile : (s : tie.Start) → toZ w64 (ofZ w64 (s .args .profile)) ≡ s .args .profile
 profile s = search needs
 
-shared-slice-read-letter : tie.Need-shared-slice-read-letter
-shared-slice-read-letter c = search needs
-
-take-step-requires : tie.Need-take-step-requires
-take-step-requires c κs = search needs
-
 returns : tie.Need-returns
 unfolding withLine
 returns c = λ ss none h.
     let t = rw (profile (c .before .before .before .before .before)) at (c .take-step .ensures) in
     rw (eq-eqb _ letterS (c .before .before .if1 .taken)) (t ss h)
 
-take-edition-requires : tie.Need-take-edition-requires
-take-edition-requires c κs = search needs
-
 returns-2 : tie.Need-returns-2
 unfolding withLine
 returns-2 c = λ ss none h.
     rw (ne-eqb _ letterS (c .before .before .if1 .left), eq-eqb _ letterE (c .before .if2 .taken)) (c .take-edition .ensures _ ss _ none h)
-
-strange-requires : tie.Need-strange-requires
-strange-requires c κs = search needs
 
 returns-3 : tie.Need-returns-3
 unfolding withLine
@@ -47,11 +35,4 @@ returns-3 c = λ ss none h.
 pub take-line-spec : {M : Type 1} → statement M
 take-line-spec =
     tie.close
-    (tie.spec
-    shared-slice-read-letter
-    take-step-requires
-    returns
-    take-edition-requires
-    returns-2
-    strange-requires
-    returns-3)
+    (tie.spec (λ c. search needs) (λ c κs. search needs) returns (λ c κs. search needs) returns-2 (λ c κs. search needs) returns-3)

@@ -15,18 +15,6 @@ profile s = search needs
 said : (c : tie.After-read-step) → readStep (c .before .before .args .profile) (c .before .before .args .text .now) ≡ c .read-step .result
 said c = sym (rw (profile (c .before .before)) at (c .read-step .ensures))
 
-read-step-requires : tie.Need-read-step-requires
-read-step-requires c κs = search needs
-
-enum-known-fault : tie.Need-enum-known-fault
-enum-known-fault c = search needs
-
-enum-known-number : tie.Need-enum-known-number
-enum-known-number c = search needs
-
-enum-known-step : tie.Need-enum-known-step
-enum-known-step c = search needs
-
 add-step-requires : tie.Need-add-step-requires
 add-step-requires c κs =
     rw (profile (c .before .before .before .before .before .before)) (step-sound _ _ _ (said (c .before .before .before .before) ∙ c .before .before .step .given .1))
@@ -45,12 +33,4 @@ returns-3 c = λ ss h.
 pub take-step-spec : {M : Type 1} → statement M
 take-step-spec =
     tie.close
-    (tie.spec
-    read-step-requires
-    enum-known-fault
-    enum-known-number
-    enum-known-step
-    add-step-requires
-    returns
-    returns-2
-    returns-3)
+    (tie.spec (λ c κs. search needs) (λ c. search needs) (λ c. search needs) (λ c. search needs) add-step-requires returns returns-2 returns-3)

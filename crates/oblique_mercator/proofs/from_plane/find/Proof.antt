@@ -6,27 +6,9 @@ use Rattle.angle.proofs.UnitLaws.{seconds-is}
 use Rattle.oblique_mercator.proofs.from_plane.find.Statement.{statement}
 use Rattle.oblique_mercator.proofs.from_plane.find.Tie as tie
 
-sinh-requires : tie.Need-sinh-requires
-sinh-requires c κs = search needs
-
-cosh-requires : tie.Need-cosh-requires
-cosh-requires c κs = search needs
-
-sine-requires : tie.Need-sine-requires
-sine-requires c κs = search needs
-
-cosine-requires : tie.Need-cosine-requires
-cosine-requires c κs = search needs
-
-latitude-at-requires : tie.Need-latitude-at-requires
-latitude-at-requires c κs = search needs
-
-arctangent-requires : tie.Need-arctangent-requires
-arctangent-requires c κs = search needs
-
 returns : tie.Need-returns
 unfolding foundOf round ofBits
 returns c = let e = seconds-is in cc
 
 pub find-spec : {M : Type 1} → statement M
-find-spec = tie.close (tie.spec sinh-requires cosh-requires sine-requires cosine-requires latitude-at-requires arctangent-requires returns)
+find-spec = tie.close (tie.spec (search needs) (search needs) (search needs) (search needs) (search needs) (search needs) returns)

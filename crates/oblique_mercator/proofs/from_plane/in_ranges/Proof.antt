@@ -45,9 +45,6 @@ longitude c t h =
     ∙ sym (c .within .ensures ∙ of₃ within (west a) (toZ-ofZ w64 (a .args .difference) (a .fits .difference)) (east a))
     ∙ h
 
-is-latitude-requires : tie.Need-is-latitude-requires
-is-latitude-requires c κs = search needs
-
 returns : tie.Need-returns
 unfolding inRanges
 returns c = rw (latitude (c .before) false (not-true _ (c .if1 .taken)))
@@ -57,9 +54,6 @@ sub-within c = rw (read (c .before .before)) (west-fits (c .before .before))
 
 sub-within-2 : tie.Need-sub-within-2
 sub-within-2 c = rw (read (c .before .before)) (east-fits (c .before .before))
-
-within-requires : tie.Need-within-requires
-within-requires c κs = search needs
 
 returns-2 : tie.Need-returns-2
 unfolding inRanges
@@ -83,12 +77,4 @@ returns-3 c =
 pub in-ranges-spec : {M : Type 1} → statement M
 in-ranges-spec =
     tie.close
-    (tie.spec
-    is-latitude-requires
-    returns
-    sub-within
-    sub-within-2
-    within-requires
-    returns-2
-    add-t6
-    returns-3)
+    (tie.spec (search needs) returns sub-within sub-within-2 (search needs) returns-2 add-t6 returns-3)

@@ -8,12 +8,6 @@ use Rattle.oblique_mercator.specs.Reverse.{inUnits}
 use Rattle.oblique_mercator.proofs.from_plane.in_units.Statement.{statement}
 use Rattle.oblique_mercator.proofs.from_plane.in_units.Tie as tie
 
-round-places-requires : tie.Need-round-places-requires
-round-places-requires c κs = search needs
-
-round-places-requires-2 : tie.Need-round-places-requires-2
-round-places-requires-2 c κs = search needs
-
 placed-requires : tie.Need-placed-requires
 placed-requires c κs = let a = c .before .before in rw (toZ-ofZ w64 (a .args .centre) (a .fits .centre)) (a .pre)
 
@@ -25,4 +19,4 @@ returns c =
     cc
 
 pub in-units-spec : {M : Type 1} → statement M
-in-units-spec = tie.close (tie.spec round-places-requires round-places-requires-2 placed-requires returns)
+in-units-spec = tie.close (tie.spec (search needs) (search needs) placed-requires returns)

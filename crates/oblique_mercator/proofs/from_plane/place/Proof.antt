@@ -9,20 +9,11 @@ use Rattle.oblique_mercator.specs.Reverse.{turnedOf, gateOf, foundOf, in
 use Rattle.oblique_mercator.proofs.from_plane.place.Statement.{statement}
 use Rattle.oblique_mercator.proofs.from_plane.place.Tie as tie
 
-turn-requires : tie.Need-turn-requires
-turn-requires c κs = search needs
-
-gate-requires : tie.Need-gate-requires
-gate-requires c κs = search needs
-
 returns : tie.Need-returns
 unfolding reverseAt
 returns c =
     let e = sym (c .before .gate .ensures ∙ ap gateOf (c .before .before .turn .ensures)) ∙ not-true _ (c .if1 .taken) in
     rw e
-
-find-requires : tie.Need-find-requires
-find-requires c κs = search needs
 
 in-units-requires : tie.Need-in-units-requires
 in-units-requires c κs =
@@ -40,4 +31,4 @@ returns-2 c =
     rw e (cc (c .in-units .ensures, c .before .before .find .ensures, c .before .before .before .before .before .turn .ensures))
 
 pub place-spec : {M : Type 1} → statement M
-place-spec = tie.close (tie.spec turn-requires gate-requires returns find-requires in-units-requires returns-2)
+place-spec = tie.close (tie.spec (search needs) (search needs) returns (search needs) in-units-requires returns-2)

@@ -8,18 +8,6 @@ use Rattle.oblique_mercator.specs.Reverse.{placed}
 use Rattle.oblique_mercator.proofs.from_plane.placed.Statement.{statement}
 use Rattle.oblique_mercator.proofs.from_plane.placed.Tie as tie
 
-enum-told : tie.Need-enum-told
-enum-told c = search needs
-
-enum-known-latitude : tie.Need-enum-known-latitude
-enum-known-latitude c = search needs
-
-enum-told-2 : tie.Need-enum-told-2
-enum-told-2 c = search needs
-
-enum-known-difference : tie.Need-enum-known-difference
-enum-known-difference c = search needs
-
 in-ranges-requires : tie.Need-in-ranges-requires
 in-ranges-requires c κs = let a = c .before .before .before .before .before .before in rw (toZ-ofZ w64 (a .args .centre) (a .fits .centre)) (a .pre)
 
@@ -42,4 +30,4 @@ returns-3 c =
     rw (x .1, y .1) (c .in-ranges .ensures ∙ rw (toZ-ofZ w64 (x .0 .0) p, toZ-ofZ w64 (y .0 .0) q, toZ-ofZ w64 (a .args .centre) (a .fits .centre)))
 
 pub placed-spec : {M : Type 1} → statement M
-placed-spec = tie.close (tie.spec enum-told enum-known-latitude enum-told-2 enum-known-difference in-ranges-requires returns returns-2 returns-3)
+placed-spec = tie.close (tie.spec (search needs) (search needs) (search needs) (search needs) in-ranges-requires returns returns-2 returns-3)

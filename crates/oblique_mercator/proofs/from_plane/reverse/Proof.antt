@@ -5,18 +5,6 @@ use Rattle.oblique_mercator.specs.Reverse.{reverseOf}
 use Rattle.oblique_mercator.proofs.from_plane.reverse.Statement.{statement}
 use Rattle.oblique_mercator.proofs.from_plane.reverse.Tie as tie
 
-make-projection-requires : tie.Need-make-projection-requires
-make-projection-requires c κs = search needs
-
-enum-known-n : tie.Need-enum-known-n
-enum-known-n c = search needs
-
-enum-known-made : tie.Need-enum-known-made
-enum-known-made c = search needs
-
-reverse-from-requires : tie.Need-reverse-from-requires
-reverse-from-requires c κs = search needs
-
 returns : tie.Need-returns
 unfolding reverseOf
 returns c = let e = sym (c .before .before .before .make-projection .ensures) ∙ c .before .n .given .1 in rw e
@@ -29,4 +17,4 @@ returns-2 c =
     rw e (cc)
 
 pub reverse-spec : {M : Type 1} → statement M
-reverse-spec = tie.close (tie.spec make-projection-requires enum-known-n enum-known-made reverse-from-requires returns returns-2)
+reverse-spec = tie.close (tie.spec (search needs) (search needs) (search needs) (search needs) returns returns-2)

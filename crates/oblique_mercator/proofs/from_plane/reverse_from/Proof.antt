@@ -10,21 +10,12 @@ use Rattle.oblique_mercator.specs.Reverse.{reverseFromOf}
 use Rattle.oblique_mercator.proofs.from_plane.reverse_from.Statement.{statement}
 use Rattle.oblique_mercator.proofs.from_plane.reverse_from.Tie as tie
 
-is-longitude-requires : tie.Need-is-longitude-requires
-is-longitude-requires c κs = search needs
-
 centre : (c : tie.After-is-longitude) (t : Bool) → c .is-longitude .result ≡ t → longitudeRange (c .before .before .args .p .centre) ≡ t
 centre c t h = told (pos 35640000000) (c .before .before .args .p .centre) (pos 43200000000) (search needs) (c .is-longitude .ensures) h
 
 returns : tie.Need-returns
 unfolding reverseFromOf
 returns c = rw (centre (c .before) false (not-true _ (c .if1 .taken)))
-
-in-plane-requires : tie.Need-in-plane-requires
-in-plane-requires c κs = search needs
-
-in-plane-requires-2 : tie.Need-in-plane-requires-2
-in-plane-requires-2 c κs = search needs
 
 returns-2 : tie.Need-returns-2
 unfolding reverseFromOf
@@ -42,4 +33,4 @@ returns-3 c =
     rw (centre (c .before .before .before .before .before) true (not-false _ (c .before .before .before .before .if1 .left)), e) (c .place .ensures)
 
 pub reverse-from-spec : {M : Type 1} → statement M
-reverse-from-spec = tie.close (tie.spec is-longitude-requires returns in-plane-requires in-plane-requires-2 returns-2 place-requires returns-3)
+reverse-from-spec = tie.close (tie.spec (search needs) returns (search needs) (search needs) returns-2 place-requires returns-3)

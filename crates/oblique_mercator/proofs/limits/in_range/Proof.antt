@@ -10,30 +10,6 @@ use Rattle.oblique_mercator.specs.Parameters.{centreRange, angleRange, s
 use Rattle.oblique_mercator.proofs.limits.in_range.Statement.{statement}
 use Rattle.oblique_mercator.proofs.limits.in_range.Tie as tie
 
-is-ellipsoid-requires : tie.Need-is-ellipsoid-requires
-is-ellipsoid-requires c κs = search needs
-
-within-requires : tie.Need-within-requires
-within-requires c κs = search needs
-
-is-longitude-requires : tie.Need-is-longitude-requires
-is-longitude-requires c κs = search needs
-
-is-angle-requires : tie.Need-is-angle-requires
-is-angle-requires c κs = search needs
-
-is-angle-requires-2 : tie.Need-is-angle-requires-2
-is-angle-requires-2 c κs = search needs
-
-within-requires-2 : tie.Need-within-requires-2
-within-requires-2 c κs = search needs
-
-is-offset-requires : tie.Need-is-offset-requires
-is-offset-requires c κs = search needs
-
-is-offset-requires-2 : tie.Need-is-offset-requires-2
-is-offset-requires-2 c κs = search needs
-
 returns : tie.Need-returns
 unfolding parametersRange
 returns c =
@@ -53,4 +29,4 @@ returns c =
     (c .is-offset2 .ensures ∙ ap offsetRange (told (t .1 .1 .1 .1 .1 .1 .1 .0 .1)))
 
 pub in-range-spec : {M : Type 1} → statement M
-in-range-spec = tie.close (tie.spec is-ellipsoid-requires within-requires is-longitude-requires is-angle-requires is-angle-requires-2 within-requires-2 is-offset-requires is-offset-requires-2 returns)
+in-range-spec = tie.close (tie.spec (search needs) (search needs) (search needs) (search needs) (search needs) (search needs) (search needs) (search needs) returns)

@@ -9,16 +9,10 @@ use Rattle.oblique_mercator.specs.Parameters.{pastTurn}
 use Rattle.oblique_mercator.proofs.limits.is_angle.Statement.{statement}
 use Rattle.oblique_mercator.proofs.limits.is_angle.Tie as tie
 
-within-requires : tie.Need-within-requires
-within-requires c κs = search needs
-
-within-requires-2 : tie.Need-within-requires-2
-within-requires-2 c κs = search needs
-
 returns : tie.Need-returns
 returns c =
     let f = c .before .before .fits .z in
     ap₂ _||_ (c .before .within .ensures ∙ ap (λ (z : ℤ). within (pos 10800000000) z (pos 21600000000)) (toZ-ofZ f)) (c .within2 .ensures ∙ ap pastTurn (toZ-ofZ f))
 
 pub is-angle-spec : {M : Type 1} → statement M
-is-angle-spec = tie.close (tie.spec within-requires within-requires-2 returns)
+is-angle-spec = tie.close (tie.spec (search needs) (search needs) returns)

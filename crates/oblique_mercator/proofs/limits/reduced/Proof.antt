@@ -18,9 +18,6 @@ use Rattle.oblique_mercator.proofs.Wholes.{sized-upto}
 use Rattle.oblique_mercator.proofs.limits.reduced.Statement.{statement}
 use Rattle.oblique_mercator.proofs.limits.reduced.Tie as tie
 
-within-requires : tie.Need-within-requires
-within-requires c κs = search needs
-
 past : (c : tie.After-within) (t : Bool) → c .within .result ≡ t → pastTurn (c .before .args .z) ≡ t
 past c t h = told (pos 108000000000) (c .before .args .z) (pos 118800000000) (c .before .fits .z) (c .within .ensures) h
 
@@ -54,4 +51,4 @@ returns-2 c =
     rw (toZ-ofZ w64 (a .args .z) (a .fits .z), past (c .before) false (c .if1 .left))
 
 pub reduced-spec : {M : Type 1} → statement M
-reduced-spec = tie.close (tie.spec within-requires sub-result returns returns-2)
+reduced-spec = tie.close (tie.spec (search needs) sub-result returns returns-2)

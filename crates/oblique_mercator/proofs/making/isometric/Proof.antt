@@ -4,15 +4,9 @@ use Rattle.oblique_mercator.specs.Projection.{isometricOf}
 use Rattle.oblique_mercator.proofs.making.isometric.Statement.{statement}
 use Rattle.oblique_mercator.proofs.making.isometric.Tie as tie
 
-artanh-small-requires : tie.Need-artanh-small-requires
-artanh-small-requires c κs = search needs
-
-arctan-series-requires : tie.Need-arctan-series-requires
-arctan-series-requires c κs = search needs
-
 returns : tie.Need-returns
 unfolding isometricOf
 returns c = cc
 
 pub isometric-spec : {M : Type 1} → statement M
-isometric-spec = tie.close (tie.spec artanh-small-requires arctan-series-requires returns)
+isometric-spec = tie.close (tie.spec (search needs) (search needs) returns)

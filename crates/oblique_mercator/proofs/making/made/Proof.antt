@@ -40,29 +40,17 @@ module _ (c : tie.Start) where
   northing : T (inFloat binary64 (c .args .p .«false_northing»))
   northing = in-float 2000000000 (c .args .p .«false_northing») tt (upto 2000000000 1999999999 (c .args .p .«false_northing») 2000000000 (lit≤ tt) (lit≤ tt) (all .northing))
 
-ellipsoid-requires : tie.Need-ellipsoid-requires
-ellipsoid-requires c κs = search needs
-
 int-to-float-radians : tie.Need-int-to-float-radians
 int-to-float-radians c =
     let a = c .before .before .before .before in
     let f : SFits w64 (a .args .p .latitude) = search needs in
     read-back (a .args .p .latitude) f (latitude a)
 
-radians-requires : tie.Need-radians-requires
-radians-requires c κs = search needs
-
 int-to-float-centre-at : tie.Need-int-to-float-centre-at
 int-to-float-centre-at c =
     let a = c .before .before .before .before .before .before .before in
     let f : SFits w64 (a .args .p .scale) = search needs in
     read-back (a .args .p .scale) f (scale a)
-
-centre-at-requires : tie.Need-centre-at-requires
-centre-at-requires c κs = search needs
-
-reduced-requires : tie.Need-reduced-requires
-reduced-requires c κs = search needs
 
 int-to-float-radians-2 : tie.Need-int-to-float-radians-2
 int-to-float-radians-2 c =
@@ -71,33 +59,12 @@ int-to-float-radians-2 c =
     let e = c .before .reduced .ensures ∙ ap reduced (toZ-ofZ w64 (a .args .p .azimuth) f) in
     subst⁻¹ (λ (z : ℤ). T (inFloat binary64 (toZ w64 (ofZ w64 z)))) e (read-back (reduced (a .args .p .azimuth)) (reduced-fits (a .args .p .azimuth) (all a .azimuth)) (azimuth a))
 
-radians-requires-2 : tie.Need-radians-requires-2
-radians-requires-2 c κs = search needs
-
-natural-at-requires : tie.Need-natural-at-requires
-natural-at-requires c κs = search needs
-
-reduced-requires-2 : tie.Need-reduced-requires-2
-reduced-requires-2 c κs = search needs
-
 int-to-float-radians-3 : tie.Need-int-to-float-radians-3
 int-to-float-radians-3 c =
     let a = c .before .before .before .before .before .before .before .before .before .before .before .before .before .before .before .before in
     let f : SFits w64 (a .args .p .rectified) = search needs in
     let e = c .before .reduced2 .ensures ∙ ap reduced (toZ-ofZ w64 (a .args .p .rectified) f) in
     subst⁻¹ (λ (z : ℤ). T (inFloat binary64 (toZ w64 (ofZ w64 z)))) e (read-back (reduced (a .args .p .rectified)) (reduced-fits (a .args .p .rectified) (all a .rectified)) (rectified a))
-
-radians-requires-3 : tie.Need-radians-requires-3
-radians-requires-3 c κs = search needs
-
-series-of-requires : tie.Need-series-of-requires
-series-of-requires c κs = search needs
-
-sine-requires : tie.Need-sine-requires
-sine-requires c κs = search needs
-
-cosine-requires : tie.Need-cosine-requires
-cosine-requires c κs = search needs
 
 int-to-float-t12 : tie.Need-int-to-float-t12
 int-to-float-t12 c =
@@ -132,22 +99,6 @@ returns c =
 pub made-spec : {M : Type 1} → statement M
 made-spec =
     tie.close
-    (tie.spec
-    ellipsoid-requires
-    int-to-float-radians
-    radians-requires
-    int-to-float-centre-at
-    centre-at-requires
-    reduced-requires
-    int-to-float-radians-2
-    radians-requires-2
-    natural-at-requires
-    reduced-requires-2
-    int-to-float-radians-3
-    radians-requires-3
-    series-of-requires
-    sine-requires
-    cosine-requires
-    int-to-float-t12
-    int-to-float-t14
-    returns)
+    (tie.spec (search needs) int-to-float-radians (search needs) int-to-float-centre-at (search needs) (search needs) int-to-float-radians-2
+    (search needs) (search needs) (search needs) int-to-float-radians-3 (search needs) (search needs) (search needs) (search needs) int-to-float-t12
+    int-to-float-t14 returns)

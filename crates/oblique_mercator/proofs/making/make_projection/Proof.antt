@@ -8,9 +8,6 @@ use Rattle.oblique_mercator.specs.declared.ProjectionAnswer.the-variants
 use Rattle.oblique_mercator.proofs.making.make_projection.Statement.{statement}
 use Rattle.oblique_mercator.proofs.making.make_projection.Tie as tie
 
-in-range-requires : tie.Need-in-range-requires
-in-range-requires c κs = search needs
-
 returns : tie.Need-returns
 unfolding projectionOf
 returns c = let e = sym (c .before .in-range .ensures) ∙ not-true _ (c .if1 .taken) in rw e
@@ -23,4 +20,4 @@ unfolding projectionOf
 returns-2 c = let e = sym (c .before .before .in-range .ensures) ∙ not-false _ (c .before .if1 .left) in rw e (ap Made (c .made .ensures))
 
 pub make-projection-spec : {M : Type 1} → statement M
-make-projection-spec = tie.close (tie.spec in-range-requires returns made-requires returns-2)
+make-projection-spec = tie.close (tie.spec (search needs) returns made-requires returns-2)

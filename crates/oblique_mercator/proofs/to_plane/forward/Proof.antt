@@ -8,18 +8,6 @@ use Rattle.oblique_mercator.specs.Forward.{forwardOf}
 use Rattle.oblique_mercator.proofs.to_plane.forward.Statement.{statement}
 use Rattle.oblique_mercator.proofs.to_plane.forward.Tie as tie
 
-make-projection-requires : tie.Need-make-projection-requires
-make-projection-requires c κs = search needs
-
-enum-known-n : tie.Need-enum-known-n
-enum-known-n c = search needs
-
-enum-known-made : tie.Need-enum-known-made
-enum-known-made c = search needs
-
-forward-from-requires : tie.Need-forward-from-requires
-forward-from-requires c κs = search needs
-
 returns : tie.Need-returns
 unfolding forwardOf
 returns c = let e = sym (c .before .before .before .make-projection .ensures) ∙ c .before .n .given .1 in rw e
@@ -34,4 +22,4 @@ returns-2 c =
     rw e (cc)
 
 pub forward-spec : {M : Type 1} → statement M
-forward-spec = tie.close (tie.spec make-projection-requires enum-known-n enum-known-made forward-from-requires returns returns-2)
+forward-spec = tie.close (tie.spec (search needs) (search needs) (search needs) (search needs) returns returns-2)

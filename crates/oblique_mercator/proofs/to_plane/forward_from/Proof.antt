@@ -13,9 +13,6 @@ use Rattle.oblique_mercator.specs.Forward.{forwardFromOf}
 use Rattle.oblique_mercator.proofs.to_plane.forward_from.Statement.{statement}
 use Rattle.oblique_mercator.proofs.to_plane.forward_from.Tie as tie
 
-is-longitude-requires : tie.Need-is-longitude-requires
-is-longitude-requires c κs = search needs
-
 centre : (c : tie.After-is-longitude) (t : Bool) → c .is-longitude .result ≡ t → longitudeRange (c .before .before .args .p .centre) ≡ t
 centre c t h = told (pos 35640000000) (c .before .before .args .p .centre) (pos 43200000000) (search needs) (c .is-longitude .ensures) h
 
@@ -31,15 +28,9 @@ returns : tie.Need-returns
 unfolding forwardFromOf
 returns c = rw (centre (c .before) false (not-true _ (c .if1 .taken)))
 
-is-latitude-requires : tie.Need-is-latitude-requires
-is-latitude-requires c κs = search needs
-
 returns-2 : tie.Need-returns-2
 unfolding forwardFromOf
 returns-2 c = rw (centre (c .before .before .before) true (not-false _ (c .before .before .if1 .left)), latitude (c .before) false (not-true _ (c .if2 .taken)))
-
-is-longitude-requires-2 : tie.Need-is-longitude-requires-2
-is-longitude-requires-2 c κs = search needs
 
 returns-3 : tie.Need-returns-3
 unfolding forwardFromOf
@@ -67,4 +58,4 @@ returns-4 c =
     rw (p .0, p .1, p .2) (cc)
 
 pub forward-from-spec : {M : Type 1} → statement M
-forward-from-spec = tie.close (tie.spec is-longitude-requires returns is-latitude-requires returns-2 is-longitude-requires-2 returns-3 place-requires returns-4)
+forward-from-spec = tie.close (tie.spec (search needs) returns (search needs) returns-2 (search needs) returns-3 place-requires returns-4)

@@ -36,9 +36,6 @@ module _ (c : tie.Start) where
 int-to-float-radians : tie.Need-int-to-float-radians
 int-to-float-radians c = let a = c .before in read-back (a .args .latitude) (a .fits .latitude) (latitude a)
 
-radians-requires : tie.Need-radians-requires
-radians-requires c κs = search needs
-
 sub-radians : tie.Need-sub-radians
 sub-radians c =
     let a = c .before .before .before .before in
@@ -51,12 +48,6 @@ int-to-float-radians-2 c =
     let f : SFits w64 (a .args .p .centre) = search needs in
     subst (λ (z : ℤ). T (inFloat binary64 (toZ w64 (ofZ w64 z)))) (sym (same a f)) (read-back (difference a) (difference-fits a) (difference-float a))
 
-radians-requires-2 : tie.Need-radians-requires-2
-radians-requires-2 c κs = search needs
-
-plane-requires : tie.Need-plane-requires
-plane-requires c κs = search needs
-
 returns : tie.Need-returns
 unfolding planeAt
 returns c =
@@ -68,4 +59,4 @@ returns c =
     cc (radians-is (a .args .latitude), radians-is (difference a))
 
 pub place-spec : {M : Type 1} → statement M
-place-spec = tie.close (tie.spec int-to-float-radians radians-requires sub-radians int-to-float-radians-2 radians-requires-2 plane-requires returns)
+place-spec = tie.close (tie.spec int-to-float-radians (search needs) sub-radians int-to-float-radians-2 (search needs) (search needs) returns)

@@ -5,12 +5,9 @@ use borrow.Author.Needs.{needs}
 use Rattle.plan_rules.proofs.decide.after.Statement.{statement}
 use Rattle.plan_rules.proofs.decide.after.Tie as tie
 
-add-t3 : tie.Need-add-t3
-add-t3 c = search needs
-
 returns : tie.Need-returns
 unfolding afterIn
 returns c = refl
 
 pub after-spec : {M : Type 1} → statement M
-after-spec = tie.close (tie.spec add-t3 returns)
+after-spec = tie.close (tie.spec (search needs) returns)

@@ -8,28 +8,13 @@ use borrow.Author.Needs.{needs}
 use Rattle.plan_rules.proofs.decide.decide.Statement.{statement}
 use Rattle.plan_rules.proofs.decide.decide.Tie as tie
 
-shared-slice-read-letter : tie.Need-shared-slice-read-letter
-shared-slice-read-letter c = search needs
-
-decide-origin-requires : tie.Need-decide-origin-requires
-decide-origin-requires c κs = search needs
-
 returns : tie.Need-returns
 unfolding replyOf nextOf
 returns c = λ p h. rw (eq-eqb _ letterO (c .before .if1 .taken)) (c .decide-origin .ensures p h)
 
-decide-geodetic-requires : tie.Need-decide-geodetic-requires
-decide-geodetic-requires c κs = search needs
-
 returns-2 : tie.Need-returns-2
 unfolding replyOf nextOf
 returns-2 c = λ p h. rw (ne-eqb _ letterO (c .before .before .if1 .left), eq-eqb _ letterG (c .before .if2 .taken)) (c .decide-geodetic .ensures p h)
-
-strange-requires : tie.Need-strange-requires
-strange-requires c κs = search needs
-
-malformed-requires : tie.Need-malformed-requires
-malformed-requires c κs = search needs
 
 returns-3 : tie.Need-returns-3
 unfolding replyOf nextOf
@@ -38,12 +23,4 @@ returns-3 c = λ p h. rw (ne-eqb _ letterO (c .before .before .before .if1 .left
 pub decide-spec : {M : Type 1} → statement M
 decide-spec =
     tie.close
-    (tie.spec
-    shared-slice-read-letter
-    decide-origin-requires
-    returns
-    decide-geodetic-requires
-    returns-2
-    strange-requires
-    malformed-requires
-    returns-3)
+    (tie.spec (search needs) (search needs) returns (search needs) returns-2 (search needs) (search needs) returns-3)

@@ -5,27 +5,6 @@ use borrow.Author.Needs.{needs}
 use Rattle.plan_rules.proofs.decide.decide_geodetic.Statement.{statement}
 use Rattle.plan_rules.proofs.decide.decide_geodetic.Tie as tie
 
-read-geodetic-requires : tie.Need-read-geodetic-requires
-read-geodetic-requires c κs = search needs
-
-enum-known-fault : tie.Need-enum-known-fault
-enum-known-fault c = search needs
-
-malformed-requires : tie.Need-malformed-requires
-malformed-requires c κs = search needs
-
-enum-known-number : tie.Need-enum-known-number
-enum-known-number c = search needs
-
-refuse-geodetic-requires : tie.Need-refuse-geodetic-requires
-refuse-geodetic-requires c κs = search needs
-
-enum-known-g : tie.Need-enum-known-g
-enum-known-g c = search needs
-
-take-geodetic-requires : tie.Need-take-geodetic-requires
-take-geodetic-requires c κs = search needs
-
 returns : tie.Need-returns
 returns c = λ p h. let e = sym (c .before .before .before .before .read-geodetic .ensures) ∙ c .before .before .fault .given .1 in rw e (gave-refusal h _ refl _ _ _ (c .malformed .ensures))
 
@@ -38,14 +17,4 @@ returns-3 c = λ p h. let e = sym (c .before .before .before .before .read-geode
 pub decide-geodetic-spec : {M : Type 1} → statement M
 decide-geodetic-spec =
     tie.close
-    (tie.spec
-    read-geodetic-requires
-    enum-known-fault
-    malformed-requires
-    enum-known-number
-    refuse-geodetic-requires
-    enum-known-g
-    take-geodetic-requires
-    returns
-    returns-2
-    returns-3)
+    (tie.spec (search needs) (search needs) (search needs) (search needs) (search needs) (search needs) (search needs) returns returns-2 returns-3)

@@ -6,24 +6,6 @@ use borrow.Author.Needs.{needs}
 use Rattle.plan_rules.proofs.decide.decide_origin.Statement.{statement}
 use Rattle.plan_rules.proofs.decide.decide_origin.Tie as tie
 
-read-origin-requires : tie.Need-read-origin-requires
-read-origin-requires c κs = search needs
-
-enum-known-fault : tie.Need-enum-known-fault
-enum-known-fault c = search needs
-
-malformed-requires : tie.Need-malformed-requires
-malformed-requires c κs = search needs
-
-enum-known-number : tie.Need-enum-known-number
-enum-known-number c = search needs
-
-refuse-origin-requires : tie.Need-refuse-origin-requires
-refuse-origin-requires c κs = search needs
-
-enum-known-o : tie.Need-enum-known-o
-enum-known-o c = search needs
-
 take-origin-requires : tie.Need-take-origin-requires
 take-origin-requires c κs = (c .before .before .before .before .before .pre, origin-sound _ _ (sym (c .before .before .before .read-origin .ensures) ∙ c .before .o .given .1))
 
@@ -39,14 +21,4 @@ returns-3 c = λ p h. let e = sym (c .before .before .before .before .read-origi
 pub decide-origin-spec : {M : Type 1} → statement M
 decide-origin-spec =
     tie.close
-    (tie.spec
-    read-origin-requires
-    enum-known-fault
-    malformed-requires
-    enum-known-number
-    refuse-origin-requires
-    enum-known-o
-    take-origin-requires
-    returns
-    returns-2
-    returns-3)
+    (tie.spec (search needs) (search needs) (search needs) (search needs) (search needs) (search needs) take-origin-requires returns returns-2 returns-3)

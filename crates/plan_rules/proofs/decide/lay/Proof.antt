@@ -10,18 +10,6 @@ use Rattle.plan_rules.proofs.decide.lay.Tie as tie
 cassini-millimetres-from-requires : tie.Need-cassini-millimetres-from-requires
 cassini-millimetres-from-requires c κs = tt
 
-enum-known-number : tie.Need-enum-known-number
-enum-known-number c = search needs
-
-refuse-requires : tie.Need-refuse-requires
-refuse-requires c κs = search needs
-
-enum-known-easting : tie.Need-enum-known-easting
-enum-known-easting c = search needs
-
-after-requires : tie.Need-after-requires
-after-requires c κs = search needs
-
 returns : tie.Need-returns
 returns c = λ p h m.
     let g = c .before .before .before .before .before .before .before .args .g in
@@ -40,11 +28,4 @@ returns-2 c = λ p h m.
 pub lay-spec : {M : Type 1} → statement M
 lay-spec =
     tie.close
-    (tie.spec
-    cassini-millimetres-from-requires
-    enum-known-number
-    refuse-requires
-    enum-known-easting
-    after-requires
-    returns
-    returns-2)
+    (tie.spec cassini-millimetres-from-requires (search needs) (search needs) (search needs) (search needs) returns returns-2)

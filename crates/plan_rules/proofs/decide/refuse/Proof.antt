@@ -4,12 +4,9 @@ use borrow.Author.Needs.{needs}
 use Rattle.plan_rules.proofs.decide.refuse.Statement.{statement}
 use Rattle.plan_rules.proofs.decide.refuse.Tie as tie
 
-after-requires : tie.Need-after-requires
-after-requires c κs = search needs
-
 returns : tie.Need-returns
 unfolding refusedIn
 returns c = rw (c .after .ensures)
 
 pub refuse-spec : {M : Type 1} → statement M
-refuse-spec = tie.close (tie.spec after-requires returns)
+refuse-spec = tie.close (tie.spec (search needs) returns)

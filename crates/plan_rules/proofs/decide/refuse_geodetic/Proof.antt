@@ -5,18 +5,6 @@ use borrow.Author.Needs.{needs}
 use Rattle.plan_rules.proofs.decide.refuse_geodetic.Statement.{statement}
 use Rattle.plan_rules.proofs.decide.refuse_geodetic.Tie as tie
 
-enum-told : tie.Need-enum-told
-enum-told c = search needs
-
-refuse-requires : tie.Need-refuse-requires
-refuse-requires c κs = search needs
-
-enum-told-2 : tie.Need-enum-told-2
-enum-told-2 c = search needs
-
-refuse-requires-2 : tie.Need-refuse-requires-2
-refuse-requires-2 c κs = search needs
-
 returns : tie.Need-returns
 returns c = λ p h. let e = missing (p .origin) (h .origin) (c .before .enum-told .given .1) in rw e (gave-refusal h _ (sym e) _ _ _ (c .refuse .ensures))
 
@@ -25,4 +13,4 @@ returns-2 c = λ p h. let a = accepted _ (p .origin) (h .origin) (c .before .enu
 
 pub refuse-geodetic-spec : {M : Type 1} → statement M
 refuse-geodetic-spec =
-    tie.close (tie.spec enum-told refuse-requires enum-told-2 refuse-requires-2 returns returns-2)
+    tie.close (tie.spec (search needs) (search needs) (search needs) (search needs) returns returns-2)

@@ -8,17 +8,11 @@ use borrow.Author.Needs.{needs}
 use Rattle.plan_rules.proofs.decide.refuse_origin.Statement.{statement}
 use Rattle.plan_rules.proofs.decide.refuse_origin.Tie as tie
 
-refuse-requires : tie.Need-refuse-requires
-refuse-requires c κs = search needs
-
 returns : tie.Need-returns
 returns c = λ p h. let q : eqb (p .line) 1 ≡ false = ne-eqb (p .line) 1 (λ y. c .before .if1 .taken (h .line ∙ y)) in rw q (gave-refusal h _ refl _ _ _ (c .refuse .ensures))
-
-refuse-requires-2 : tie.Need-refuse-requires-2
-refuse-requires-2 c κs = search needs
 
 returns-2 : tie.Need-returns-2
 returns-2 c = λ p h. let q : eqb (p .line) 1 ≡ true = eq-eqb (p .line) 1 (sym (h .line) ∙ c .before .if1 .left) in rw q (gave-refusal h _ refl _ _ _ (c .refuse2 .ensures))
 
 pub refuse-origin-spec : {M : Type 1} → statement M
-refuse-origin-spec = tie.close (tie.spec refuse-requires returns refuse-requires-2 returns-2)
+refuse-origin-spec = tie.close (tie.spec (search needs) returns (search needs) returns-2)

@@ -5,18 +5,6 @@ use borrow.Author.Needs.{needs}
 use Rattle.plan_rules.proofs.decide.take_geodetic.Statement.{statement}
 use Rattle.plan_rules.proofs.decide.take_geodetic.Tie as tie
 
-enum-told : tie.Need-enum-told
-enum-told c = search needs
-
-refuse-requires : tie.Need-refuse-requires
-refuse-requires c κs = search needs
-
-enum-known-origin : tie.Need-enum-known-origin
-enum-known-origin c = search needs
-
-lay-requires : tie.Need-lay-requires
-lay-requires c κs = search needs
-
 returns : tie.Need-returns
 returns c = λ p h. let e = missing (p .origin) (h .origin) (c .before .enum-told .given .1) in rw e (gave-refusal h _ (sym e) _ _ _ (c .refuse .ensures))
 
@@ -25,4 +13,4 @@ returns-2 c = λ p h. c .lay .ensures p h (c .before .before .origin .given .1)
 
 pub take-geodetic-spec : {M : Type 1} → statement M
 take-geodetic-spec =
-    tie.close (tie.spec enum-told refuse-requires enum-known-origin lay-requires returns returns-2)
+    tie.close (tie.spec (search needs) (search needs) (search needs) (search needs) returns returns-2)

@@ -9,26 +9,11 @@ use borrow.Author.Needs.{needs}
 use Rattle.plan_rules.proofs.decide.take_origin.Statement.{statement}
 use Rattle.plan_rules.proofs.decide.take_origin.Tie as tie
 
-refuse-requires : tie.Need-refuse-requires
-refuse-requires c κs = search needs
-
 returns : tie.Need-returns
 returns c = λ p h. let q : eqb (p .line) 1 ≡ false = ne-eqb (p .line) 1 (λ y. c .before .if1 .taken (h .line ∙ y)) in rw q (gave-refusal h _ refl _ _ _ (c .refuse .ensures))
 
 make-origin-requires : tie.Need-make-origin-requires
 make-origin-requires c κs = tt
-
-enum-known-number : tie.Need-enum-known-number
-enum-known-number c = search needs
-
-refuse-requires-2 : tie.Need-refuse-requires-2
-refuse-requires-2 c κs = search needs
-
-enum-known-origin : tie.Need-enum-known-origin
-enum-known-origin c = search needs
-
-add-t9 : tie.Need-add-t9
-add-t9 c = search needs
 
 returns-2 : tie.Need-returns-2
 returns-2 c = λ p h. absurd (never-refused _ _ (c .before .before .before .before .before .before .before .pre .1) (sym (c .before .before .before .before .make-origin .ensures) ∙ c .before .before .number .given .1))
@@ -39,13 +24,4 @@ returns-3 c = λ p h. let q : eqb (p .line) 1 ≡ true = eq-eqb (p .line) 1 (sym
 pub take-origin-spec : {M : Type 1} → statement M
 take-origin-spec =
     tie.close
-    (tie.spec
-    refuse-requires
-    returns
-    make-origin-requires
-    enum-known-number
-    refuse-requires-2
-    enum-known-origin
-    add-t9
-    returns-2
-    returns-3)
+    (tie.spec (search needs) returns make-origin-requires (search needs) (search needs) (search needs) (search needs) returns-2 returns-3)

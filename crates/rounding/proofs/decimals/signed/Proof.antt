@@ -9,20 +9,14 @@ use Rattle.rounding.proofs.decimals.Pattern.{neg-fits, negated}
 use Rattle.rounding.proofs.decimals.signed.Statement.{statement}
 use Rattle.rounding.proofs.decimals.signed.Tie as tie
 
-cast-result : tie.Need-cast-result
-cast-result c = search needs
-
 sub-result : tie.Need-sub-result
 sub-result c = neg-fits (c .before .args .n) (c .before .pre)
 
 returns : tie.Need-returns
 returns c = negated (c .before .args .n) (c .before .pre) ∙ sym (ap (λ (s : Bool). withSign s (c .before .args .n)) (c .if1 .taken))
 
-cast-result-2 : tie.Need-cast-result-2
-cast-result-2 c = search needs
-
 returns-2 : tie.Need-returns-2
 returns-2 c = toZ-pos w64 (c .before .args .n) (c .before .pre) ∙ sym (ap (λ (s : Bool). withSign s (c .before .args .n)) (c .if1 .left))
 
 pub signed-spec : {M : Type 1} → statement M
-signed-spec = tie.close (tie.spec cast-result sub-result returns cast-result-2 returns-2)
+signed-spec = tie.close (tie.spec (search needs) sub-result returns (search needs) returns-2)

@@ -26,8 +26,5 @@ returns-5 c = power (c .match .keys5)
 returns-6 : tie.Need-returns-6
 returns-6 c = power (c .match .keys6)
 
-returns-7 : tie.Need-returns-7
-returns-7 c = search needs
-
 pub tens-spec : {M : Type 1} → statement M
-tens-spec = tie.close (tie.spec returns returns-2 returns-3 returns-4 returns-5 returns-6 returns-7)
+tens-spec = tie.close (tie.spec returns returns-2 returns-3 returns-4 returns-5 returns-6 (search needs))

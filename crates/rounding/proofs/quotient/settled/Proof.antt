@@ -12,9 +12,6 @@ use Rattle.rounding.proofs.quotient.settled.Tie as tie
 one : pos 1 ≡ pos 1
 one = refl
 
-half-goes-up-requires : tie.Need-half-goes-up-requires
-half-goes-up-requires c κs = search needs
-
 -- whether t is odd, as the code's test says it
 module _ (c : tie.After-half-goes-up) where
   goes : c .half-goes-up .result ≡ toEven (c .before .before .args .t)
@@ -46,4 +43,4 @@ returns-3 c =
     rd (s .fits .t) ∙ rw h
 
 pub settled-spec : {M : Type 1} → statement M
-settled-spec = tie.close (tie.spec half-goes-up-requires sub-result returns returns-2 returns-3)
+settled-spec = tie.close (tie.spec (search needs) sub-result returns returns-2 returns-3)

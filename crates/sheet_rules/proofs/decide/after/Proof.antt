@@ -7,9 +7,6 @@ use mir.Val.{toZ, ofZ}
 use Rattle.sheet_rules.proofs.decide.after.Statement.{statement}
 use Rattle.sheet_rules.proofs.decide.after.Tie as tie
 
-add-t4 : tie.Need-add-t4
-add-t4 c = search needs
-
 returns : tie.Need-returns
 unfolding afterIn
 returns c =
@@ -18,4 +15,4 @@ returns c =
     rw y
 
 pub after-spec : {M : Type 1} → statement M
-after-spec = tie.close (tie.spec add-t4 returns)
+after-spec = tie.close (tie.spec (search needs) returns)

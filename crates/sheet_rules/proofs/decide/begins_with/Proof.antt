@@ -13,11 +13,5 @@ returns c =
     let z : getD t 0 0 ≡ 0 = List·getD-eq-default t 0 (omega (arith, c .if1 .taken)) in
     sym (ne-eqb (getD t 0 0) (c .before .args .letter) (λ e. omega (arith, z, e, c .before .pre)))
 
-shared-slice-read-result : tie.Need-shared-slice-read-result
-shared-slice-read-result c = search needs
-
-returns-2 : tie.Need-returns-2
-returns-2 c = search needs
-
 pub begins-with-spec : {M : Type 1} → statement M
-begins-with-spec = tie.close (tie.spec returns shared-slice-read-result returns-2)
+begins-with-spec = tie.close (tie.spec returns (search needs) (search needs))

@@ -6,26 +6,11 @@ use borrow.Author.Needs.{needs}
 use Rattle.sheet_rules.proofs.decide.convert_point.Statement.{statement}
 use Rattle.sheet_rules.proofs.decide.convert_point.Tie as tie
 
-refuse-requires : tie.Need-refuse-requires
-refuse-requires c κs = search needs
-
 returns : tie.Need-returns
 returns c = λ s h. let q : s .refused ≡ true = sym (h .refused) ∙ c .before .if1 .taken in rw q (gave-refusal h _ _ _ _ refl (sym (or-true (s .closed))) _ _ _ (c .refuse .ensures))
 
 forward-prepared-requires : tie.Need-forward-prepared-requires
 forward-prepared-requires c κs = tt
-
-enum-known-number : tie.Need-enum-known-number
-enum-known-number c = search needs
-
-refuse-requires-2 : tie.Need-refuse-requires-2
-refuse-requires-2 c κs = search needs
-
-enum-known-converted : tie.Need-enum-known-converted
-enum-known-converted c = search needs
-
-after-requires : tie.Need-after-requires
-after-requires c κs = search needs
 
 returns-2 : tie.Need-returns-2
 returns-2 c = λ s h.
@@ -46,13 +31,4 @@ returns-3 c = λ s h.
 pub convert-point-spec : {M : Type 1} → statement M
 convert-point-spec =
     tie.close
-    (tie.spec
-    refuse-requires
-    returns
-    forward-prepared-requires
-    enum-known-number
-    refuse-requires-2
-    enum-known-converted
-    after-requires
-    returns-2
-    returns-3)
+    (tie.spec (search needs) returns forward-prepared-requires (search needs) (search needs) (search needs) (search needs) returns-2 returns-3)

@@ -7,35 +7,17 @@ use borrow.Author.Needs.{needs}
 use Rattle.sheet_rules.proofs.decide.decide.Statement.{statement}
 use Rattle.sheet_rules.proofs.decide.decide.Tie as tie
 
-shared-slice-read-letter : tie.Need-shared-slice-read-letter
-shared-slice-read-letter c = search needs
-
-decide-step-requires : tie.Need-decide-step-requires
-decide-step-requires c κs = search needs
-
 returns : tie.Need-returns
 unfolding replyOf nextOf
 returns c = λ s h. rw (eq-eqb _ letterS (c .before .before .if1 .taken)) (c .decide-step .ensures s h)
-
-decide-point-requires : tie.Need-decide-point-requires
-decide-point-requires c κs = search needs
 
 returns-2 : tie.Need-returns-2
 unfolding replyOf nextOf
 returns-2 c = λ s h. rw (ne-eqb _ letterS (c .before .before .before .if1 .left), eq-eqb _ letterP (c .before .before .if2 .taken)) (c .decide-point .ensures s h)
 
-decide-edition-requires : tie.Need-decide-edition-requires
-decide-edition-requires c κs = search needs
-
 returns-3 : tie.Need-returns-3
 unfolding replyOf nextOf
 returns-3 c = λ s h. rw (ne-eqb _ letterS (c .before .before .before .if1 .left), ne-eqb _ letterP (c .before .before .if2 .left), eq-eqb _ letterE (c .before .if3 .taken)) (c .decide-edition .ensures s _ h)
-
-strange-requires : tie.Need-strange-requires
-strange-requires c κs = search needs
-
-malformed-requires : tie.Need-malformed-requires
-malformed-requires c κs = search needs
 
 returns-4 : tie.Need-returns-4
 unfolding replyOf nextOf
@@ -44,14 +26,4 @@ returns-4 c = λ s h. rw (ne-eqb _ letterS (c .before .before .before .before .i
 pub decide-spec : {M : Type 1} → statement M
 decide-spec =
     tie.close
-    (tie.spec
-    shared-slice-read-letter
-    decide-step-requires
-    returns
-    decide-point-requires
-    returns-2
-    decide-edition-requires
-    returns-3
-    strange-requires
-    malformed-requires
-    returns-4)
+    (tie.spec (search needs) (search needs) returns (search needs) returns-2 (search needs) returns-3 (search needs) (search needs) returns-4)

@@ -7,21 +7,6 @@ use borrow.Author.Needs.{needs}
 use Rattle.sheet_rules.proofs.decide.decide_edition.Statement.{statement}
 use Rattle.sheet_rules.proofs.decide.decide_edition.Tie as tie
 
-read-edition-requires : tie.Need-read-edition-requires
-read-edition-requires c κs = search needs
-
-enum-known-fault : tie.Need-enum-known-fault
-enum-known-fault c = search needs
-
-malformed-requires : tie.Need-malformed-requires
-malformed-requires c κs = search needs
-
-enum-known-year : tie.Need-enum-known-year
-enum-known-year c = search needs
-
-take-edition-requires : tie.Need-take-edition-requires
-take-edition-requires c κs = search needs
-
 returns : tie.Need-returns
 returns c = λ s l h. let e = sym (c .before .before .before .before .read-edition .ensures) ∙ c .before .before .fault .given .1 in rw e (gave-refusal h _ _ _ _ refl (h .closed) _ _ _ (c .malformed .ensures))
 
@@ -35,11 +20,4 @@ returns-2 c = λ s l h.
 pub decide-edition-spec : {M : Type 1} → statement M
 decide-edition-spec =
     tie.close
-    (tie.spec
-    read-edition-requires
-    enum-known-fault
-    malformed-requires
-    enum-known-year
-    take-edition-requires
-    returns
-    returns-2)
+    (tie.spec (search needs) (search needs) (search needs) (search needs) (search needs) returns returns-2)

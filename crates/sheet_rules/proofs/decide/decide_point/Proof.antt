@@ -9,24 +9,6 @@ use borrow.Author.Needs.{needs}
 use Rattle.sheet_rules.proofs.decide.decide_point.Statement.{statement}
 use Rattle.sheet_rules.proofs.decide.decide_point.Tie as tie
 
-read-point-requires : tie.Need-read-point-requires
-read-point-requires c κs = search needs
-
-enum-known-fault : tie.Need-enum-known-fault
-enum-known-fault c = search needs
-
-malformed-requires : tie.Need-malformed-requires
-malformed-requires c κs = search needs
-
-enum-known-number : tie.Need-enum-known-number
-enum-known-number c = search needs
-
-refuse-requires : tie.Need-refuse-requires
-refuse-requires c κs = search needs
-
-enum-known-point : tie.Need-enum-known-point
-enum-known-point c = search needs
-
 convert-point-requires : tie.Need-convert-point-requires
 convert-point-requires c κs =
     let a = c .before .before .before .before .before .before in
@@ -57,14 +39,5 @@ returns-3 c = λ s h.
 pub decide-point-spec : {M : Type 1} → statement M
 decide-point-spec =
     tie.close
-    (tie.spec
-    read-point-requires
-    enum-known-fault
-    malformed-requires
-    enum-known-number
-    refuse-requires
-    enum-known-point
-    convert-point-requires
-    returns
-    returns-2
+    (tie.spec (search needs) (search needs) (search needs) (search needs) (search needs) (search needs) convert-point-requires returns returns-2
     returns-3)

@@ -8,24 +8,6 @@ use borrow.Author.Needs.{needs}
 use Rattle.sheet_rules.proofs.decide.decide_step.Statement.{statement}
 use Rattle.sheet_rules.proofs.decide.decide_step.Tie as tie
 
-read-step-requires : tie.Need-read-step-requires
-read-step-requires c κs = search needs
-
-enum-known-fault : tie.Need-enum-known-fault
-enum-known-fault c = search needs
-
-malformed-requires : tie.Need-malformed-requires
-malformed-requires c κs = search needs
-
-enum-known-number : tie.Need-enum-known-number
-enum-known-number c = search needs
-
-refuse-requires : tie.Need-refuse-requires
-refuse-requires c κs = search needs
-
-enum-known-step : tie.Need-enum-known-step
-enum-known-step c = search needs
-
 take-step-requires : tie.Need-take-step-requires
 take-step-requires c κs =
     let a = c .before .before .before .before .before .before .before in
@@ -56,14 +38,4 @@ returns-3 c = λ s h.
 pub decide-step-spec : {M : Type 1} → statement M
 decide-step-spec =
     tie.close
-    (tie.spec
-    read-step-requires
-    enum-known-fault
-    malformed-requires
-    enum-known-number
-    refuse-requires
-    enum-known-step
-    take-step-requires
-    returns
-    returns-2
-    returns-3)
+    (tie.spec (search needs) (search needs) (search needs) (search needs) (search needs) (search needs) take-step-requires returns returns-2 returns-3)

@@ -9,26 +9,14 @@ use borrow.Author.Needs.{needs}
 use Rattle.sheet_rules.proofs.decide.take_edition.Statement.{statement}
 use Rattle.sheet_rules.proofs.decide.take_edition.Tie as tie
 
-refuse-requires : tie.Need-refuse-requires
-refuse-requires c κs = search needs
-
 returns : tie.Need-returns
 returns c = λ s l h. gave-late-edition h (c .before .before .before .args .year) (λ e. omega (arith, e)) _ (c .refuse .ensures)
-
-is-profile-requires : tie.Need-is-profile-requires
-is-profile-requires c κs = search needs
-
-refuse-requires-2 : tie.Need-refuse-requires-2
-refuse-requires-2 c κs = search needs
 
 returns-2 : tie.Need-returns-2
 returns-2 c = λ s l h.
     let y = c .before .before .before .before .before .args .year in
     let e : toZ w64 (ofZ w64 y) ≡ y = search needs in
     gave-no-edition h y (omega arith) (sym (rw e at (c .before .before .is-profile .ensures)) ∙ not-true _ (c .before .if2 .taken)) _ (c .refuse2 .ensures)
-
-add-t6 : tie.Need-add-t6
-add-t6 c = search needs
 
 returns-3 : tie.Need-returns-3
 returns-3 c = λ s l h.
@@ -39,11 +27,4 @@ returns-3 c = λ s l h.
 pub take-edition-spec : {M : Type 1} → statement M
 take-edition-spec =
     tie.close
-    (tie.spec
-    refuse-requires
-    returns
-    is-profile-requires
-    refuse-requires-2
-    returns-2
-    add-t6
-    returns-3)
+    (tie.spec (search needs) returns (search needs) (search needs) returns-2 (search needs) returns-3)

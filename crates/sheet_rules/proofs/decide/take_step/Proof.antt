@@ -7,23 +7,11 @@ use borrow.Author.Needs.{needs}
 use Rattle.sheet_rules.proofs.decide.take_step.Statement.{statement}
 use Rattle.sheet_rules.proofs.decide.take_step.Tie as tie
 
-refuse-requires : tie.Need-refuse-requires
-refuse-requires c κs = search needs
-
 returns : tie.Need-returns
 returns c = λ s h. gave-earlier h (c .before .before .args .step) (c .before .if1 .taken) _ (c .refuse .ensures)
 
-refuse-requires-2 : tie.Need-refuse-requires-2
-refuse-requires-2 c κs = search needs
-
 returns-2 : tie.Need-returns-2
 returns-2 c = λ s h. gave-misplaced h (c .before .before .before .args .step) (c .before .before .if1 .left) (c .before .if2 .taken) _ (c .refuse2 .ensures)
-
-extend-requires : tie.Need-extend-requires
-extend-requires c κs = search needs
-
-refuse-requires-3 : tie.Need-refuse-requires-3
-refuse-requires-3 c κs = search needs
 
 returns-3 : tie.Need-returns-3
 returns-3 c = λ s h.
@@ -31,9 +19,6 @@ returns-3 c = λ s h.
     let x = c .before .before in
     let y : toZ w64 (ofZ w64 (a .args .state .profile)) ≡ a .args .state .profile = search needs in
     gave-no-step h (a .args .step) (c .before .before .before .before .before .before .if1 .left) (c .before .before .before .before .before .if2 .left) (a .pre .1) _ (rw y at (x .extend .ensures .0)) (c .before .if3 .taken) _ (rw y at (x .extend .ensures .1)) _ (c .refuse3 .ensures)
-
-after-requires : tie.Need-after-requires
-after-requires c κs = search needs
 
 returns-4 : tie.Need-returns-4
 returns-4 c = λ s h.
@@ -45,13 +30,4 @@ returns-4 c = λ s h.
 pub take-step-spec : {M : Type 1} → statement M
 take-step-spec =
     tie.close
-    (tie.spec
-    refuse-requires
-    returns
-    refuse-requires-2
-    returns-2
-    extend-requires
-    refuse-requires-3
-    returns-3
-    after-requires
-    returns-4)
+    (tie.spec (search needs) returns (search needs) returns-2 (search needs) (search needs) returns-3 (search needs) returns-4)

@@ -13,9 +13,6 @@ use Rattle.velocity_grid.proofs.OnGrid.{header}
 use Rattle.velocity_grid.proofs.at_point.grid_fault.Statement.{statement}
 use Rattle.velocity_grid.proofs.at_point.grid_fault.Tie as tie
 
-in-range-requires : tie.Need-in-range-requires
-in-range-requires c κs = search needs
-
 returns : tie.Need-returns
 returns c = rw (sym (c .before .in-range .ensures) ∙ not-true _ (c .if1 .taken))
 
@@ -52,4 +49,4 @@ returns-3 c =
     rw (ranged e, eq-eqb (length (now (s .args .nodes))) (3 * nodesOf (s .args .g)) (c .if2 .left ∙ counted b))
 
 pub grid-fault-spec : {M : Type 1} → statement M
-grid-fault-spec = tie.close (tie.spec in-range-requires returns count-requires returns-2 returns-3)
+grid-fault-spec = tie.close (tie.spec (search needs) returns count-requires returns-2 returns-3)

@@ -11,9 +11,6 @@ use Rattle.velocity_grid.proofs.AtPoint.{cell-ok}
 use Rattle.velocity_grid.proofs.at_point.part.Statement.{statement}
 use Rattle.velocity_grid.proofs.at_point.part.Tie as tie
 
-corners-requires : tie.Need-corners-requires
-corners-requires c κs = search needs
-
 bilinear-requires : tie.Need-bilinear-requires
 bilinear-requires c κs =
     let b = c .before .before .before in
@@ -34,4 +31,4 @@ returns c =
     ∙ ap (bilinear (q .mesh) (q .east) (q .north)) (b .corners .ensures)
 
 pub part-spec : {M : Type 1} → statement M
-part-spec = tie.close (tie.spec corners-requires bilinear-requires returns)
+part-spec = tie.close (tie.spec (search needs) bilinear-requires returns)

@@ -20,9 +20,6 @@ use Rattle.velocity_grid.proofs.OnGrid.{cell-in}
 use Rattle.velocity_grid.proofs.at_point.parts_at.Statement.{statement}
 use Rattle.velocity_grid.proofs.at_point.parts_at.Tie as tie
 
-grid-fault-requires : tie.Need-grid-fault-requires
-grid-fault-requires c κs = search needs
-
 returns : tie.Need-returns
 returns c =
     let a = c .before .before .args in
@@ -31,9 +28,6 @@ returns c =
 -- ---- the tests on the way
 grid-passed : (c : tie.Else1) → Passed (gridTests (c .before .before .args .g) (now (c .before .before .args .nodes)))
 grid-passed c = passed (gridTests (c .before .before .args .g) (now (c .before .before .args .nodes))) tt (sym (c .before .grid-fault .ensures) ∙ c .if1 .left)
-
-angles-fault-requires : tie.Need-angles-fault-requires
-angles-fault-requires c κs = search needs
 
 angles : (c : tie.After-angles-fault) → c .angles-fault .result ≡ first (angleTests (c .before .before .before .args .latitude) (c .before .before .before .args .longitude))
 angles c =
@@ -118,15 +112,5 @@ returns-5 c =
 pub parts-at-spec : {M : Type 1} → statement M
 parts-at-spec =
     tie.close
-    (tie.spec
-    grid-fault-requires
-    returns
-    angles-fault-requires
-    returns-2
-    on-grid-requires
-    returns-3
-    cell-requires
-    cell-known-requires
-    returns-4
-    parts-in-requires
+    (tie.spec (search needs) returns (search needs) returns-2 on-grid-requires returns-3 cell-requires cell-known-requires returns-4 parts-in-requires
     returns-5)

@@ -6,15 +6,6 @@ use Rattle.velocity_grid.specs.AtPoint.{partsIn}
 use Rattle.velocity_grid.proofs.at_point.parts_in.Statement.{statement}
 use Rattle.velocity_grid.proofs.at_point.parts_in.Tie as tie
 
-part-requires : tie.Need-part-requires
-part-requires c κs = search needs
-
-part-requires-2 : tie.Need-part-requires-2
-part-requires-2 c κs = search needs
-
-part-requires-3 : tie.Need-part-requires-3
-part-requires-3 c κs = search needs
-
 returns : tie.Need-returns
 unfolding partsIn
 returns c =
@@ -23,4 +14,4 @@ returns c =
     (rd (record { sfits = c2 .part .ok }) ∙ c2 .part .ensures, rd (record { sfits = c .before .part2 .ok }) ∙ c .before .part2 .ensures, rd (record { sfits = c .part3 .ok }) ∙ c .part3 .ensures)
 
 pub parts-in-spec : {M : Type 1} → statement M
-parts-in-spec = tie.close (tie.spec part-requires part-requires-2 part-requires-3 returns)
+parts-in-spec = tie.close (tie.spec (λ c κs. search needs) (λ c κs. search needs) (λ c κs. search needs) returns)

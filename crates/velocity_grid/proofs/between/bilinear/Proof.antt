@@ -83,9 +83,6 @@ blend-requires-3 c κs = let s = start c in to₄ BlendOk (rd (s .fits .m)) (rd 
 mul-round-div-away : tie.Need-mul-round-div-away
 mul-round-div-away c = let s = start (c .before) in fit* (rd (s .fits .m)) (rd (s .fits .m)) (square-fits s)
 
-round-div-away-requires : tie.Need-round-div-away-requires
-round-div-away-requires c κs = search needs
-
 returns : tie.Need-returns
 unfolding bilinear weighed
 returns c =
@@ -96,4 +93,4 @@ returns c =
     ∙ rw (not-lt (M s *ℤ M s) (pos 1) (square-least (M s) (s .pre .above)))
 
 pub bilinear-spec : {M : Type 1} → statement M
-bilinear-spec = tie.close (tie.spec blend-requires blend-requires-2 blend-requires-3 mul-round-div-away round-div-away-requires returns)
+bilinear-spec = tie.close (tie.spec blend-requires blend-requires-2 blend-requires-3 mul-round-div-away (search needs) returns)

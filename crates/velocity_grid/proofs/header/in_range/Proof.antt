@@ -8,18 +8,6 @@ use Rattle.velocity_grid.specs.OnGrid.{sizeRange, meshRange, gridRange}
 use Rattle.velocity_grid.proofs.header.in_range.Statement.{statement}
 use Rattle.velocity_grid.proofs.header.in_range.Tie as tie
 
-is-latitude-requires : tie.Need-is-latitude-requires
-is-latitude-requires c κs = search needs
-
-is-longitude-requires : tie.Need-is-longitude-requires
-is-longitude-requires c κs = search needs
-
-size-in-range-requires : tie.Need-size-in-range-requires
-size-in-range-requires c κs = search needs
-
-is-mesh-requires : tie.Need-is-mesh-requires
-is-mesh-requires c κs = search needs
-
 returns : tie.Need-returns
 unfolding gridRange
 returns c =
@@ -32,4 +20,4 @@ returns c =
     (c .is-mesh .ensures ∙ ap meshRange (told (t .1 .1 .1 .1 .0 .1)))
 
 pub in-range-spec : {M : Type 1} → statement M
-in-range-spec = tie.close (tie.spec is-latitude-requires is-longitude-requires size-in-range-requires is-mesh-requires returns)
+in-range-spec = tie.close (tie.spec (search needs) (search needs) (search needs) (search needs) returns)

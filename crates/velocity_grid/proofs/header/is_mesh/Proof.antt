@@ -9,12 +9,6 @@ use Rattle.velocity_grid.specs.OnGrid.{meshRange}
 use Rattle.velocity_grid.proofs.header.is_mesh.Statement.{statement}
 use Rattle.velocity_grid.proofs.header.is_mesh.Tie as tie
 
-equal-requires : tie.Need-equal-requires
-equal-requires c κs = search needs
-
-equal-requires-2 : tie.Need-equal-requires-2
-equal-requires-2 c κs = search needs
-
 returns : tie.Need-returns
 unfolding meshRange
 returns c =
@@ -22,4 +16,4 @@ returns c =
     ap₂ _||_ (c .before .equal .ensures ∙ ap (equal (pos 5)) (rd f)) (c .equal2 .ensures ∙ ap (equal (pos 10)) (rd f))
 
 pub is-mesh-spec : {M : Type 1} → statement M
-is-mesh-spec = tie.close (tie.spec equal-requires equal-requires-2 returns)
+is-mesh-spec = tie.close (tie.spec (search needs) (search needs) returns)

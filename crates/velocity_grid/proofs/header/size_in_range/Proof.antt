@@ -16,12 +16,6 @@ use Rattle.velocity_grid.proofs.OnGrid.{size-is, sized-by, not-sized}
 use Rattle.velocity_grid.proofs.header.size_in_range.Statement.{statement}
 use Rattle.velocity_grid.proofs.header.size_in_range.Tie as tie
 
-within-requires : tie.Need-within-requires
-within-requires c κs = search needs
-
-within-requires-2 : tie.Need-within-requires-2
-within-requires-2 c κs = search needs
-
 -- the two tests, of the numbers themselves
 module _ (c : tie.After-within2) where
   abbrev start : tie.Start
@@ -57,4 +51,4 @@ returns-2 c =
     ap (λ (z : ℤ). leZ z (pos 4000)) (rd* (rd (s .fits .rows)) (rd (s .fits .columns)) (product c)) ∙ sym (sized-by (s .args .rows) (s .args .columns) (passed c .0) (passed c .1))
 
 pub size-in-range-spec : {M : Type 1} → statement M
-size-in-range-spec = tie.close (tie.spec within-requires within-requires-2 returns mul-result returns-2)
+size-in-range-spec = tie.close (tie.spec (search needs) (search needs) returns mul-result returns-2)

@@ -48,9 +48,6 @@ mul-within c = fit* (cells-is c) (rd (c .fits .m)) (length-fits c)
 add-within : tie.Need-add-within
 add-within c = fit+ (rd (c .fits .start)) (length-is c) (end-fits c)
 
-within-requires : tie.Need-within-requires
-within-requires c κs = search needs
-
 returns : tie.Need-returns
 unfolding onAxis
 returns c =
@@ -58,4 +55,4 @@ returns c =
     c .within .ensures ∙ of₃ within (rd (s .fits .start)) (rd (s .fits .z)) (rd+ (rd (s .fits .start)) (length-is s) (end-fits s))
 
 pub on-axis-spec : {M : Type 1} → statement M
-on-axis-spec = tie.close (tie.spec sub-within mul-within add-within within-requires returns)
+on-axis-spec = tie.close (tie.spec sub-within mul-within add-within (search needs) returns)

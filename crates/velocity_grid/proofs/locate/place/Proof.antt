@@ -8,25 +8,16 @@ use Rattle.velocity_grid.specs.OnGrid.{placeOf}
 use Rattle.velocity_grid.proofs.locate.place.Statement.{statement}
 use Rattle.velocity_grid.proofs.locate.place.Tie as tie
 
-div-cell : tie.Need-div-cell
-div-cell c = search needs
-
 add-if1 : tie.Need-add-if1
 add-if1 c = let h = c .pre .2 in omega (arith, NatL.div-le-self (c .args .d) (c .args .m))
-
-rem-t7 : tie.Need-rem-t7
-rem-t7 c = search needs
 
 returns : tie.Need-returns
 unfolding placeOf
 returns c = let s = c .before in rw (lt-ltb (s .args .d / s .args .m + 1) (s .args .count) (c .if1 .taken))
-
-sub-t5 : tie.Need-sub-t5
-sub-t5 c = search needs
 
 returns-2 : tie.Need-returns-2
 unfolding placeOf
 returns-2 c = let s = c .before in rw (le-ltb (s .args .d / s .args .m + 1) (s .args .count) (c .if1 .left))
 
 pub place-spec : {M : Type 1} → statement M
-place-spec = tie.close (tie.spec div-cell add-if1 rem-t7 returns sub-t5 returns-2)
+place-spec = tie.close (tie.spec (search needs) add-if1 (search needs) returns (search needs) returns-2)

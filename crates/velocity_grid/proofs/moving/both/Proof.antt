@@ -4,18 +4,6 @@ use Rattle.velocity_grid.specs.Motion.{moved}
 use Rattle.velocity_grid.proofs.moving.both.Statement.{statement}
 use Rattle.velocity_grid.proofs.moving.both.Tie as tie
 
-enum-known-velocity : tie.Need-enum-known-velocity
-enum-known-velocity c = search needs
-
-enum-known-velocity-2 : tie.Need-enum-known-velocity-2
-enum-known-velocity-2 c = search needs
-
-enum-known-parts : tie.Need-enum-known-parts
-enum-known-parts c = search needs
-
-enum-known-parts-2 : tie.Need-enum-known-parts-2
-enum-known-parts-2 c = search needs
-
 returns : tie.Need-returns
 unfolding moved
 returns c = rw (c .before .velocity .given .1)
@@ -29,4 +17,4 @@ unfolding moved
 returns-3 c = rw (c .before .before .before .before .velocity2 .given .1, c .before .parts2 .given .1)
 
 pub both-spec : {M : Type 1} → statement M
-both-spec = tie.close (tie.spec enum-known-velocity enum-known-velocity-2 enum-known-parts enum-known-parts-2 returns returns-2 returns-3)
+both-spec = tie.close (tie.spec (search needs) (search needs) (search needs) (search needs) returns returns-2 returns-3)

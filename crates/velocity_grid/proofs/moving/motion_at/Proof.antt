@@ -23,18 +23,6 @@ use Rattle.velocity_grid.proofs.Texts as T
 use Rattle.velocity_grid.proofs.moving.motion_at.Statement.{statement}
 use Rattle.velocity_grid.proofs.moving.motion_at.Tie as tie
 
-node-space-requires : tie.Need-node-space-requires
-node-space-requires c κs = search needs
-
-read-grid-requires : tie.Need-read-grid-requires
-read-grid-requires c κs = search needs
-
-enum-known-fault : tie.Need-enum-known-fault
-enum-known-fault c = search needs
-
-enum-known-g : tie.Need-enum-known-g
-enum-known-g c = search needs
-
 -- the grid of an accepted text
 module _ (c : tie.After-known-told2) where
   abbrev grid : GridHeader
@@ -92,9 +80,6 @@ array-share-prefix-nodes c = roomy c
 slice-aggregate-motion-on : tie.Need-slice-aggregate-motion-on
 slice-aggregate-motion-on c = sym (length-take-le _ _ (roomy (c .before)))
 
-motion-on-requires : tie.Need-motion-on-requires
-motion-on-requires c κs = search needs
-
 returns : tie.Need-returns
 unfolding motionOf motionWith
 returns c =
@@ -116,14 +101,5 @@ returns-2 c =
 pub motion-at-spec : {M : Type 1} → statement M
 motion-at-spec =
     tie.close
-    (tie.spec
-    node-space-requires
-    read-grid-requires
-    enum-known-fault
-    enum-known-g
-    count-requires
-    array-share-prefix-nodes
-    slice-aggregate-motion-on
-    motion-on-requires
-    returns
-    returns-2)
+    (tie.spec (search needs) (search needs) (search needs) (search needs) count-requires array-share-prefix-nodes slice-aggregate-motion-on (search needs)
+    returns returns-2)

@@ -9,15 +9,6 @@ use Rattle.velocity_grid.proofs.Motions.{same-velocity}
 use Rattle.velocity_grid.proofs.moving.motion_on.Statement.{statement}
 use Rattle.velocity_grid.proofs.moving.motion_on.Tie as tie
 
-velocity-at-requires : tie.Need-velocity-at-requires
-velocity-at-requires c κs = search needs
-
-parts-at-requires : tie.Need-parts-at-requires
-parts-at-requires c κs = search needs
-
-both-requires : tie.Need-both-requires
-both-requires c κs = search needs
-
 returns : tie.Need-returns
 unfolding motionOn
 returns c =
@@ -28,4 +19,4 @@ returns c =
     (c .before .parts-at .ensures ∙ ap₂ (partsOf (s .args .g) (now (s .args .nodes))) (rd (s .fits .latitude)) (rd (s .fits .longitude)))
 
 pub motion-on-spec : {M : Type 1} → statement M
-motion-on-spec = tie.close (tie.spec velocity-at-requires parts-at-requires both-requires returns)
+motion-on-spec = tie.close (tie.spec (search needs) (search needs) (search needs) returns)

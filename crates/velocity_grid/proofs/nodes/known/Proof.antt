@@ -12,33 +12,6 @@ use Rattle.velocity_grid.specs.AtPoint.{partRange, known}
 use Rattle.velocity_grid.proofs.nodes.known.Statement.{statement}
 use Rattle.velocity_grid.proofs.nodes.known.Tie as tie
 
-mul-number : tie.Need-mul-number
-mul-number c = search needs
-
-number-requires : tie.Need-number-requires
-number-requires c κs = search needs
-
-mul-number-2 : tie.Need-mul-number-2
-mul-number-2 c = search needs
-
-add-number : tie.Need-add-number
-add-number c = search needs
-
-number-requires-2 : tie.Need-number-requires-2
-number-requires-2 c κs = search needs
-
-mul-number-3 : tie.Need-mul-number-3
-mul-number-3 c = search needs
-
-add-number-2 : tie.Need-add-number-2
-add-number-2 c = search needs
-
-number-requires-3 : tie.Need-number-requires-3
-number-requires-3 c κs = search needs
-
-three-within-requires : tie.Need-three-within-requires
-three-within-requires c κs = search needs
-
 returns : tie.Need-returns
 unfolding known
 returns c =
@@ -53,14 +26,5 @@ returns c =
 pub known-spec : {M : Type 1} → statement M
 known-spec =
     tie.close
-    (tie.spec
-    mul-number
-    number-requires
-    mul-number-2
-    add-number
-    number-requires-2
-    mul-number-3
-    add-number-2
-    number-requires-3
-    three-within-requires
+    (tie.spec (search needs) (search needs) (search needs) (search needs) (search needs) (search needs) (search needs) (search needs) (search needs)
     returns)

@@ -7,17 +7,8 @@ use denote.Ref.{now}
 use Rattle.velocity_grid.proofs.nodes.number.Statement.{statement}
 use Rattle.velocity_grid.proofs.nodes.number.Tie as tie
 
-mul-result : tie.Need-mul-result
-mul-result c = search needs
-
-shared-slice-copy-out-result : tie.Need-shared-slice-copy-out-result
-shared-slice-copy-out-result c = search needs
-
-returns : tie.Need-returns
-returns c = search needs
-
 returns-2 : tie.Need-returns-2
 returns-2 c = sym (List·getD-eq-default (now (c .before .args .nodes)) (pos 0) (c .if1 .left))
 
 pub number-spec : {M : Type 1} → statement M
-number-spec = tie.close (tie.spec mul-result shared-slice-copy-out-result returns returns-2)
+number-spec = tie.close (tie.spec (search needs) (search needs) (λ c. search needs) returns-2)

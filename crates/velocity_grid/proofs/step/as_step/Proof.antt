@@ -8,15 +8,6 @@ use Rattle.velocity_grid.specs.declared.VelocityAnswer.{VelocityAnswer}
 use Rattle.velocity_grid.proofs.step.as_step.Statement.{statement}
 use Rattle.velocity_grid.proofs.step.as_step.Tie as tie
 
-enum-known-answer : tie.Need-enum-known-answer
-enum-known-answer c = search needs
-
-enum-known-answer-2 : tie.Need-enum-known-answer-2
-enum-known-answer-2 c = search needs
-
-velocity-step-requires : tie.Need-velocity-step-requires
-velocity-step-requires c κs = search needs
-
 returns : tie.Need-returns
 unfolding asStep
 returns c = rw (c .before .answer .given .1)
@@ -30,4 +21,4 @@ returns-2 c =
     ∙ ap (λ (w : VelocityAnswer). asStep w (s .args .datum) (s .args .before) (s .args .after)) (sym (b .answer2 .given .1))
 
 pub as-step-spec : {M : Type 1} → statement M
-as-step-spec = tie.close (tie.spec enum-known-answer enum-known-answer-2 velocity-step-requires returns returns-2)
+as-step-spec = tie.close (tie.spec (search needs) (search needs) (search needs) returns returns-2)

@@ -12,18 +12,6 @@ use Rattle.velocity_grid.specs.declared.VelocityAnswer.{VelocityAnswer}
 use Rattle.velocity_grid.proofs.step.checked.Statement.{statement}
 use Rattle.velocity_grid.proofs.step.checked.Tie as tie
 
-enum-known-answer : tie.Need-enum-known-answer
-enum-known-answer c = search needs
-
-enum-known-answer-2 : tie.Need-enum-known-answer-2
-enum-known-answer-2 c = search needs
-
-velocity-step-requires : tie.Need-velocity-step-requires
-velocity-step-requires c κs = search needs
-
-step-fault-requires : tie.Need-step-fault-requires
-step-fault-requires c κs = search needs
-
 -- ---- the answer by the fault
 module _ (v : Velocity) (d b a : ℤ) where
   by-fault : (stepFault latest (velocityStep v d b a) ≡ 0 → ⊥) → velocity.Refused (stepFault latest (velocityStep v d b a)) ≡ velocityFor (velocity.Velocity v) d b a
@@ -68,11 +56,4 @@ returns-3 c =
 pub checked-spec : {M : Type 1} → statement M
 checked-spec =
     tie.close
-    (tie.spec
-    enum-known-answer
-    enum-known-answer-2
-    velocity-step-requires
-    step-fault-requires
-    returns
-    returns-2
-    returns-3)
+    (tie.spec (search needs) (search needs) (search needs) (search needs) returns returns-2 returns-3)

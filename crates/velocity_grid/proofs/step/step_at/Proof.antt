@@ -9,12 +9,6 @@ use Rattle.velocity_grid.proofs.Motions.{same-velocity}
 use Rattle.velocity_grid.proofs.step.step_at.Statement.{statement}
 use Rattle.velocity_grid.proofs.step.step_at.Tie as tie
 
-velocity-at-requires : tie.Need-velocity-at-requires
-velocity-at-requires c κs = search needs
-
-as-step-requires : tie.Need-as-step-requires
-as-step-requires c κs = search needs
-
 returns : tie.Need-returns
 unfolding stepOf
 returns c =
@@ -25,4 +19,4 @@ returns c =
     (c .before .velocity-at .ensures ∙ same-velocity (s .args .g) (now (s .args .nodes)) (rd (s .fits .latitude)) (rd (s .fits .longitude)) (rd (s .fits .datum)) (rd (s .fits .before)) (rd (s .fits .after)))
 
 pub step-at-spec : {M : Type 1} → statement M
-step-at-spec = tie.close (tie.spec velocity-at-requires as-step-requires returns)
+step-at-spec = tie.close (tie.spec (search needs) (search needs) returns)

@@ -17,20 +17,11 @@ use Rattle.velocity_grid.proofs.AtPoint.{Answered, answered}
 use Rattle.velocity_grid.proofs.step.velocity_at.Statement.{statement}
 use Rattle.velocity_grid.proofs.step.velocity_at.Tie as tie
 
-parts-at-requires : tie.Need-parts-at-requires
-parts-at-requires c κs = search needs
-
 -- what the grid gave
 found : (c : tie.After-parts-at) → partsOf (c .before .args .g) (now (c .before .args .nodes)) (c .before .args .latitude) (c .before .args .longitude) ≡ c .parts-at .result
 found c =
     let s = c .before in
     sym (c .parts-at .ensures ∙ ap₂ (partsOf (s .args .g) (now (s .args .nodes))) (rd (s .fits .latitude)) (rd (s .fits .longitude)))
-
-enum-known-n : tie.Need-enum-known-n
-enum-known-n c = search needs
-
-enum-known-p : tie.Need-enum-known-p
-enum-known-p c = search needs
 
 turn-requires : tie.Need-turn-requires
 turn-requires c κs =
@@ -38,12 +29,6 @@ turn-requires c κs =
     let s = b .before in
     let h = answered (s .args .g) (now (s .args .nodes)) (s .args .latitude) (s .args .longitude) (c .before .p .given .0 .0) (found b ∙ c .before .p .given .1) in
     (h .parts, ap latitudeRange (rd (s .fits .latitude)) ∙ h .latitude, ap longitudeRange (rd (s .fits .longitude)) ∙ h .longitude)
-
-in-units-requires : tie.Need-in-units-requires
-in-units-requires c κs = search needs
-
-checked-requires : tie.Need-checked-requires
-checked-requires c κs = search needs
 
 returns : tie.Need-returns
 unfolding velocityOf velocityWith
@@ -67,12 +52,4 @@ returns-2 c =
 pub velocity-at-spec : {M : Type 1} → statement M
 velocity-at-spec =
     tie.close
-    (tie.spec
-    parts-at-requires
-    enum-known-n
-    enum-known-p
-    turn-requires
-    in-units-requires
-    checked-requires
-    returns
-    returns-2)
+    (tie.spec (search needs) (search needs) (search needs) turn-requires (search needs) (search needs) returns returns-2)

@@ -18,33 +18,9 @@ by-line : (n : ℕ) (l : List ℕ) (w : NodeLine) → (length l ≡ 0 → ⊥) �
 unfolding awaitedFault
 by-line n l w z e = rw (ne-eqb (length l) 0 z, e)
 
-miscounted-requires : tie.Need-miscounted-requires
-miscounted-requires c κs = search needs
-
 returns : tie.Need-returns
 unfolding awaitedFault
 returns c = rw (eq-eqb _ _ (c .before .if1 .taken)) (c .miscounted .ensures)
-
-read-node-requires : tie.Need-read-node-requires
-read-node-requires c κs = search needs
-
-enum-known-fault : tie.Need-enum-known-fault
-enum-known-fault c = search needs
-
-on-line-requires : tie.Need-on-line-requires
-on-line-requires c κs = search needs
-
-enum-told : tie.Need-enum-told
-enum-told c = search needs
-
-faultless-requires : tie.Need-faultless-requires
-faultless-requires c κs = search needs
-
-enum-known-p : tie.Need-enum-known-p
-enum-known-p c = search needs
-
-parts-fault-requires : tie.Need-parts-fault-requires
-parts-fault-requires c κs = search needs
 
 returns-2 : tie.Need-returns-2
 unfolding nodeFault
@@ -68,16 +44,5 @@ returns-4 c =
 pub awaited-fault-spec : {M : Type 1} → statement M
 awaited-fault-spec =
     tie.close
-    (tie.spec
-    miscounted-requires
-    returns
-    read-node-requires
-    enum-known-fault
-    on-line-requires
-    enum-told
-    faultless-requires
-    enum-known-p
-    parts-fault-requires
-    returns-2
-    returns-3
-    returns-4)
+    (tie.spec (search needs) returns (search needs) (search needs) (search needs) (search needs) (search needs) (search needs) (search needs) returns-2
+    returns-3 returns-4)

@@ -10,29 +10,11 @@ use Rattle.velocity_grid.proofs.Texts as T
 use Rattle.velocity_grid.proofs.text.check_grid.Statement.{statement}
 use Rattle.velocity_grid.proofs.text.check_grid.Tie as tie
 
-miscounted-requires : tie.Need-miscounted-requires
-miscounted-requires c κs = search needs
-
 returns : tie.Need-returns
 returns c = ap Refused (c .miscounted .ensures) ∙ T.by-none _ (c .before .if1 .taken)
 
-line-end-requires : tie.Need-line-end-requires
-line-end-requires c κs = search needs
-
 slice-aggregate-read-grid-header : tie.Need-slice-aggregate-read-grid-header
 slice-aggregate-read-grid-header c = sym (length-take-le _ _ (T.ends _ 0 _ (c .before .line-end .ensures) (omega arith) .inside))
-
-read-grid-header-requires : tie.Need-read-grid-header-requires
-read-grid-header-requires c κs = search needs
-
-enum-known-fault : tie.Need-enum-known-fault
-enum-known-fault c = search needs
-
-on-line-requires : tie.Need-on-line-requires
-on-line-requires c κs = search needs
-
-enum-known-g : tie.Need-enum-known-g
-enum-known-g c = search needs
 
 with-header-requires : tie.Need-with-header-requires
 with-header-requires c κs = T.ends _ 0 _ (c .before .before .before .before .before .line-end .ensures) (omega arith) .inside
@@ -57,15 +39,5 @@ returns-3 c =
 pub check-grid-spec : {M : Type 1} → statement M
 check-grid-spec =
     tie.close
-    (tie.spec
-    miscounted-requires
-    returns
-    line-end-requires
-    slice-aggregate-read-grid-header
-    read-grid-header-requires
-    enum-known-fault
-    on-line-requires
-    enum-known-g
-    with-header-requires
-    returns-2
-    returns-3)
+    (tie.spec (search needs) returns (search needs) slice-aggregate-read-grid-header (search needs) (search needs) (search needs) (search needs)
+    with-header-requires returns-2 returns-3)

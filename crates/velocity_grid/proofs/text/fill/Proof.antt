@@ -18,9 +18,6 @@ abbrev μ-loop : tie.MeasureT-loop
 loop-holds : tie.Need-loop-holds Inv-loop μ-loop
 loop-holds c = T.filling _ _ _ (c .before .pre .0) (c .before .pre .1)
 
-line-end-requires : tie.Need-line-end-requires Inv-loop μ-loop
-line-end-requires c κs = search needs
-
 sub-put-node : tie.Need-sub-put-node Inv-loop μ-loop
 sub-put-node c = T.ends _ _ _ (c .before .line-end .ensures) (c .before .before .before .loop .inv .inside) .after
 
@@ -48,16 +45,5 @@ returns c = T.filled (c .before .loop .inv) (omega (arith, c .loop-test .left))
 pub fill-spec : {M : Type 1} → statement M
 fill-spec =
     tie.close
-    (tie.spec
-    Inv-loop
-    μ-loop
-    loop-holds
-    line-end-requires
-    sub-put-node
-    part-put-node-start
-    part-put-node-end
-    put-node-requires
-    add-at
-    loop-less
-    loop-again
+    (tie.spec Inv-loop μ-loop loop-holds (search needs) sub-put-node part-put-node-start part-put-node-end put-node-requires add-at loop-less loop-again
     returns)

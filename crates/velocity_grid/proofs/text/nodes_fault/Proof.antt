@@ -15,9 +15,6 @@ abbrev μ-loop : tie.MeasureT-loop
 loop-holds : tie.Need-loop-holds Inv-loop μ-loop
 loop-holds c = T.going _ _ _ (c .before .pre .0)
 
-line-end-requires : tie.Need-line-end-requires Inv-loop μ-loop
-line-end-requires c κs = search needs
-
 sub-awaited-fault : tie.Need-sub-awaited-fault Inv-loop μ-loop
 sub-awaited-fault c = T.ends _ _ _ (c .line-end .ensures) (c .before .before .loop .inv .inside) .after
 
@@ -26,9 +23,6 @@ part-awaited-fault-start c = let l = T.ends _ _ _ (c .line-end .ensures) (c .bef
 
 part-awaited-fault-end : tie.Need-part-awaited-fault-end Inv-loop μ-loop
 part-awaited-fault-end c = let l = T.ends _ _ _ (c .line-end .ensures) (c .before .before .loop .inv .inside) in omega arith
-
-awaited-fault-requires : tie.Need-awaited-fault-requires Inv-loop μ-loop
-awaited-fault-requires c κs = search needs
 
 returns : tie.Need-returns Inv-loop μ-loop
 returns c = T.stops (c .before .before .before .before .before .before .loop .inv) (c .before .before .before .before .line-end .ensures) (omega (arith, c .before .before .before .before .before .loop-test .taken)) (c .before .before .awaited-fault .ensures) (c .if1 .taken)
@@ -45,14 +39,8 @@ loop-less c = omega (arith, c .before .before .before .before .before .loop-test
 loop-again : tie.Need-loop-again Inv-loop μ-loop
 loop-again c = T.goes-on (c .before .before .before .before .before .before .loop .inv) (c .before .before .before .before .line-end .ensures) (omega (arith, c .before .before .before .before .before .loop-test .taken)) (c .before .before .awaited-fault .ensures) (c .if1 .left)
 
-miscounted-requires : tie.Need-miscounted-requires Inv-loop μ-loop
-miscounted-requires c κs = search needs
-
 returns-2 : tie.Need-returns-2 Inv-loop μ-loop
 returns-2 c = c .miscounted .ensures ∙ T.over (c .before .before .before .loop .inv) (omega (arith, c .before .before .loop-test .left)) (omega (arith, c .before .if2 .taken))
-
-faultless-requires : tie.Need-faultless-requires Inv-loop μ-loop
-faultless-requires c κs = search needs
 
 returns-3 : tie.Need-returns-3 Inv-loop μ-loop
 returns-3 c = c .faultless .ensures ∙ T.complete (c .before .before .before .loop .inv) (omega (arith, c .before .before .loop-test .left)) (omega (arith, c .before .if2 .left))
@@ -60,21 +48,5 @@ returns-3 c = c .faultless .ensures ∙ T.complete (c .before .before .before .l
 pub nodes-fault-spec : {M : Type 1} → statement M
 nodes-fault-spec =
     tie.close
-    (tie.spec
-    Inv-loop
-    μ-loop
-    loop-holds
-    line-end-requires
-    sub-awaited-fault
-    part-awaited-fault-start
-    part-awaited-fault-end
-    awaited-fault-requires
-    returns
-    sub-left
-    add-number
-    loop-less
-    loop-again
-    miscounted-requires
-    returns-2
-    faultless-requires
-    returns-3)
+    (tie.spec Inv-loop μ-loop loop-holds (search needs) sub-awaited-fault part-awaited-fault-start part-awaited-fault-end (search needs) returns sub-left
+    add-number loop-less loop-again (search needs) returns-2 (search needs) returns-3)

@@ -9,12 +9,6 @@ use Rattle.velocity_grid.specs.Text.{partsRange, nodeFault}
 use Rattle.velocity_grid.proofs.text.parts_fault.Statement.{statement}
 use Rattle.velocity_grid.proofs.text.parts_fault.Tie as tie
 
-three-within-requires : tie.Need-three-within-requires
-three-within-requires c κs = search needs
-
-faultless-requires : tie.Need-faultless-requires
-faultless-requires c κs = search needs
-
 tested : (c : tie.After-three-within) → c .three-within .result ≡ partsRange (c .before .before .before .before .args .p)
 unfolding partsRange
 tested c =
@@ -30,4 +24,4 @@ unfolding nodeFault
 returns-2 c = rw (sym (tested (c .before)) ∙ c .if1 .left)
 
 pub parts-fault-spec : {M : Type 1} → statement M
-parts-fault-spec = tie.close (tie.spec three-within-requires faultless-requires returns returns-2)
+parts-fault-spec = tie.close (tie.spec (search needs) (search needs) returns returns-2)

@@ -21,33 +21,6 @@ put l i p q ex ey ez e =
     let two : i + 2 ≡ suc (suc i) = omega arith in
     rw (ex, ey, ez, e, one, two)
 
-values-requires : tie.Need-values-requires
-values-requires c κs = search needs
-
-mul-east : tie.Need-mul-east
-mul-east c = search needs
-
-element-set-from-east : tie.Need-element-set-from-east
-element-set-from-east c = search needs
-
-add-north : tie.Need-add-north
-add-north c = search needs
-
-mul-north : tie.Need-mul-north
-mul-north c = search needs
-
-element-set-from-north : tie.Need-element-set-from-north
-element-set-from-north c = search needs
-
-add-up : tie.Need-add-up
-add-up c = search needs
-
-mul-up : tie.Need-mul-up
-mul-up c = search needs
-
-element-set-from-up : tie.Need-element-set-from-up
-element-set-from-up c = search needs
-
 returns : tie.Need-returns
 returns c =
     let t = c .struct-told3 .given in
@@ -58,14 +31,5 @@ returns c =
 pub put-node-spec : {M : Type 1} → statement M
 put-node-spec =
     tie.close
-    (tie.spec
-    values-requires
-    mul-east
-    element-set-from-east
-    add-north
-    mul-north
-    element-set-from-north
-    add-up
-    mul-up
-    element-set-from-up
+    (tie.spec (search needs) (search needs) (search needs) (search needs) (search needs) (search needs) (search needs) (search needs) (search needs)
     returns)

@@ -1,6 +1,5 @@
 -- `velocity_grid::text::read_grid` meets its contract: examined first, then put into the room. Assumes nothing.
 use borrow.Author.Needs.{needs}
-use native.Mathlib.Omega.{arith}
 use mathlib.Core.Path.{_≡_, sym, _∙_, ap}
 use mathlib.Core.List.{List}
 use Prim.Native.Nat.{ℕ}
@@ -12,18 +11,6 @@ use Rattle.velocity_grid.specs.declared.GridAnswer.the-variants.{Grid, R
 use Rattle.velocity_grid.proofs.Texts as T
 use Rattle.velocity_grid.proofs.text.read_grid.Statement.{statement}
 use Rattle.velocity_grid.proofs.text.read_grid.Tie as tie
-
-check-grid-requires : tie.Need-check-grid-requires
-check-grid-requires c κs = search needs
-
-enum-known-fault : tie.Need-enum-known-fault
-enum-known-fault c = search needs
-
-enum-known-g : tie.Need-enum-known-g
-enum-known-g c = search needs
-
-line-end-requires : tie.Need-line-end-requires
-line-end-requires c κs = search needs
 
 fill-requires : tie.Need-fill-requires
 fill-requires c κs =
@@ -47,4 +34,4 @@ returns-2 c =
     (sym e, c .fill .ensures ∙ ap (sets (a .nodes .now) 0) (sym (T.numbers-after _ _ (c .before .before .line-end .ensures) (g .0 .0) e)) ∙ ap (λ (w : GridAnswer). laid w (numbersOf (a .text .now)) (a .nodes .now)) (sym e))
 
 pub read-grid-spec : {M : Type 1} → statement M
-read-grid-spec = tie.close (tie.spec check-grid-requires enum-known-fault enum-known-g line-end-requires fill-requires returns returns-2)
+read-grid-spec = tie.close (tie.spec (search needs) (search needs) (search needs) (search needs) fill-requires returns returns-2)

@@ -5,24 +5,6 @@ use Rattle.velocity_grid.specs.Text.{valuesOf}
 use Rattle.velocity_grid.proofs.text.values.Statement.{statement}
 use Rattle.velocity_grid.proofs.text.values.Tie as tie
 
-read-node-requires : tie.Need-read-node-requires
-read-node-requires c κs = search needs
-
-enum-known-p : tie.Need-enum-known-p
-enum-known-p c = search needs
-
-enum-told : tie.Need-enum-told
-enum-told c = search needs
-
-no-value-requires : tie.Need-no-value-requires
-no-value-requires c κs = search needs
-
-enum-known-fault : tie.Need-enum-known-fault
-enum-known-fault c = search needs
-
-no-value-requires-2 : tie.Need-no-value-requires-2
-no-value-requires-2 c κs = search needs
-
 returns : tie.Need-returns
 unfolding valuesOf
 returns c = rw (sym (c .before .before .before .read-node .ensures) ∙ c .before .p .given .1)
@@ -36,4 +18,4 @@ unfolding valuesOf
 returns-3 c = rw (sym (c .before .before .before .before .read-node .ensures) ∙ c .before .before .fault .given .1) (c .no-value2 .ensures)
 
 pub values-spec : {M : Type 1} → statement M
-values-spec = tie.close (tie.spec read-node-requires enum-known-p enum-told no-value-requires enum-known-fault no-value-requires-2 returns returns-2 returns-3)
+values-spec = tie.close (tie.spec (search needs) (search needs) (search needs) (search needs) (search needs) (search needs) returns returns-2 returns-3)

@@ -26,9 +26,6 @@ refused f g z = rw (ne-eqb (f .number) 0 z)
 given : (f : GridFault) (g : GridHeader) → f .number ≡ 0 → Grid g ≡ unlessFault f g
 given f g z = rw (eq-eqb (f .number) 0 z)
 
-in-range-requires : tie.Need-in-range-requires
-in-range-requires c κs = search needs
-
 returns : tie.Need-returns
 unfolding headed
 returns c = rw (sym (c .before .in-range .ensures) ∙ not-true _ (c .if1 .taken))
@@ -75,4 +72,4 @@ returns-3 c =
     rw (in-range n) (given (n .nodes-fault .result) g (c .if2 .left) ∙ ap (λ (f : GridFault). unlessFault f g) (fault-is n))
 
 pub with-header-spec : {M : Type 1} → statement M
-with-header-spec = tie.close (tie.spec in-range-requires returns nodes-requires nodes-fault-requires returns-2 returns-3)
+with-header-spec = tie.close (tie.spec (search needs) returns nodes-requires nodes-fault-requires returns-2 returns-3)

@@ -6,24 +6,6 @@ use mir.ValLaws.{toZ-ofZ}
 use Rattle.velocity_grid.proofs.turn.all_three.Statement.{statement}
 use Rattle.velocity_grid.proofs.turn.all_three.Tie as tie
 
-enum-known-x : tie.Need-enum-known-x
-enum-known-x c = search needs
-
-enum-known-x-2 : tie.Need-enum-known-x-2
-enum-known-x-2 c = search needs
-
-enum-known-y : tie.Need-enum-known-y
-enum-known-y c = search needs
-
-enum-known-y-2 : tie.Need-enum-known-y-2
-enum-known-y-2 c = search needs
-
-enum-known-z : tie.Need-enum-known-z
-enum-known-z c = search needs
-
-enum-known-z-2 : tie.Need-enum-known-z-2
-enum-known-z-2 c = search needs
-
 returns : tie.Need-returns
 returns c = rw (c .before .x .given .1)
 
@@ -46,14 +28,4 @@ returns-4 c =
 pub all-three-spec : {M : Type 1} → statement M
 all-three-spec =
     tie.close
-    (tie.spec
-    enum-known-x
-    enum-known-x-2
-    enum-known-y
-    enum-known-y-2
-    enum-known-z
-    enum-known-z-2
-    returns
-    returns-2
-    returns-3
-    returns-4)
+    (tie.spec (search needs) (search needs) (search needs) (search needs) (search needs) (search needs) returns returns-2 returns-3 returns-4)

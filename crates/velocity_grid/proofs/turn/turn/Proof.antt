@@ -40,29 +40,11 @@ module _ (c : tie.Start) where
 int-to-float-radians : tie.Need-int-to-float-radians
 int-to-float-radians c = read-back (c .before .args .latitude) (c .before .fits .latitude) (latitude (c .before))
 
-radians-requires : tie.Need-radians-requires
-radians-requires c κs = search needs
-
 sub-radians : tie.Need-sub-radians
 sub-radians c = rw (same (c .before .before)) (past-fits (c .before .before))
 
 int-to-float-radians-2 : tie.Need-int-to-float-radians-2
 int-to-float-radians-2 c = let a = c .before .before .before in rw (same a) (read-back _ (past-fits a) (past.past-float (a .args .longitude) (a .pre .2)))
-
-radians-requires-2 : tie.Need-radians-requires-2
-radians-requires-2 c κs = search needs
-
-sine-requires : tie.Need-sine-requires
-sine-requires c κs = search needs
-
-cosine-requires : tie.Need-cosine-requires
-cosine-requires c κs = search needs
-
-sine-requires-2 : tie.Need-sine-requires-2
-sine-requires-2 c κs = search needs
-
-cosine-requires-2 : tie.Need-cosine-requires-2
-cosine-requires-2 c κs = search needs
 
 abbrev start : tie.After-struct-known → tie.Start
 start c = c .before .before .before .before .before .before .before .before .before
@@ -80,9 +62,6 @@ int-to-float-turned-3 c =
     let a = start (c .before .before .before .before .before) in
     read-back (a .args .p .up) (part-fits (a .args .p .up) (a .pre .0 .up)) (part-float (a .args .p .up) (a .pre .0 .up))
 
-turned-requires : tie.Need-turned-requires
-turned-requires c κs = search needs
-
 returns : tie.Need-returns
 unfolding turnedAt round ofBits
 returns c =
@@ -98,18 +77,5 @@ returns c =
 pub turn-spec : {M : Type 1} → statement M
 turn-spec =
     tie.close
-    (tie.spec
-    int-to-float-radians
-    radians-requires
-    sub-radians
-    int-to-float-radians-2
-    radians-requires-2
-    sine-requires
-    cosine-requires
-    sine-requires-2
-    cosine-requires-2
-    int-to-float-turned
-    int-to-float-turned-2
-    int-to-float-turned-3
-    turned-requires
-    returns)
+    (tie.spec int-to-float-radians (search needs) sub-radians int-to-float-radians-2 (search needs) (search needs) (search needs) (search needs)
+    (search needs) int-to-float-turned int-to-float-turned-2 int-to-float-turned-3 (search needs) returns)

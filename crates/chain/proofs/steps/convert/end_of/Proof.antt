@@ -1,4 +1,5 @@
 -- `chain::steps::convert::end_of` meets its contract. Assumes nothing.
+use borrow.Author.Needs.{needs}
 use mathlib.Core.Path.{_≡_, sym, _∙_, ap}
 use Prim.Native.Nat.{ℕ, suc, _-_}
 use native.Mathlib.Omega.{arith}
@@ -17,15 +18,6 @@ returns : tie.Need-returns
 unfolding endOf
 returns c = let s = c .before in ap (λ (n : ℕ). endOf (s .args .r) (take n (s .args .t1 .steps))) (sym (c .if1 .taken))
 
-sub-last : tie.Need-sub-last
-sub-last c = omega arith
-
-mul-s : tie.Need-mul-s
-mul-s c = omega arith
-
-element-copy-out-s : tie.Need-element-copy-out-s
-element-copy-out-s c = omega arith
-
 returns-2 : tie.Need-returns-2
 returns-2 c =
     let s = c .before .before .before in
@@ -35,4 +27,4 @@ returns-2 c =
     sym (end-at l i (s .args .r) (omega (arith, long s, c .before .before .if1 .left))) ∙ ap (λ (k : ℕ). endOf (s .args .r) (take k l)) n
 
 pub end-of-spec : {M : Type 1} → statement M
-end-of-spec = tie.close (tie.spec returns sub-last mul-s element-copy-out-s returns-2)
+end-of-spec = tie.close (tie.spec returns (search needs) (search needs) (search needs) returns-2)

@@ -1,4 +1,5 @@
 -- `chain::steps::convert::forward_walk` meets its contract. The loop's invariant: what is left to walk from place i on leads where the whole does. Assumes nothing.
+use borrow.Author.Needs.{needs}
 use mathlib.Core.Path.{_≡_, refl, sym, _∙_, ap}
 use mathlib.Core.Bool.{Bool, true, false}
 use mathlib.Core.List.{List, []}
@@ -92,9 +93,6 @@ returns c =
 add-i : tie.Need-add-i Inv-loop μ-loop
 add-i c = omega (arith, holds (c .before .before .before .before .before .before .before) .0)
 
-loop-less : tie.Need-loop-less Inv-loop μ-loop
-loop-less c = omega arith
-
 loop-again : tie.Need-loop-again Inv-loop μ-loop
 loop-again c =
     let a = c .before in
@@ -117,4 +115,4 @@ returns-2 c =
     ap Converted (c .moved-to .ensures) ∙ ap (end s) (ap (λ (ss : List Step). walk forwardStep ss (at .p)) (sym none) ∙ at .inv .2)
 
 pub forward-walk-spec : {M : Type 1} → statement M
-forward-walk-spec = tie.close (tie.spec Inv-loop μ-loop loop-holds mul-step element-copy-out-step forward-step-requires in-area-requires returns add-i loop-less loop-again moved-to-requires returns-2)
+forward-walk-spec = tie.close (tie.spec Inv-loop μ-loop loop-holds mul-step element-copy-out-step forward-step-requires in-area-requires returns add-i (search needs) loop-again moved-to-requires returns-2)

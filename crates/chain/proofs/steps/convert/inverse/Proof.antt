@@ -49,9 +49,7 @@ module _ (c : tie.After-entry-fault) where
   start = c .before .before .before .before .before .before
 
   found : c .entry-fault .result ≡ entry (start .args .chain .profile) (start .args .point) (wanted start)
-  found =
-      c .entry-fault .ensures
-      ∙ ap₂ (λ (y : ℤ) (r : Realization). entry y (start .args .point) r) (told (c .before .struct-told .given .1 .1 .0 .1)) (c .before .before .end-of .ensures)
+  found = c .entry-fault .ensures ∙ ap₂ (λ (y : ℤ) (r : Realization). entry y (start .args .point) r) (told (c .before .struct-told .given .1 .1 .0 .1)) (c .before .before .end-of .ensures)
 
   sound : first (chainTests (start .args .chain)) ≡ 0
   sound = sym (c .before .before .before .before .before .chain-fault .ensures) ∙ c .before .before .before .before .if1 .left

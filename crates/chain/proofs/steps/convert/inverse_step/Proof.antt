@@ -32,17 +32,11 @@ scaled c =
     let s = c .before .before .before in
     subst⁻¹ (λ (t : Scale). Prepares (s .args .step) (Scaled t)) (c .frame-ready .ensures) (frame-prepares (s .args .step) (s .pre .0) (c .before .enum-told .given .1))
 
-enum-known-kind : tie.Need-enum-known-kind
-enum-known-kind c = search needs
-
 shift-ready-requires : tie.Need-shift-ready-requires
 shift-ready-requires c κs = tt
 
 fixed-back-requires : tie.Need-fixed-back-requires
 fixed-back-requires c κs = let s = c .before .before .before .before in (shifted c .ok, area-small (s .args .q) (s .pre .1))
-
-enum-known-kind-2 : tie.Need-enum-known-kind-2
-enum-known-kind-2 c = search needs
 
 velocity-ready-requires : tie.Need-velocity-ready-requires
 velocity-ready-requires c κs = (c .before .before .before .pre .0, c .before .kind2 .given .1)
@@ -50,17 +44,11 @@ velocity-ready-requires c κs = (c .before .before .before .pre .0, c .before .k
 fixed-back-requires-2 : tie.Need-fixed-back-requires-2
 fixed-back-requires-2 c κs = let s = c .before .before .before .before in (moved c .ok, area-small (s .args .q) (s .pre .1))
 
-enum-known-kind-3 : tie.Need-enum-known-kind-3
-enum-known-kind-3 c = search needs
-
 bursa-wolf-ready-requires : tie.Need-bursa-wolf-ready-requires
 bursa-wolf-ready-requires c κs = (c .before .before .before .pre .0, c .before .kind3 .given .1)
 
 turn-back-requires : tie.Need-turn-back-requires
 turn-back-requires c κs = let s = c .before .before .before .before in (turned c .ok, area-small (s .args .q) (s .pre .1))
-
-enum-told : tie.Need-enum-told
-enum-told c = search needs
 
 frame-ready-requires : tie.Need-frame-ready-requires
 frame-ready-requires c κs = (c .before .before .pre .0, c .enum-told .given .1)
@@ -83,20 +71,5 @@ returns-4 c = let s = c .before .before .before .before in c .scale-back .ensure
 pub inverse-step-spec : {M : Type 1} → statement M
 inverse-step-spec =
     tie.close
-    (tie.spec
-    enum-known-kind
-    shift-ready-requires
-    fixed-back-requires
-    enum-known-kind-2
-    velocity-ready-requires
-    fixed-back-requires-2
-    enum-known-kind-3
-    bursa-wolf-ready-requires
-    turn-back-requires
-    enum-told
-    frame-ready-requires
-    scale-back-requires
-    returns
-    returns-2
-    returns-3
-    returns-4)
+    (tie.spec (search needs) shift-ready-requires fixed-back-requires (search needs) velocity-ready-requires fixed-back-requires-2 (search needs)
+    bursa-wolf-ready-requires turn-back-requires (search needs) frame-ready-requires scale-back-requires returns returns-2 returns-3 returns-4)

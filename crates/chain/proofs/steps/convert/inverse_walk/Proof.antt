@@ -1,4 +1,5 @@
 -- `chain::steps::convert::inverse_walk` meets its contract. The loop's invariant: the steps below place i, last first, lead where the whole does. Assumes nothing.
+use borrow.Author.Needs.{needs}
 use mathlib.Core.Path.{_≡_, refl, sym, _∙_, ap}
 use mathlib.Core.Bool.{Bool, true, false}
 use mathlib.Core.List.{List, reverse}
@@ -48,9 +49,6 @@ module _ (s : tie.Start Inv-loop μ-loop) where
 loop-holds : tie.Need-loop-holds Inv-loop μ-loop
 loop-holds c = (omega arith, c .before .pre .1, refl)
 
-sub-i : tie.Need-sub-i Inv-loop μ-loop
-sub-i c = omega arith
-
 mul-step : tie.Need-mul-step Inv-loop μ-loop
 mul-step c = omega (arith, holds (c .before .before .before) .0)
 
@@ -99,9 +97,6 @@ returns c =
     let a = c .before in
     ap (end (s a)) (sym (leaves (next a) _ (area a false (not-true _ (c .if1 .taken)))) ∙ turn a)
 
-loop-less : tie.Need-loop-less Inv-loop μ-loop
-loop-less c = omega arith
-
 loop-again : tie.Need-loop-again Inv-loop μ-loop
 loop-again c =
     let a = c .before in
@@ -123,4 +118,4 @@ returns-2 c =
     ap Converted (c .moved-to .ensures) ∙ ap (end s) (ap (λ (k : ℕ). walk inverseStep (reverse (take k (steps s))) (at .p)) (sym e) ∙ at .inv .2)
 
 pub inverse-walk-spec : {M : Type 1} → statement M
-inverse-walk-spec = tie.close (tie.spec Inv-loop μ-loop loop-holds sub-i mul-step element-copy-out-step inverse-step-requires in-area-requires returns loop-less loop-again moved-to-requires returns-2)
+inverse-walk-spec = tie.close (tie.spec Inv-loop μ-loop loop-holds (search needs) mul-step element-copy-out-step inverse-step-requires in-area-requires returns (search needs) loop-again moved-to-requires returns-2)

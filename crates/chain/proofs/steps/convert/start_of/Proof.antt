@@ -17,13 +17,10 @@ returns : tie.Need-returns
 unfolding startOf
 returns c = let s = c .before in ap (λ (n : ℕ). startOf (s .args .r) (take n (s .args .t1 .steps))) (sym (c .if1 .taken))
 
-element-copy-out-s : tie.Need-element-copy-out-s
-element-copy-out-s c = search needs
-
 returns-2 : tie.Need-returns-2
 returns-2 c =
     let s = c .before .before .before in
     sym (start-at (s .args .t1 .steps) (s .args .t1 .length) (s .args .r) (omega (arith, c .before .before .if1 .left)) (omega (arith, long s)))
 
 pub start-of-spec : {M : Type 1} → statement M
-start-of-spec = tie.close (tie.spec returns element-copy-out-s returns-2)
+start-of-spec = tie.close (tie.spec returns (search needs) returns-2)

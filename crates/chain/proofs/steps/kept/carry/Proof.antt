@@ -1,4 +1,5 @@
 -- `chain::steps::kept::carry` meets its contract. The loop's invariant: the rows that are left lead where all of them do. Assumes nothing.
+use borrow.Author.Needs.{needs}
 use mathlib.Core.Path.{_≡_, refl, sym, _∙_, ap}
 use mathlib.Core.Bool.{Bool, true, false}
 use mathlib.Core.List.{List, _∷_}
@@ -86,12 +87,6 @@ returns-2 c =
     let d = c .before in
     sym (sym (whole (a d)) ∙ turn-left forwardBy (s (a d) .args .point) (s (a d) .args .end) _ (after (a d)) (rowAt (l (a d)) (i (a d))) (is (a d)) (q (a d)) (sound d) (area d false (not-true _ (c .if2 .taken))))
 
-add-i : tie.Need-add-i Inv-loop μ-loop
-add-i c = omega arith
-
-loop-less : tie.Need-loop-less Inv-loop μ-loop
-loop-less c = omega arith
-
 loop-again : tie.Need-loop-again Inv-loop μ-loop
 loop-again c =
     let d = c .before in
@@ -115,4 +110,4 @@ returns-3 c =
     ∙ ap (λ (rs : List Row). carried forwardBy (s .args .point) (s .args .end) rs (k .p)) (sym (no-rows (s .args .numbers .now) (k .i) (s .args .rows) t)) ∙ k .inv .3
 
 pub carry-spec : {M : Type 1} → statement M
-carry-spec = tie.close (tie.spec Inv-loop μ-loop loop-holds forward-row-requires returns in-area-requires returns-2 add-i loop-less loop-again moved-to-requires returns-3)
+carry-spec = tie.close (tie.spec Inv-loop μ-loop loop-holds forward-row-requires returns in-area-requires returns-2 (search needs) (search needs) loop-again moved-to-requires returns-3)

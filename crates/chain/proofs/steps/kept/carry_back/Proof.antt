@@ -1,4 +1,5 @@
 -- `chain::steps::kept::carry_back` meets its contract. The loop's invariant: the rows that are left lead where all of them do. Assumes nothing.
+use borrow.Author.Needs.{needs}
 use mathlib.Core.Path.{_≡_, refl, sym, _∙_, ap, subst⁻¹}
 use mathlib.Core.Bool.{Bool, true, false}
 use mathlib.Core.List.{List, _∷_, reverse}
@@ -27,9 +28,6 @@ abbrev μ-loop : tie.MeasureT-loop
 
 loop-holds : tie.Need-loop-holds Inv-loop μ-loop
 loop-holds c = (omega arith, c .before .pre .1, refl)
-
-row-at-requires : tie.Need-row-at-requires Inv-loop μ-loop
-row-at-requires c κs = omega arith
 
 -- a turn: the row at i, then those that are left
 module _ (c : tie.After-row-at Inv-loop μ-loop) where
@@ -92,12 +90,6 @@ returns-2 c =
     let d = c .before in
     sym (sym (whole (a d)) ∙ turn-left inverseBy (s (a d) .args .point) (s (a d) .args .end) _ (after (a d)) (rowAt (l (a d)) (i (a d))) (is (a d)) (q (a d)) (sound d) (area d false (not-true _ (c .if2 .taken))))
 
-sub-i : tie.Need-sub-i Inv-loop μ-loop
-sub-i c = omega arith
-
-loop-less : tie.Need-loop-less Inv-loop μ-loop
-loop-less c = omega arith
-
 loop-again : tie.Need-loop-again Inv-loop μ-loop
 loop-again c =
     let d = c .before in
@@ -121,4 +113,4 @@ returns-3 c =
     ∙ ap (λ (rs : List Row). carried inverseBy (s .args .point) (s .args .end) rs (k .p)) (sym (ap (λ (n : ℕ). reverse (rowsOf (s .args .numbers .now) 1 n)) e)) ∙ k .inv .2
 
 pub carry-back-spec : {M : Type 1} → statement M
-carry-back-spec = tie.close (tie.spec Inv-loop μ-loop loop-holds row-at-requires returns inverse-ready-requires in-area-requires returns-2 sub-i loop-less loop-again moved-to-requires returns-3)
+carry-back-spec = tie.close (tie.spec Inv-loop μ-loop loop-holds (search needs) returns inverse-ready-requires in-area-requires returns-2 (search needs) (search needs) loop-again moved-to-requires returns-3)

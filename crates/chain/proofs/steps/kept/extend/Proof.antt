@@ -24,15 +24,6 @@ use Rattle.chain.proofs.Keeping.{extend-passed, extended-is, refused-is
 use Rattle.chain.proofs.steps.kept.extend.Statement.{statement}
 use Rattle.chain.proofs.steps.kept.extend.Tie as tie
 
-element-copy-out-n : tie.Need-element-copy-out-n
-element-copy-out-n c = search needs
-
-end-in-requires : tie.Need-end-in-requires
-end-in-requires c κs = search needs
-
-extend-fault-requires : tie.Need-extend-fault-requires
-extend-fault-requires c κs = search needs
-
 -- what the chain so far says of the step
 module _ (c : tie.After-extend-fault) where
   abbrev l : List ℤ
@@ -54,12 +45,6 @@ module _ (c : tie.After-extend-fault) where
 
 returns : tie.Need-returns
 returns c = let a = c .before in (fault a, sym (refused-is (profile a) (l a) (step a) (λ e. c .if1 .taken (fault a ∙ e))))
-
-start-in-requires : tie.Need-start-in-requires
-start-in-requires c κs = search needs
-
-start-with-requires : tie.Need-start-with-requires
-start-with-requires c κs = search needs
 
 -- where the step is not refused
 module _ (c : tie.Else1) where
@@ -106,9 +91,6 @@ put-ready-requires c κs = omega (arith, counted c, small (c .before .before .be
 add-put-first : tie.Need-add-put-first
 add-put-first c = let e = c .before .before .before .before .before .before .before .before .before in fit+ (length (at e)) one (more e)
 
-put-first-requires : tie.Need-put-first-requires
-put-first-requires c κs = search needs
-
 returns-2 : tie.Need-returns-2
 returns-2 c =
     let e = c .before .before .before .before .before .before .before .before .before .before in
@@ -126,17 +108,5 @@ returns-2 c =
 pub extend-spec : {M : Type 1} → statement M
 extend-spec =
     tie.close
-    (tie.spec
-    element-copy-out-n
-    end-in-requires
-    extend-fault-requires
-    returns
-    start-in-requires
-    start-with-requires
-    prepare-requires
-    count-requires
-    add-put-ready
-    put-ready-requires
-    add-put-first
-    put-first-requires
-    returns-2)
+    (tie.spec (search needs) (search needs) (search needs) returns (search needs) (search needs) prepare-requires count-requires add-put-ready
+    put-ready-requires add-put-first (search needs) returns-2)

@@ -83,12 +83,4 @@ returns-4 c =
 pub extend-fault-spec : {M : Type 1} → statement M
 extend-fault-spec =
     tie.close
-    (tie.spec
-    step-fault-requires
-    returns
-    equal-requires
-    same-realization-requires
-    returns-2
-    within-requires
-    returns-3
-    returns-4)
+    (tie.spec step-fault-requires returns equal-requires same-realization-requires returns-2 within-requires returns-3 returns-4)

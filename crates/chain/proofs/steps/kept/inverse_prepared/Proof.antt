@@ -23,15 +23,6 @@ use Rattle.chain.proofs.KeptTurns.{inverse-refused, inverse-carried, pr
 use Rattle.chain.proofs.steps.kept.inverse_prepared.Statement.{statement}
 use Rattle.chain.proofs.steps.kept.inverse_prepared.Tie as tie
 
-element-copy-out-n : tie.Need-element-copy-out-n
-element-copy-out-n c = search needs
-
-end-in-requires : tie.Need-end-in-requires
-end-in-requires c κs = search needs
-
-prepared-fault-requires : tie.Need-prepared-fault-requires
-prepared-fault-requires c κs = search needs
-
 -- what the numbers say of the point
 module _ (c : tie.After-prepared-fault) where
   abbrev l : List ℤ
@@ -48,12 +39,6 @@ module _ (c : tie.After-prepared-fault) where
 
 returns : tie.Need-returns
 returns c = let a = c .before in ap Refused (fault a) ∙ inverse-refused (l a) (point a) (λ e. c .if1 .taken (fault a ∙ e))
-
-start-in-requires : tie.Need-start-in-requires
-start-in-requires c κs = search needs
-
-reached-with-requires : tie.Need-reached-with-requires
-reached-with-requires c κs = search needs
 
 -- where the point is not refused
 module _ (c : tie.Else1) where
@@ -95,13 +80,4 @@ returns-2 c =
 pub inverse-prepared-spec : {M : Type 1} → statement M
 inverse-prepared-spec =
     tie.close
-    (tie.spec
-    element-copy-out-n
-    end-in-requires
-    prepared-fault-requires
-    returns
-    start-in-requires
-    reached-with-requires
-    count-requires
-    carry-back-requires
-    returns-2)
+    (tie.spec (search needs) (search needs) (search needs) returns (search needs) (search needs) count-requires carry-back-requires returns-2)

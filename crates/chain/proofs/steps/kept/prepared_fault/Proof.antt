@@ -65,12 +65,4 @@ returns-4 c =
 pub prepared-fault-spec : {M : Type 1} → statement M
 prepared-fault-spec =
     tie.close
-    (tie.spec
-    within-requires
-    returns
-    equal-requires
-    same-realization-requires
-    returns-2
-    in-area-requires
-    returns-3
-    returns-4)
+    (tie.spec within-requires returns equal-requires same-realization-requires returns-2 in-area-requires returns-3 returns-4)

@@ -10,9 +10,6 @@ use borrow.Author.Needs.{needs}
 use Rattle.chain.proofs.steps.lifted.lowered.Statement.{statement}
 use Rattle.chain.proofs.steps.lifted.lowered.Tie as tie
 
-cast-result : tie.Need-cast-result
-cast-result c = search needs
-
 module _ (c : tie.Start) where
   quotient : toZ w64 (c .args .q) ≡ pos (c .args .q)
   quotient = rd {z = pos (c .args .q)} (fits 200000000 (c .pre .1) (omega arith))
@@ -33,4 +30,4 @@ returns : tie.Need-returns
 returns c = rd+ (rd (c .fits .k)) (rd- (quotient c) (rd (c .fits .lifted)) (difference c)) (sum c)
 
 pub lowered-spec : {M : Type 1} → statement M
-lowered-spec = tie.close (tie.spec cast-result sub-result add-result returns)
+lowered-spec = tie.close (tie.spec (search needs) sub-result add-result returns)

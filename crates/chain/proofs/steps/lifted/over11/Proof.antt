@@ -12,9 +12,6 @@ use borrow.Author.Needs.{needs}
 use Rattle.chain.proofs.steps.lifted.over11.Statement.{statement}
 use Rattle.chain.proofs.steps.lifted.over11.Tie as tie
 
-raised-requires : tie.Need-raised-requires
-raised-requires c κs = search needs
-
 -- once u is made
 module _ (c : tie.After-raised) where
   abbrev u : ℕ
@@ -29,12 +26,6 @@ module _ (c : tie.After-raised) where
 lowered-requires : tie.Need-lowered-requires
 lowered-requires c κs = (rw (rd (c .before .fits .k)) (c .before .pre .0), few c, omega arith)
 
-mul-settled : tie.Need-mul-settled
-mul-settled c = search needs
-
-settled-requires : tie.Need-settled-requires
-settled-requires c κs = search needs
-
 returns : tie.Need-returns
 returns c =
     let s = c .before .before .before in
@@ -44,4 +35,4 @@ returns c =
     ∙ lifted-rounds (s .args .k) (s .args .n) 100000000000 50000000000 80000000 w refl (omega arith) (up (c .before .before))
 
 pub over11-spec : {M : Type 1} → statement M
-over11-spec = tie.close (tie.spec raised-requires lowered-requires mul-settled settled-requires returns)
+over11-spec = tie.close (tie.spec (λ c κs. search needs) lowered-requires (search needs) (search needs) returns)

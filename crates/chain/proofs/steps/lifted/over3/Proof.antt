@@ -46,9 +46,6 @@ lowered-requires c κs = rw (sum c) (omega arith, few c, omega arith)
 mul-settled : tie.Need-mul-settled
 mul-settled c = rw (sum (c .before)) (record { fits = omega (arith, few (c .before)) })
 
-settled-requires : tie.Need-settled-requires
-settled-requires c κs = search needs
-
 returns : tie.Need-returns
 returns c =
     let s = c .before .before in
@@ -58,4 +55,4 @@ returns c =
     ∙ lifted-rounds (pos 0) (s .args .n) 1000 500 2000000 w refl (omega arith) (up s)
 
 pub over3-spec : {M : Type 1} → statement M
-over3-spec = tie.close (tie.spec add-u cast-u lowered-requires mul-settled settled-requires returns)
+over3-spec = tie.close (tie.spec add-u cast-u lowered-requires mul-settled (search needs) returns)

@@ -9,17 +9,11 @@ use borrow.Author.Needs.{needs}
 use Rattle.line.proofs.number.counted.of_seven.Statement.{statement}
 use Rattle.line.proofs.number.counted.of_seven.Tie as tie
 
-seven-alone-requires : tie.Need-seven-alone-requires
-seven-alone-requires c κs = search needs
-
 shared-slice-read-if2 : tie.Need-shared-slice-read-if2
 shared-slice-read-if2 c = let a = c .before .before .seven-alone .ensures (c .before .if1 .taken) in omega (arith, a .inside)
 
 four-requires : tie.Need-four-requires
 four-requires c κs = let a = c .before .before .before .seven-alone .ensures (c .before .before .if1 .taken) in (omega (arith, a .inside), L.sooner 4 3 (a .digits))
-
-mul-above-zero : tie.Need-mul-above-zero
-mul-above-zero c = search needs
 
 add-three : tie.Need-add-three
 add-three c = let a = c .before .before .before .before .seven-alone .ensures (c .before .before .before .if1 .taken) in omega (arith, a .inside)
@@ -27,17 +21,8 @@ add-three c = let a = c .before .before .before .before .seven-alone .ensures (c
 three-requires : tie.Need-three-requires
 three-requires c κs = let a = c .before .before .before .before .seven-alone .ensures (c .before .before .before .if1 .taken) in (omega (arith, a .inside), L.later 4 3 (a .digits))
 
-add-above-zero : tie.Need-add-above-zero
-add-above-zero c = search needs
-
-above-zero-requires : tie.Need-above-zero-requires
-above-zero-requires c κs = search needs
-
 add-closed : tie.Need-add-closed
 add-closed c = let a = c .before .before .before .before .before .before .seven-alone .ensures (c .before .before .before .before .before .if1 .taken) in omega (arith, a .inside)
-
-closed-requires : tie.Need-closed-requires
-closed-requires c κs = search needs
 
 returns : tie.Need-returns
 returns c =
@@ -47,26 +32,8 @@ returns c =
     let y = L.both 10000 1000 (c .before .before .before .four .ensures) (c .before .before .three .ensures) in
     rw (e, c .before .above-zero .ensures) (K.several 7 10000000 y a (omega arith) (c .closed .ensures) (omega (arith, y .less)) (c .before .before .before .before .if2 .taken))
 
-number-requires : tie.Need-number-requires
-number-requires c κs = search needs
-
-returns-2 : tie.Need-returns-2
-returns-2 c = search needs
-
 pub of-seven-spec : {M : Type 1} → statement M
 of-seven-spec =
     tie.close
-    (tie.spec
-    seven-alone-requires
-    shared-slice-read-if2
-    four-requires
-    mul-above-zero
-    add-three
-    three-requires
-    add-above-zero
-    above-zero-requires
-    add-closed
-    closed-requires
-    returns
-    number-requires
-    returns-2)
+    (tie.spec (search needs) shared-slice-read-if2 four-requires (search needs) add-three three-requires (search needs) (search needs) add-closed
+    (search needs) returns (search needs) (λ c. search needs))

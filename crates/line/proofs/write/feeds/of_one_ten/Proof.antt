@@ -18,12 +18,6 @@ Inv-loop out₀ at line lines high low last₀ place₀ left₀ out last place l
 abbrev μ-loop : tie.MeasureT-loop
 μ-loop out₀ at line lines high low last₀ place₀ left₀ out last place left = left
 
-cast-last : tie.Need-cast-last Inv-loop μ-loop
-cast-last c = search needs
-
-add-last : tie.Need-add-last Inv-loop μ-loop
-add-last c = search needs
-
 loop-holds : tie.Need-loop-holds Inv-loop μ-loop
 loop-holds c =
     let s = c .before .args in
@@ -32,15 +26,6 @@ loop-holds c =
 
 refusal-of-five-requires : tie.Need-refusal-of-five-requires Inv-loop μ-loop
 refusal-of-five-requires c κs = let k = c .before .before .loop in (omega arith, omega arith, omega (arith, k .inv .2, k .inv .3))
-
-add-last-2 : tie.Need-add-last-2 Inv-loop μ-loop
-add-last-2 c = search needs
-
-sub-left : tie.Need-sub-left Inv-loop μ-loop
-sub-left c = search needs
-
-loop-less : tie.Need-loop-less Inv-loop μ-loop
-loop-less c = search needs
 
 loop-again : tie.Need-loop-again Inv-loop μ-loop
 loop-again c =
@@ -61,16 +46,5 @@ returns c = let k = c .before .loop in k .inv .4 _ _ (T.as-text (sym (feeds-none
 pub of-one-ten-spec : {M : Type 1} → statement M
 of-one-ten-spec =
     tie.close
-    (tie.spec
-    Inv-loop
-    μ-loop
-    cast-last
-    add-last
-    loop-holds
-    refusal-of-five-requires
-    add-last-2
-    sub-left
-    loop-less
-    loop-again
-    same-length
-    returns)
+    (tie.spec Inv-loop μ-loop (search needs) (search needs) loop-holds refusal-of-five-requires (search needs) (search needs) (search needs) loop-again
+    same-length returns)

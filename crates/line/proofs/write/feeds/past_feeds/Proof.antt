@@ -13,20 +13,8 @@ Inv-loop input from most end place₀ place = (from ≤ place) × (place ≤ fro
 abbrev μ-loop : tie.MeasureT-loop
 μ-loop input from most end place₀ place = end - place
 
-sooner-requires : tie.Need-sooner-requires Inv-loop μ-loop
-sooner-requires c κs = search needs
-
 loop-holds : tie.Need-loop-holds Inv-loop μ-loop
 loop-holds c = (omega arith, omega arith, λ i h. absurd (omega arith))
-
-shared-slice-read-if1 : tie.Need-shared-slice-read-if1 Inv-loop μ-loop
-shared-slice-read-if1 c = search needs
-
-add-place : tie.Need-add-place Inv-loop μ-loop
-add-place c = search needs
-
-loop-less : tie.Need-loop-less Inv-loop μ-loop
-loop-less c = search needs
 
 loop-again : tie.Need-loop-again Inv-loop μ-loop
 loop-again c =
@@ -48,14 +36,4 @@ returns-2 c =
 pub past-feeds-spec : {M : Type 1} → statement M
 past-feeds-spec =
     tie.close
-    (tie.spec
-    Inv-loop
-    μ-loop
-    sooner-requires
-    loop-holds
-    shared-slice-read-if1
-    add-place
-    loop-less
-    loop-again
-    returns
-    returns-2)
+    (tie.spec Inv-loop μ-loop (search needs) loop-holds (search needs) (search needs) (search needs) loop-again returns returns-2)

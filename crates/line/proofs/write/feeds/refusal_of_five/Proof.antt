@@ -6,24 +6,6 @@ use borrow.Author.Needs.{needs}
 use Rattle.line.proofs.write.feeds.refusal_of_five.Statement.{statement}
 use Rattle.line.proofs.write.feeds.refusal_of_five.Tie as tie
 
-letter-requires : tie.Need-letter-requires
-letter-requires c κs = search needs
-
-pair-requires : tie.Need-pair-requires
-pair-requires c κs = search needs
-
-pair-requires-2 : tie.Need-pair-requires-2
-pair-requires-2 c κs = search needs
-
-put-requires : tie.Need-put-requires
-put-requires c κs = search needs
-
-ending-requires : tie.Need-ending-requires
-ending-requires c κs = search needs
-
-same-length : tie.Need-same-length
-same-length c = search needs
-
 returns : tie.Need-returns
 returns c =
     let c2 = c .before .before in
@@ -36,11 +18,4 @@ returns c =
 pub refusal-of-five-spec : {M : Type 1} → statement M
 refusal-of-five-spec =
     tie.close
-    (tie.spec
-    letter-requires
-    pair-requires
-    pair-requires-2
-    put-requires
-    ending-requires
-    same-length
-    returns)
+    (tie.spec (search needs) (search needs) (search needs) (search needs) (search needs) (search needs) returns)

@@ -6,17 +6,8 @@ use Rattle.line.proofs.Capped.{never}
 use Rattle.line.proofs.write.feeds.ten_at_once.Statement.{statement}
 use Rattle.line.proofs.write.feeds.ten_at_once.Tie as tie
 
-returns : tie.Need-returns
-returns c = λ e. absurd (never e)
-
-returns-2 : tie.Need-returns-2
-returns-2 c = λ e. absurd (never e)
-
-returns-3 : tie.Need-returns-3
-returns-3 c = λ e. absurd (never e)
-
 returns-4 : tie.Need-returns-4
 returns-4 c = let s = c .before .before .before .args in λ e. (omega arith, omega arith, omega (arith, leb-true (s .at) (s .room - 130) e))
 
 pub ten-at-once-spec : {M : Type 1} → statement M
-ten-at-once-spec = tie.close (tie.spec returns returns-2 returns-3 returns-4)
+ten-at-once-spec = tie.close (tie.spec (λ c e. absurd (never e)) (λ c e. absurd (never e)) (λ c e. absurd (never e)) returns-4)

@@ -7,15 +7,6 @@ use borrow.Author.Needs.{needs}
 use Rattle.line.proofs.write.feeds.write_one.Statement.{statement}
 use Rattle.line.proofs.write.feeds.write_one.Tie as tie
 
-shared-slice-read-if2 : tie.Need-shared-slice-read-if2
-shared-slice-read-if2 c = search needs
-
-write-refusal-requires : tie.Need-write-refusal-requires
-write-refusal-requires c κs = search needs
-
-same-length : tie.Need-same-length
-same-length c = search needs
-
 returns : tie.Need-returns
 returns c =
     let call = c .before .before .write-refusal in
@@ -30,4 +21,4 @@ returns-3 c = record { some = λ f. absurd (omega (arith, f .inside)); each = λ
 pub write-one-spec : {M : Type 1} → statement M
 write-one-spec =
     tie.close
-    (tie.spec shared-slice-read-if2 write-refusal-requires same-length returns returns-2 returns-3)
+    (tie.spec (search needs) (search needs) (search needs) returns returns-2 returns-3)

@@ -8,27 +8,6 @@ use borrow.Author.Needs.{needs}
 use Rattle.line.proofs.write.lot.write_lot.Statement.{statement}
 use Rattle.line.proofs.write.lot.write_lot.Tie as tie
 
-letter-requires : tie.Need-letter-requires
-letter-requires c κs = search needs
-
-name-requires : tie.Need-name-requires
-name-requires c κs = search needs
-
-whole-requires : tie.Need-whole-requires
-whole-requires c κs = search needs
-
-whole-requires-2 : tie.Need-whole-requires-2
-whole-requires-2 c κs = search needs
-
-whole-requires-3 : tie.Need-whole-requires-3
-whole-requires-3 c κs = search needs
-
-whole-requires-4 : tie.Need-whole-requires-4
-whole-requires-4 c κs = search needs
-
-same-length : tie.Need-same-length
-same-length c = search needs
-
 -- the numbers, as the machine reads them
 module _ (s : tie.Start) where
   issue : toZ w64 (ofZ w64 (s .args .label .issue)) ≡ s .args .label .issue
@@ -61,12 +40,4 @@ returns c =
 pub write-lot-spec : {M : Type 1} → statement M
 write-lot-spec =
     tie.close
-    (tie.spec
-    letter-requires
-    name-requires
-    whole-requires
-    whole-requires-2
-    whole-requires-3
-    whole-requires-4
-    same-length
-    returns)
+    (tie.spec (search needs) (search needs) (search needs) (search needs) (search needs) (search needs) (search needs) returns)

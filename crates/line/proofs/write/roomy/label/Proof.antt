@@ -7,15 +7,6 @@ use borrow.Author.Needs.{needs}
 use Rattle.line.proofs.write.roomy.label.Statement.{statement}
 use Rattle.line.proofs.write.roomy.label.Tie as tie
 
-name-requires : tie.Need-name-requires
-name-requires c κs = search needs
-
-two-numbers-requires : tie.Need-two-numbers-requires
-two-numbers-requires c κs = search needs
-
-same-length : tie.Need-same-length
-same-length c = search needs
-
 returns : tie.Need-returns
 returns c =
     let s = c .before .before .before .before .before .before .before .before .before .before .before in
@@ -24,4 +15,4 @@ returns c =
     rw (e, f) at (T.after (c .before .before .before .before .before .before .before .before .name .ensures) (c .before .before .two-numbers .ensures))
 
 pub label-spec : {M : Type 1} → statement M
-label-spec = tie.close (tie.spec name-requires two-numbers-requires same-length returns)
+label-spec = tie.close (tie.spec (search needs) (search needs) (search needs) returns)

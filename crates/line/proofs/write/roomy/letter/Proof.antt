@@ -6,17 +6,8 @@ use borrow.Author.Needs.{needs}
 use Rattle.line.proofs.write.roomy.letter.Statement.{statement}
 use Rattle.line.proofs.write.roomy.letter.Tie as tie
 
-put-requires : tie.Need-put-requires
-put-requires c κs = search needs
-
-put-requires-2 : tie.Need-put-requires-2
-put-requires-2 c κs = search needs
-
-same-length : tie.Need-same-length
-same-length c = search needs
-
 returns : tie.Need-returns
 returns c = T.both 2 (c .before .before .before .before .before .before .put .ensures) (c .before .before .put2 .ensures) (omega arith) refl
 
 pub letter-spec : {M : Type 1} → statement M
-letter-spec = tie.close (tie.spec put-requires put-requires-2 same-length returns)
+letter-spec = tie.close (tie.spec (search needs) (search needs) (search needs) returns)

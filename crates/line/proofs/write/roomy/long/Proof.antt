@@ -9,21 +9,9 @@ use Rattle.line.proofs.write.roomy.long.Lts as lts
 use Rattle.line.proofs.write.roomy.packed.eight_digits.Reads as eight-digits-reads
 use Rattle.line.proofs.write.roomy.packed.leading.Reads as leading-reads
 
--- src/write/roomy.rt:82:9
-leading-requires : tie.Need-leading-requires
-leading-requires c κs = search needs
-
--- src/write/roomy.rt:83:5
-eight-digits-requires : tie.Need-eight-digits-requires
-eight-digits-requires c κs = search needs
-
--- src/write/roomy.rt:78:1
-same-length : tie.Need-same-length
-same-length c = search needs
-
 -- src/write/roomy.rt:78:1
 returns : tie.Need-returns
 returns c = T.named 20 (P.after 8 (c .before .before .before .before .before .before .leading .ensures) (c .before .before .eight-digits .ensures) (omega arith) (omega arith)) (omega arith) (T.eight-end _ (omega arith))
 
 pub long-spec : {M : Type 1} → statement M
-long-spec = tie.close (tie.spec leading-requires eight-digits-requires same-length returns)
+long-spec = tie.close (tie.spec (search needs) (search needs) (search needs) returns)

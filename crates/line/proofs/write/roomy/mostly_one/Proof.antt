@@ -6,29 +6,8 @@ use borrow.Author.Needs.{needs}
 use Rattle.line.proofs.write.roomy.mostly_one.Statement.{statement}
 use Rattle.line.proofs.write.roomy.mostly_one.Tie as tie
 
-cast-put : tie.Need-cast-put
-cast-put c = search needs
-
-add-put : tie.Need-add-put
-add-put c = search needs
-
-put-requires : tie.Need-put-requires
-put-requires c κs = search needs
-
-digits-requires : tie.Need-digits-requires
-digits-requires c κs = search needs
-
-same-length : tie.Need-same-length
-same-length c = search needs
-
 returns : tie.Need-returns
 returns c = T.named 20 (c .before .before .put .ensures) (omega arith) (sym (T.decimal-one _ (omega arith)))
 
-same-length-2 : tie.Need-same-length-2
-same-length-2 c = search needs
-
-returns-2 : tie.Need-returns-2
-returns-2 c = search needs
-
 pub mostly-one-spec : {M : Type 1} → statement M
-mostly-one-spec = tie.close (tie.spec cast-put add-put put-requires digits-requires same-length returns same-length-2 returns-2)
+mostly-one-spec = tie.close (tie.spec (search needs) (search needs) (search needs) (search needs) (search needs) returns (search needs) (λ c. search needs))

@@ -8,21 +8,6 @@ use borrow.Author.Needs.{needs}
 use Rattle.line.proofs.write.roomy.number.Statement.{statement}
 use Rattle.line.proofs.write.roomy.number.Tie as tie
 
-sign-requires : tie.Need-sign-requires
-sign-requires c κs = search needs
-
-size-requires : tie.Need-size-requires
-size-requires c κs = search needs
-
-mostly-one-requires : tie.Need-mostly-one-requires
-mostly-one-requires c κs = search needs
-
-put-requires : tie.Need-put-requires
-put-requires c κs = search needs
-
-same-length : tie.Need-same-length
-same-length c = search needs
-
 returns : tie.Need-returns
 returns c =
     let c2 = c .before .before in
@@ -34,4 +19,4 @@ returns c =
     T.named 22 (T.after (rw e at (c11 .sign .ensures)) (T.after (c6 .mostly-one .ensures) (c2 .put .ensures))) (omega arith) (T.signed z _ _ (rw e at (c7 .size .ensures)))
 
 pub number-spec : {M : Type 1} → statement M
-number-spec = tie.close (tie.spec sign-requires size-requires mostly-one-requires put-requires same-length returns)
+number-spec = tie.close (tie.spec (search needs) (search needs) (search needs) (search needs) (search needs) returns)

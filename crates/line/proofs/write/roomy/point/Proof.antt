@@ -9,24 +9,12 @@ use borrow.Author.Needs.{needs}
 use Rattle.line.proofs.write.roomy.point.Statement.{statement}
 use Rattle.line.proofs.write.roomy.point.Tie as tie
 
-letter-requires : tie.Need-letter-requires
-letter-requires c κs = search needs
-
-label-requires : tie.Need-label-requires
-label-requires c κs = search needs
-
-two-numbers-requires : tie.Need-two-numbers-requires
-two-numbers-requires c κs = search needs
-
 position-requires : tie.Need-position-requires
 position-requires c κs =
     let t = c .before .before .before .two-numbers in
     let l = c .before .before .before .before .before .before .before .before .before .label in
     let f = c .before .before .before .before .before .before .before .before .before .before .before .before .before .letter in
     omega (arith, t .ensures .most, t .kept .0, l .ensures .most, l .kept .0, f .ensures .most, f .kept .0, c .before .before .before .before .before .before .before .before .before .before .before .before .before .before .before .before .pre)
-
-same-length : tie.Need-same-length
-same-length c = search needs
 
 returns : tie.Need-returns
 returns c =
@@ -39,4 +27,4 @@ returns c =
     (rw (e, f) (T.point-put (pointOf (s .args .l) (s .args .r) (s .args .p))))
 
 pub point-spec : {M : Type 1} → statement M
-point-spec = tie.close (tie.spec letter-requires label-requires two-numbers-requires position-requires same-length returns)
+point-spec = tie.close (tie.spec (search needs) (search needs) (search needs) position-requires (search needs) returns)

@@ -7,15 +7,6 @@ use borrow.Author.Needs.{needs}
 use Rattle.line.proofs.write.roomy.position.Statement.{statement}
 use Rattle.line.proofs.write.roomy.position.Tie as tie
 
-number-requires : tie.Need-number-requires
-number-requires c κs = search needs
-
-two-numbers-requires : tie.Need-two-numbers-requires
-two-numbers-requires c κs = search needs
-
-same-length : tie.Need-same-length
-same-length c = search needs
-
 returns : tie.Need-returns
 returns c =
     let s = c .before .before .before .before .before .before .before .before .before .before .before .before in
@@ -25,4 +16,4 @@ returns c =
     rw (e, f, g) at (T.after (c .before .before .before .before .before .before .before .before .number .ensures) (c .before .before .two-numbers .ensures))
 
 pub position-spec : {M : Type 1} → statement M
-position-spec = tie.close (tie.spec number-requires two-numbers-requires same-length returns)
+position-spec = tie.close (tie.spec (search needs) (search needs) (search needs) returns)

@@ -8,18 +8,6 @@ use borrow.Author.Needs.{needs}
 use Rattle.line.proofs.write.roomy.projected.Statement.{statement}
 use Rattle.line.proofs.write.roomy.projected.Tie as tie
 
-letter-requires : tie.Need-letter-requires
-letter-requires c κs = search needs
-
-name-requires : tie.Need-name-requires
-name-requires c κs = search needs
-
-two-numbers-requires : tie.Need-two-numbers-requires
-two-numbers-requires c κs = search needs
-
-same-length : tie.Need-same-length
-same-length c = search needs
-
 returns : tie.Need-returns
 returns c =
     let c2 = c .before .before in
@@ -31,4 +19,4 @@ returns c =
     T.named 63 (T.after (c10 .letter .ensures) (T.after (c6 .name .ensures) (c2 .two-numbers .ensures))) (omega arith) (rw (e, f) (T.projected-is _ _ _))
 
 pub projected-spec : {M : Type 1} → statement M
-projected-spec = tie.close (tie.spec letter-requires name-requires two-numbers-requires same-length returns)
+projected-spec = tie.close (tie.spec (search needs) (search needs) (search needs) (search needs) returns)

@@ -5,24 +5,6 @@ use borrow.Author.Needs.{needs}
 use Rattle.line.proofs.write.roomy.refused.Statement.{statement}
 use Rattle.line.proofs.write.roomy.refused.Tie as tie
 
-letter-requires : tie.Need-letter-requires
-letter-requires c κs = search needs
-
-digits-requires : tie.Need-digits-requires
-digits-requires c κs = search needs
-
-put-requires : tie.Need-put-requires
-put-requires c κs = search needs
-
-short-requires : tie.Need-short-requires
-short-requires c κs = search needs
-
-short-requires-2 : tie.Need-short-requires-2
-short-requires-2 c κs = search needs
-
-same-length : tie.Need-same-length
-same-length c = search needs
-
 returns : tie.Need-returns
 returns c =
     let c2 = c .before .before in
@@ -33,4 +15,4 @@ returns c =
     T.named 33 (T.after (c18 .letter .ensures) (T.after (c14 .digits .ensures) (T.after (c10 .put .ensures) (T.after (c6 .short .ensures) (c2 .short2 .ensures))))) (omega arith) (T.refusal-put _ _ _)
 
 pub refused-spec : {M : Type 1} → statement M
-refused-spec = tie.close (tie.spec letter-requires digits-requires put-requires short-requires short-requires-2 same-length returns)
+refused-spec = tie.close (tie.spec (search needs) (search needs) (search needs) (search needs) (search needs) (search needs) returns)

@@ -6,18 +6,6 @@ use borrow.Author.Needs.{needs}
 use Rattle.line.proofs.write.roomy.short.Statement.{statement}
 use Rattle.line.proofs.write.roomy.short.Tie as tie
 
-wide-requires : tie.Need-wide-requires
-wide-requires c κs = search needs
-
-up-to-four-requires : tie.Need-up-to-four-requires
-up-to-four-requires c κs = search needs
-
-put-requires : tie.Need-put-requires
-put-requires c κs = search needs
-
-same-length : tie.Need-same-length
-same-length c = search needs
-
 returns : tie.Need-returns
 returns c =
     let c2 = c .before .before in
@@ -26,4 +14,4 @@ returns c =
     T.named 5 (T.after (rw (c7 .wide .ensures) at (c6 .up-to-four .ensures)) (c2 .put .ensures)) (omega arith) refl
 
 pub short-spec : {M : Type 1} → statement M
-short-spec = tie.close (tie.spec wide-requires up-to-four-requires put-requires same-length returns)
+short-spec = tie.close (tie.spec (search needs) (search needs) (search needs) (search needs) returns)

@@ -8,12 +8,6 @@ use borrow.Author.Needs.{needs}
 use Rattle.line.proofs.write.roomy.sign.Statement.{statement}
 use Rattle.line.proofs.write.roomy.sign.Tie as tie
 
-put-requires : tie.Need-put-requires
-put-requires c κs = search needs
-
-same-length : tie.Need-same-length
-same-length c = search needs
-
 returns : tie.Need-returns
 returns c =
     let z = c .before .before .before .before .before .before .args .z in
@@ -27,4 +21,4 @@ returns-2 c =
     T.unmoved _ _ (T.sign-above z (rw e at (c .if1 .left)))
 
 pub sign-spec : {M : Type 1} → statement M
-sign-spec = tie.close (tie.spec put-requires same-length returns returns-2)
+sign-spec = tie.close (tie.spec (search needs) (search needs) returns returns-2)

@@ -7,15 +7,6 @@ use borrow.Author.Needs.{needs}
 use Rattle.line.proofs.write.roomy.two_numbers.Statement.{statement}
 use Rattle.line.proofs.write.roomy.two_numbers.Tie as tie
 
-number-requires : tie.Need-number-requires
-number-requires c κs = search needs
-
-number-requires-2 : tie.Need-number-requires-2
-number-requires-2 c κs = search needs
-
-same-length : tie.Need-same-length
-same-length c = search needs
-
 returns : tie.Need-returns
 returns c =
     let c2 = c .before .before in
@@ -26,4 +17,4 @@ returns c =
     rw (e, f) at (T.after (c6 .number .ensures) (c2 .number2 .ensures))
 
 pub two-numbers-spec : {M : Type 1} → statement M
-two-numbers-spec = tie.close (tie.spec number-requires number-requires-2 same-length returns)
+two-numbers-spec = tie.close (tie.spec (search needs) (search needs) (search needs) returns)

@@ -6,26 +6,8 @@ use borrow.Author.Needs.{needs}
 use Rattle.line.proofs.write.roomy.up_to_two.Statement.{statement}
 use Rattle.line.proofs.write.roomy.up_to_two.Tie as tie
 
-cast-put : tie.Need-cast-put
-cast-put c = search needs
-
-add-put : tie.Need-add-put
-add-put c = search needs
-
-put-requires : tie.Need-put-requires
-put-requires c κs = search needs
-
-pair-requires : tie.Need-pair-requires
-pair-requires c κs = search needs
-
-same-length : tie.Need-same-length
-same-length c = search needs
-
 returns : tie.Need-returns
 returns c = T.named 2 (c .before .before .put .ensures) (omega arith) (sym (T.decimal-one _ (omega arith)))
-
-same-length-2 : tie.Need-same-length-2
-same-length-2 c = search needs
 
 returns-2 : tie.Need-returns-2
 returns-2 c = T.named 2 (c .before .before .pair .ensures) (omega arith) (T.two-is _ (omega arith) (omega arith))
@@ -33,12 +15,4 @@ returns-2 c = T.named 2 (c .before .before .pair .ensures) (omega arith) (T.two-
 pub up-to-two-spec : {M : Type 1} → statement M
 up-to-two-spec =
     tie.close
-    (tie.spec
-    cast-put
-    add-put
-    put-requires
-    pair-requires
-    same-length
-    returns
-    same-length-2
-    returns-2)
+    (tie.spec (search needs) (search needs) (search needs) (search needs) (search needs) returns (search needs) returns-2)

@@ -4,18 +4,6 @@ use borrow.Author.Needs.{needs}
 use Rattle.lot_plan.proofs.chain_text.lot.carry.Statement.{statement}
 use Rattle.lot_plan.proofs.chain_text.lot.carry.Tie as tie
 
-forward-prepared-requires : tie.Need-forward-prepared-requires
-forward-prepared-requires c κs = search needs
-
-enum-known-number : tie.Need-enum-known-number
-enum-known-number c = search needs
-
-enum-known-converted : tie.Need-enum-known-converted
-enum-known-converted c = search needs
-
-place-requires : tie.Need-place-requires
-place-requires c κs = search needs
-
 returns : tie.Need-returns
 returns c = rw (sym (c .before .before .before .forward-prepared .ensures) ∙ c .before .number .given .1)
 
@@ -25,10 +13,4 @@ returns-2 c = rw (sym (c .before .before .before .before .forward-prepared .ensu
 pub carry-spec : {M : Type 1} → statement M
 carry-spec =
     tie.close
-    (tie.spec
-    forward-prepared-requires
-    enum-known-number
-    enum-known-converted
-    place-requires
-    returns
-    returns-2)
+    (tie.spec (λ c κs. search needs) (λ c. search needs) (λ c. search needs) (λ c κs. search needs) returns returns-2)

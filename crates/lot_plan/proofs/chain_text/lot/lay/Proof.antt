@@ -23,15 +23,6 @@ asked s = cassiniMillimetresOf (s .args .o) (s .args .latitude) (s .args .longit
 said : (c : tie.After-cassini-millimetres) → asked (c .before) ≡ c .cassini-millimetres .result
 said c = sym (rw (latitude (c .before), longitude (c .before)) at (c .cassini-millimetres .ensures))
 
-cassini-millimetres-requires : tie.Need-cassini-millimetres-requires
-cassini-millimetres-requires c κs = search needs
-
-enum-known-number : tie.Need-enum-known-number
-enum-known-number c = search needs
-
-enum-known-e : tie.Need-enum-known-e
-enum-known-e c = search needs
-
 returns : tie.Need-returns
 returns c = rw (said (c .before .before .before) ∙ c .before .number .given .1)
 
@@ -45,4 +36,4 @@ returns-2 c =
 pub lay-spec : {M : Type 1} → statement M
 lay-spec =
     tie.close
-    (tie.spec cassini-millimetres-requires enum-known-number enum-known-e returns returns-2)
+    (tie.spec (λ c κs. search needs) (λ c. search needs) (λ c. search needs) returns returns-2)

@@ -16,15 +16,6 @@ text c = chainText (c .before .before .before .before .args .chain .now)
 read-chain-requires : tie.Need-read-chain-requires
 read-chain-requires c κs = holds-fresh
 
-enum-known-number : tie.Need-enum-known-number
-enum-known-number c = search needs
-
-enum-known-profile : tie.Need-enum-known-profile
-enum-known-profile c = search needs
-
-take-point-requires : tie.Need-take-point-requires
-take-point-requires c κs = search needs
-
 returns : tie.Need-returns
 unfolding lotOf
 returns c =
@@ -43,10 +34,4 @@ returns-2 c =
 pub lot-of-spec : {M : Type 1} → statement M
 lot-of-spec =
     tie.close
-    (tie.spec
-    read-chain-requires
-    enum-known-number
-    enum-known-profile
-    take-point-requires
-    returns
-    returns-2)
+    (tie.spec read-chain-requires (λ c. search needs) (λ c. search needs) (λ c κs. search needs) returns returns-2)

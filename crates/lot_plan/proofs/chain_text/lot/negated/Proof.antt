@@ -4,9 +4,6 @@ use borrow.Author.Needs.{needs}
 use Rattle.lot_plan.proofs.chain_text.lot.negated.Statement.{statement}
 use Rattle.lot_plan.proofs.chain_text.lot.negated.Tie as tie
 
-cast-result : tie.Need-cast-result
-cast-result c = search needs
-
 sub-result : tie.Need-sub-result
 sub-result c = less-fits (c .args .number) (search needs)
 
@@ -14,4 +11,4 @@ returns : tie.Need-returns
 returns c = less-is (c .args .number) (search needs)
 
 pub negated-spec : {M : Type 1} → statement M
-negated-spec = tie.close (tie.spec cast-result sub-result returns)
+negated-spec = tie.close (tie.spec (λ c. search needs) sub-result returns)

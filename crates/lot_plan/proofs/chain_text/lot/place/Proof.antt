@@ -33,18 +33,6 @@ asked s = geodeticUnitsOf (s .args .o .ellipsoid) (at s .x) (at s .y) (at s .z)
 said : (c : tie.After-geodetic-units) → asked (c .before .before .before .before .before .before) ≡ c .geodetic-units .result
 said c = let s = c .before .before .before .before .before .before in sym (rw (ellipsoid s, first s, second s, third s) at (c .geodetic-units .ensures))
 
-geodetic-units-requires : tie.Need-geodetic-units-requires
-geodetic-units-requires c κs = search needs
-
-enum-known-number : tie.Need-enum-known-number
-enum-known-number c = search needs
-
-enum-known-latitude : tie.Need-enum-known-latitude
-enum-known-latitude c = search needs
-
-lay-requires : tie.Need-lay-requires
-lay-requires c κs = search needs
-
 returns : tie.Need-returns
 returns c = rw (said (c .before .before .before) ∙ c .before .number .given .1)
 
@@ -58,10 +46,4 @@ returns-2 c =
 pub place-spec : {M : Type 1} → statement M
 place-spec =
     tie.close
-    (tie.spec
-    geodetic-units-requires
-    enum-known-number
-    enum-known-latitude
-    lay-requires
-    returns
-    returns-2)
+    (tie.spec (λ c κs. search needs) (λ c. search needs) (λ c. search needs) (λ c κs. search needs) returns returns-2)

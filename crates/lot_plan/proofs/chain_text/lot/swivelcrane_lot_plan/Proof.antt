@@ -25,23 +25,11 @@ module _ (s : tie.Start) where
   northing : toZ w64 (ofZ w64 (s .args .false-northing)) ≡ s .args .false-northing
   northing = search needs
 
-negated-requires : tie.Need-negated-requires
-negated-requires c κs = search needs
-
 returns : tie.Need-returns
 unfolding lotPlanOf
 returns c =
     let r : toZ w64 (ofZ w64 (c .negated .result)) ≡ c .negated .result = search needs in
     rw (lt-leb least _ (c .before .if1 .taken)) (record { answer = r ∙ c .negated .ensures; buffer = refl })
-
-lot-of-requires : tie.Need-lot-of-requires
-lot-of-requires c κs = search needs
-
-write-requires : tie.Need-write-requires
-write-requires c κs = search needs
-
-same-length : tie.Need-same-length
-same-length c = search needs
 
 returns-2 : tie.Need-returns-2
 unfolding lotPlanOf
@@ -54,4 +42,4 @@ returns-2 c =
 pub swivelcrane-lot-plan-spec : {M : Type 1} → statement M
 swivelcrane-lot-plan-spec =
     tie.close
-    (tie.spec negated-requires returns lot-of-requires write-requires same-length returns-2)
+    (tie.spec (λ c κs. search needs) returns (λ c κs. search needs) (λ c κs. search needs) (λ c. search needs) returns-2)

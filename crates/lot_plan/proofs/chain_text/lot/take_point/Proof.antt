@@ -18,21 +18,6 @@ profile s = search needs
 said : (c : tie.After-read-point) → readPoint (c .before .before .args .profile) (c .before .before .args .text .now) ≡ c .read-point .result
 said c = sym (rw (profile (c .before .before)) at (c .read-point .ensures))
 
-read-point-requires : tie.Need-read-point-requires
-read-point-requires c κs = search needs
-
-enum-known-fault : tie.Need-enum-known-fault
-enum-known-fault c = search needs
-
-enum-known-number : tie.Need-enum-known-number
-enum-known-number c = search needs
-
-enum-known-point : tie.Need-enum-known-point
-enum-known-point c = search needs
-
-carry-requires : tie.Need-carry-requires
-carry-requires c κs = search needs
-
 returns : tie.Need-returns
 returns c = λ ss h. rw (said (c .before .before .before) ∙ c .before .fault .given .1)
 
@@ -48,12 +33,4 @@ returns-3 c = λ ss h.
 pub take-point-spec : {M : Type 1} → statement M
 take-point-spec =
     tie.close
-    (tie.spec
-    read-point-requires
-    enum-known-fault
-    enum-known-number
-    enum-known-point
-    carry-requires
-    returns
-    returns-2
-    returns-3)
+    (tie.spec (λ c κs. search needs) (λ c. search needs) (λ c. search needs) (λ c. search needs) (λ c κs. search needs) returns returns-2 returns-3)

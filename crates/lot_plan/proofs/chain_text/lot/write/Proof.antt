@@ -7,28 +7,10 @@ use borrow.Author.Needs.{needs}
 use Rattle.lot_plan.proofs.chain_text.lot.write.Statement.{statement}
 use Rattle.lot_plan.proofs.chain_text.lot.write.Tie as tie
 
-enum-known-lot : tie.Need-enum-known-lot
-enum-known-lot c = search needs
-
-negated-requires : tie.Need-negated-requires
-negated-requires c κs = search needs
-
-enum-known-lot-2 : tie.Need-enum-known-lot-2
-enum-known-lot-2 c = search needs
-
-write-lot-requires : tie.Need-write-lot-requires
-write-lot-requires c κs = search needs
-
-cast-result : tie.Need-cast-result
-cast-result c = search needs
-
 returns : tie.Need-returns
 returns c =
     let r : toZ w64 (ofZ w64 (c .negated .result)) ≡ c .negated .result = search needs in
     rw (c .before .before .lot .given .1) (record { answer = r ∙ c .negated .ensures; buffer = refl })
-
-same-length : tie.Need-same-length
-same-length c = search needs
 
 returns-2 : tie.Need-returns-2
 returns-2 c =
@@ -41,12 +23,5 @@ returns-2 c =
 pub write-spec : {M : Type 1} → statement M
 write-spec =
     tie.close
-    (tie.spec
-    enum-known-lot
-    negated-requires
-    enum-known-lot-2
-    write-lot-requires
-    cast-result
-    returns
-    same-length
+    (tie.spec (λ c. search needs) (λ c κs. search needs) (λ c. search needs) (λ c κs. search needs) (λ c. search needs) returns (λ c. search needs)
     returns-2)

@@ -5,12 +5,9 @@ use Rattle.plan_rules.specs.State.{passedIn}
 use Rattle.plan_rules.proofs.decide.whole.passed.Statement.{statement}
 use Rattle.plan_rules.proofs.decide.whole.passed.Tie as tie
 
-add-t5 : tie.Need-add-t5
-add-t5 c = search needs
-
 returns : tie.Need-returns
 unfolding passedIn
 returns c = search needs
 
 pub passed-spec : {M : Type 1} → statement M
-passed-spec = tie.close (tie.spec add-t5 returns)
+passed-spec = tie.close (tie.spec (search needs) returns)

@@ -25,24 +25,12 @@ abbrev μ-loop : tie.MeasureT-loop
 write-refusal-requires : tie.Need-write-refusal-requires Inv-loop μ-loop
 write-refusal-requires c κs = tt
 
-same-length : tie.Need-same-length Inv-loop μ-loop
-same-length c = search needs
-
 returns : tie.Need-returns Inv-loop μ-loop
 unfolding planOf
 returns c = prints roomy refl (rw (printed-long rules fresh (c .before .before .before .before .before .before .before .args .input .now) (omega (arith, c .before .before .before .before .if1 .taken))) (c .before .before .write-refusal .ensures))
 
-fresh-requires : tie.Need-fresh-requires Inv-loop μ-loop
-fresh-requires c κs = search needs
-
 loop-holds : tie.Need-loop-holds Inv-loop μ-loop
 loop-holds c = starts rules _ fresh refl _ _ (c .fresh .ensures)
-
-shared-slice-read-if2 : tie.Need-shared-slice-read-if2 Inv-loop μ-loop
-shared-slice-read-if2 c = search needs
-
-write-feeds-requires : tie.Need-write-feeds-requires Inv-loop μ-loop
-write-feeds-requires c κs = search needs
 
 passed-requires : tie.Need-passed-requires Inv-loop μ-loop
 passed-requires c κs = let k = c .before .before .before .before .before .before .before .loop .inv in let l = row-inside (c .before .before .write-feeds .result .lines) _ (c .before .before .before .before .before .before .before .loop .from) (c .before .before .before .before .before .before .before .loop .inv .inside) (c .before .before .write-feeds .ensures .each) in omega (arith, l, k .counted, k .held .line, c .before .before .before .before .before .before .before .before .before .if1 .left)
@@ -56,9 +44,6 @@ loop-less c = let h = c .before .before .before .write-feeds .ensures .some (rec
 loop-again : tie.Need-loop-again Inv-loop μ-loop
 loop-again c = goes-past rules _ fresh refl _ _ bare _ (λ s h. (h .line, rw (c .passed .ensures) (hold-feeds _ h))) (c .before .before .before .write-feeds .ensures) (c .before .before .before .before .before .before .before .before .loop .inv)
 
-line-end-requires : tie.Need-line-end-requires Inv-loop μ-loop
-line-end-requires c κs = search needs
-
 sub-decide : tie.Need-sub-decide Inv-loop μ-loop
 sub-decide c = let l = piece _ _ _ (c .line-end .ensures) (omega arith) in omega arith
 
@@ -70,9 +55,6 @@ part-decide-end c = let l = piece _ _ _ (c .line-end .ensures) (omega arith) in 
 
 decide-requires : tie.Need-decide-requires Inv-loop μ-loop
 decide-requires c κs = let l = piece _ _ _ (c .before .line-end .ensures) (omega arith) in let k = c .before .before .before .before .before .loop .inv in (omega (arith, k .counted, k .held .line, k .inside, c .before .before .before .before .before .before .before .if1 .left), omega (arith, l .some, l .size))
-
-write-reply-requires : tie.Need-write-reply-requires Inv-loop μ-loop
-write-reply-requires c κs = search needs
 
 loop-less-2 : tie.Need-loop-less-2 Inv-loop μ-loop
 loop-less-2 c = let l = piece _ _ _ (c .before .before .before .before .before .before .before .line-end .ensures) (omega arith) in omega arith
@@ -90,27 +72,6 @@ returns-2 c = prints roomy refl (ends rules _ fresh refl _ _ (omega (arith, c .b
 pub plan-spec : {M : Type 1} → statement M
 plan-spec =
     tie.close
-    (tie.spec
-    Inv-loop
-    μ-loop
-    write-refusal-requires
-    same-length
-    returns
-    fresh-requires
-    loop-holds
-    shared-slice-read-if2
-    write-feeds-requires
-    passed-requires
-    add-from
-    loop-less
-    loop-again
-    line-end-requires
-    sub-decide
-    part-decide-start
-    part-decide-end
-    decide-requires
-    write-reply-requires
-    loop-less-2
-    loop-again-2
-    same-length-2
-    returns-2)
+    (tie.spec Inv-loop μ-loop write-refusal-requires (search needs) returns (search needs) loop-holds (search needs) (search needs) passed-requires
+    add-from loop-less loop-again (search needs) sub-decide part-decide-start part-decide-end decide-requires (search needs) loop-less-2 loop-again-2
+    same-length-2 returns-2)

@@ -15,32 +15,11 @@ use Rattle.plan_rules.proofs.decide.whole.write_reply.Tie as tie
 read-text : (id : Id) {l m : List ℕ} {at r : ℕ} {x x' y y' : ℤ} → x ≡ x' → y ≡ y' → Wrote l at (projectedText id x y) m r → Wrote l at (projectedText id x' y') m r
 read-text id p q w = rw (← p, ← q) w
 
-enum-told : tie.Need-enum-told
-enum-told c = search needs
-
-enum-known-reply : tie.Need-enum-known-reply
-enum-known-reply c = search needs
-
-write-projected-requires : tie.Need-write-projected-requires
-write-projected-requires c κs = search needs
-
-enum-known-reply-2 : tie.Need-enum-known-reply-2
-enum-known-reply-2 c = search needs
-
-write-refusal-requires : tie.Need-write-refusal-requires
-write-refusal-requires c κs = search needs
-
 returns : tie.Need-returns
 returns c = rw (c .enum-told .given .1) (nothing _ _)
 
-same-length : tie.Need-same-length
-same-length c = search needs
-
 returns-2 : tie.Need-returns-2
 returns-2 c = let k = c .before .before .before .before .known-told .given in rw (c .before .before .before .before .before .reply .given .1) (read-text _ (told (k .1 .0 .1)) (told (k .1 .1 .0 .1)) (c .before .before .write-projected .ensures))
-
-same-length-2 : tie.Need-same-length-2
-same-length-2 c = search needs
 
 returns-3 : tie.Need-returns-3
 returns-3 c = rw (c .before .before .before .before .before .reply2 .given .1) (c .before .before .write-refusal .ensures)
@@ -48,14 +27,4 @@ returns-3 c = rw (c .before .before .before .before .before .reply2 .given .1) (
 pub write-reply-spec : {M : Type 1} → statement M
 write-reply-spec =
     tie.close
-    (tie.spec
-    enum-told
-    enum-known-reply
-    write-projected-requires
-    enum-known-reply-2
-    write-refusal-requires
-    returns
-    same-length
-    returns-2
-    same-length-2
-    returns-3)
+    (tie.spec (search needs) (search needs) (search needs) (search needs) (search needs) returns (search needs) returns-2 (search needs) returns-3)

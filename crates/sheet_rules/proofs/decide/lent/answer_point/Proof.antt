@@ -39,47 +39,13 @@ module _ (s : tie.Start) where
 
 -- what the line reads as
 reads : (c : tie.After-read-point) {l : PointLine} → c .read-point .result ≡ l → readPoint (chain (c .before .before) .profile) (c .before .before .args .text .now) ≡ l
-unfolding chainFrom
 reads c e = sym (c .read-point .ensures ∙ ap (λ (y : ℤ). readPoint y (c .before .before .args .text .now)) (year-is (c .before .before))) ∙ e
-
-read-point-requires : tie.Need-read-point-requires
-read-point-requires c κs = search needs
-
-enum-known-fault : tie.Need-enum-known-fault
-enum-known-fault c = search needs
-
-tested-requires : tie.Need-tested-requires
-tested-requires c κs = search needs
-
-enum-known-number : tie.Need-enum-known-number
-enum-known-number c = search needs
-
-tested-requires-2 : tie.Need-tested-requires-2
-tested-requires-2 c κs = search needs
-
-enum-known-point : tie.Need-enum-known-point
-enum-known-point c = search needs
-
-tested-requires-3 : tie.Need-tested-requires-3
-tested-requires-3 c κs = search needs
 
 returns : tie.Need-returns
 returns c =
     let r = c .before .before .before .before .before in
     let s = r .before .before in
     earlier-answered (chain s) (s .args .line) (s .args .refused) (s .args .text .now) _ (reads r (c .before .before .before .point .given .1)) (c .before .if1 .taken) (tested-by s _ _ (c .tested3 .ensures))
-
-forward-by-requires : tie.Need-forward-by-requires
-forward-by-requires c κs = search needs
-
-enum-known-number-2 : tie.Need-enum-known-number-2
-enum-known-number-2 c = search needs
-
-tested-requires-4 : tie.Need-tested-requires-4
-tested-requires-4 c κs = search needs
-
-enum-known-converted : tie.Need-enum-known-converted
-enum-known-converted c = search needs
 
 returns-2 : tie.Need-returns-2
 returns-2 c =
@@ -108,20 +74,5 @@ returns-5 c =
 pub answer-point-spec : {M : Type 1} → statement M
 answer-point-spec =
     tie.close
-    (tie.spec
-    read-point-requires
-    enum-known-fault
-    tested-requires
-    enum-known-number
-    tested-requires-2
-    enum-known-point
-    tested-requires-3
-    returns
-    forward-by-requires
-    enum-known-number-2
-    tested-requires-4
-    enum-known-converted
-    returns-2
-    returns-3
-    returns-4
-    returns-5)
+    (tie.spec (search needs) (search needs) (search needs) (search needs) (search needs) (search needs) (search needs) returns (search needs)
+    (search needs) (search needs) (search needs) returns-2 returns-3 returns-4 returns-5)

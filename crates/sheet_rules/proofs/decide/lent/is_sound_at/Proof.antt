@@ -14,21 +14,15 @@ use Rattle.sheet_rules.specs.OneLine.{soundAt}
 use Rattle.sheet_rules.proofs.decide.lent.is_sound_at.Statement.{statement}
 use Rattle.sheet_rules.proofs.decide.lent.is_sound_at.Tie as tie
 
-is-counted-requires : tie.Need-is-counted-requires
-is-counted-requires c κs = search needs
-
-fault-in-requires : tie.Need-fault-in-requires
-fault-in-requires c κs = search needs
-
 -- the profile is read as it was handed over
 year-is : (s : tie.Start) → toZ w64 (ofZ w64 (s .args .profile)) ≡ s .args .profile
 year-is s = search needs
 
 returns : tie.Need-returns
-unfolding soundAt chainFrom
+unfolding soundAt
 returns c =
     let s = c .before .before in
     ap₂ _&&_ (c .before .is-counted .ensures) (ap (λ (n : ℕ). eqb n 0) (c .fault-in .ensures ∙ ap (λ (y : ℤ). first (chainTests (chainFrom y (s .args .steps .now)))) (year-is s)))
 
 pub is-sound-at-spec : {M : Type 1} → statement M
-is-sound-at-spec = tie.close (tie.spec is-counted-requires fault-in-requires returns)
+is-sound-at-spec = tie.close (tie.spec (search needs) (search needs) returns)

@@ -12,9 +12,6 @@ use Rattle.chain.specs.Numbers.{chainFrom}
 use Rattle.sheet_rules.proofs.decide.lent.tested.Statement.{statement}
 use Rattle.sheet_rules.proofs.decide.lent.tested.Tie as tie
 
-fault-in-requires : tie.Need-fault-in-requires
-fault-in-requires c κs = search needs
-
 -- the profile is read as it was handed over
 year-is : (s : tie.Start) → toZ w64 (ofZ w64 (s .args .profile)) ≡ s .args .profile
 year-is s = search needs
@@ -30,4 +27,4 @@ returns-2 : tie.Need-returns-2
 returns-2 c = let z = eq-eqb _ 0 (sym (found (c .before)) ∙ c .if1 .left) in rw z
 
 pub tested-spec : {M : Type 1} → statement M
-tested-spec = tie.close (tie.spec fault-in-requires returns returns-2)
+tested-spec = tie.close (tie.spec (search needs) returns returns-2)

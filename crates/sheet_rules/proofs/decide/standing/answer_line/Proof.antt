@@ -8,18 +8,12 @@ use borrow.Author.Needs.{needs}
 use Rattle.sheet_rules.proofs.decide.standing.answer_line.Statement.{statement}
 use Rattle.sheet_rules.proofs.decide.standing.answer_line.Tie as tie
 
-is-sound-requires : tie.Need-is-sound-requires
-is-sound-requires c κs = search needs
-
 returns : tie.Need-returns
 returns c = let a = c .before .before .before .args in unsound-answered (a .standing) (a .text .now) (sym (c .before .is-sound .ensures) ∙ not-true _ (c .if1 .taken))
 
 -- past the test
 sound : (c : tie.Else1) → soundStanding (c .before .before .before .args .standing) ≡ true
 sound c = sym (c .before .is-sound .ensures) ∙ not-false _ (c .if1 .left)
-
-add-t6 : tie.Need-add-t6
-add-t6 c = search needs
 
 returns-2 : tie.Need-returns-2
 returns-2 c =
@@ -37,4 +31,4 @@ returns-3 c =
     c .answer-prepared .ensures ∙ sound-answered (a .standing) (a .text .now) (sound e)
 
 pub answer-line-spec : {M : Type 1} → statement M
-answer-line-spec = tie.close (tie.spec is-sound-requires returns add-t6 returns-2 answer-prepared-requires returns-3)
+answer-line-spec = tie.close (tie.spec (search needs) returns (search needs) returns-2 answer-prepared-requires returns-3)

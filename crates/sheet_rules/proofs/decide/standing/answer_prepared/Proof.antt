@@ -6,17 +6,11 @@ use borrow.Author.Needs.{needs}
 use Rattle.sheet_rules.proofs.decide.standing.answer_prepared.Statement.{statement}
 use Rattle.sheet_rules.proofs.decide.standing.answer_prepared.Tie as tie
 
-prepare-requires : tie.Need-prepare-requires
-prepare-requires c κs = search needs
-
 answer-within-requires : tie.Need-answer-within-requires
 answer-within-requires c κs =
     let s = c .before .before .before .before .before in
     let p = sound-parts (s .args .standing) (s .pre .1) in
     (s .pre .0, sound-short (s .args .standing) (s .pre .1), p .from, c .before .prepare .ensures .holds (c .before .prepare .ensures .told ∙ eq-eqb _ 0 (p .chain)))
 
-returns : tie.Need-returns
-returns c = search needs
-
 pub answer-prepared-spec : {M : Type 1} → statement M
-answer-prepared-spec = tie.close (tie.spec prepare-requires answer-within-requires returns)
+answer-prepared-spec = tie.close (tie.spec (search needs) answer-within-requires (λ c. search needs))

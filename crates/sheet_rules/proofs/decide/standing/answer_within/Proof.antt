@@ -8,9 +8,6 @@ use borrow.Author.Needs.{needs}
 use Rattle.sheet_rules.proofs.decide.standing.answer_within.Statement.{statement}
 use Rattle.sheet_rules.proofs.decide.standing.answer_within.Tie as tie
 
-decide-any-requires : tie.Need-decide-any-requires
-decide-any-requires c κs = search needs
-
 chain-after-requires : tie.Need-chain-after-requires
 chain-after-requires c κs =
     let s = c .before .before .before .before .before .before in
@@ -27,4 +24,4 @@ returns c =
     within-answered (s .args .standing) (s .args .text .now) (s .pre .0) _ _ _ _ _ (g .holds .line) (rw e (chain-by (s .args .standing) (s .args .text .now) _ _ _ (g .reply) (g .holds .profile) (c .before .before .chain-after .ensures))) (g .holds .refused) (g .holds .closed) (g .reply)
 
 pub answer-within-spec : {M : Type 1} → statement M
-answer-within-spec = tie.close (tie.spec decide-any-requires chain-after-requires returns)
+answer-within-spec = tie.close (tie.spec (search needs) chain-after-requires returns)

@@ -22,9 +22,6 @@ long s = sym (length-map (s .args .chain .steps) _) ∙ s .good .0 .1 .1 .0 .1 .
 inside : (s : tie.Start) → s .args .chain .length ≤ length (s .args .chain .steps)
 inside s = omega (arith, long s, s .pre .0)
 
-begins-with-requires : tie.Need-begins-with-requires
-begins-with-requires c κs = search needs
-
 returns : tie.Need-returns
 returns c = after-other (c .before .before .before .args .chain) (inside (c .before .before .before)) _ _ _ (sym (c .before .begins-with .ensures) ∙ not-true _ (c .if1 .taken))
 
@@ -32,33 +29,12 @@ returns c = after-other (c .before .before .before .args .chain) (inside (c .bef
 begins : (c : tie.Else1) → eqb (getD (c .before .before .before .args .text .now) 0 0) letterS ≡ true
 begins c = sym (c .before .begins-with .ensures) ∙ not-false _ (c .if1 .left)
 
-enum-told : tie.Need-enum-told
-enum-told c = search needs
-
-read-step-requires : tie.Need-read-step-requires
-read-step-requires c κs = search needs
-
 -- what it reads as
 reads : (c : tie.After-read-step) → c .read-step .result ≡ readStep (c .before .before .before .before .before .before .before .args .chain .profile) (c .before .before .before .before .before .before .before .args .text .now)
 reads c = let e : toZ w64 (ofZ w64 (c .before .before .before .before .before .before .before .args .chain .profile)) ≡ c .before .before .before .before .before .before .before .args .chain .profile = search needs in rw e at (c .read-step .ensures)
 
-enum-known-step : tie.Need-enum-known-step
-enum-known-step c = search needs
-
 with-step-requires : tie.Need-with-step-requires
 with-step-requires c κs = (c .before .before .before .before .before .before .before .before .before .before .pre .0, c .before .before .before .before .before .before .before .before .before .before .pre .1 _ (begins (c .before .before .before .before .before .before .before)) (c .before .before .before .before .before .enum-told .given .1) (sym (reads (c .before .before .before)) ∙ c .before .step .given .1))
-
-enum-known--fault : tie.Need-enum-known--fault
-enum-known--fault c = search needs
-
-enum-known--number : tie.Need-enum-known--number
-enum-known--number c = search needs
-
-enum-known-reply : tie.Need-enum-known-reply
-enum-known-reply c = search needs
-
-enum-known-reply-2 : tie.Need-enum-known-reply-2
-enum-known-reply-2 c = search needs
 
 returns-2 : tie.Need-returns-2
 returns-2 c =
@@ -88,19 +64,5 @@ returns-6 c =
 pub chain-after-spec : {M : Type 1} → statement M
 chain-after-spec =
     tie.close
-    (tie.spec
-    begins-with-requires
-    returns
-    enum-told
-    read-step-requires
-    enum-known-step
-    with-step-requires
-    enum-known--fault
-    enum-known--number
-    enum-known-reply
-    enum-known-reply-2
-    returns-2
-    returns-3
-    returns-4
-    returns-5
-    returns-6)
+    (tie.spec (search needs) returns (search needs) (search needs) (search needs) with-step-requires (search needs) (search needs) (search needs)
+    (search needs) returns-2 returns-3 returns-4 returns-5 returns-6)

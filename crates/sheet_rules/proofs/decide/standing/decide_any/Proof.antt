@@ -10,12 +10,6 @@ use borrow.Author.Needs.{needs}
 use Rattle.sheet_rules.proofs.decide.standing.decide_any.Statement.{statement}
 use Rattle.sheet_rules.proofs.decide.standing.decide_any.Tie as tie
 
-strange-requires : tie.Need-strange-requires
-strange-requires c κs = search needs
-
-malformed-requires : tie.Need-malformed-requires
-malformed-requires c κs = search needs
-
 returns : tie.Need-returns
 unfolding replyOf nextOf
 returns c = λ s h.
@@ -26,11 +20,5 @@ returns c = λ s h.
     let r = ne-eqb (getD t 0 0) letterE (λ e. omega (arith, z, e)) in
     rw (p, q, r) (gave-malformed h _ _ _ _ (h .refused) (h .closed) (c .before .strange .ensures) _ (c .malformed .ensures))
 
-decide-requires : tie.Need-decide-requires
-decide-requires c κs = search needs
-
-returns-2 : tie.Need-returns-2
-returns-2 c = search needs
-
 pub decide-any-spec : {M : Type 1} → statement M
-decide-any-spec = tie.close (tie.spec strange-requires malformed-requires returns decide-requires returns-2)
+decide-any-spec = tie.close (tie.spec (search needs) (search needs) returns (search needs) (λ c. search needs))

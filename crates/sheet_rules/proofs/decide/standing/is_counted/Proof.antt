@@ -5,12 +5,9 @@ use borrow.Author.Needs.{needs}
 use Rattle.sheet_rules.proofs.decide.standing.is_counted.Statement.{statement}
 use Rattle.sheet_rules.proofs.decide.standing.is_counted.Tie as tie
 
-add-result : tie.Need-add-result
-add-result c = search needs
-
 returns : tie.Need-returns
 unfolding counted
 returns c = refl
 
 pub is-counted-spec : {M : Type 1} → statement M
-is-counted-spec = tie.close (tie.spec add-result returns)
+is-counted-spec = tie.close (tie.spec (search needs) returns)

@@ -7,14 +7,8 @@ use borrow.Author.Needs.{needs}
 use Rattle.sheet_rules.proofs.decide.standing.is_sound.Statement.{statement}
 use Rattle.sheet_rules.proofs.decide.standing.is_sound.Tie as tie
 
-is-counted-requires : tie.Need-is-counted-requires
-is-counted-requires c κs = search needs
-
-chain-fault-requires : tie.Need-chain-fault-requires
-chain-fault-requires c κs = search needs
-
 returns : tie.Need-returns
 returns c = sym (sound-told (c .before .before .before .args .standing) _ _ (c .before .is-counted .ensures) (ap (λ (n : ℕ). eqb n 0) (c .chain-fault .ensures)))
 
 pub is-sound-spec : {M : Type 1} → statement M
-is-sound-spec = tie.close (tie.spec is-counted-requires chain-fault-requires returns)
+is-sound-spec = tie.close (tie.spec (search needs) (search needs) returns)

@@ -28,9 +28,6 @@ abbrev μ-loop : tie.MeasureT-loop
 long : (s : tie.Start Inv-loop μ-loop) → length (s .args .t1 .steps) ≡ 8
 long s = sym (length-map (s .args .t1 .steps) _) ∙ s .good .0 .1 .1 .0 .1 .0 .1
 
-is-profile-requires : tie.Need-is-profile-requires Inv-loop μ-loop
-is-profile-requires c κs = search needs
-
 -- the profile as it was handed over
 ranged : (c : tie.After-is-profile Inv-loop μ-loop) → c .is-profile .result ≡ profileRange (c .before .before .args .t1 .profile)
 ranged c = let e : toZ w64 (ofZ w64 (c .before .before .args .t1 .profile)) ≡ c .before .before .args .t1 .profile = search needs in rw e at (c .is-profile .ensures)
@@ -53,9 +50,6 @@ mul-step c = omega (arith, c .before .before .if2 .left, c .loop-test .taken)
 
 element-copy-out-step : tie.Need-element-copy-out-step Inv-loop μ-loop
 element-copy-out-step c = omega (arith, c .before .before .if2 .left, c .loop-test .taken)
-
-extend-requires : tie.Need-extend-requires Inv-loop μ-loop
-extend-requires c κs = search needs
 
 returns-3 : tie.Need-returns-3 Inv-loop μ-loop
 returns-3 c =
@@ -89,18 +83,5 @@ returns-4 c =
 pub prepare-spec : {M : Type 1} → statement M
 prepare-spec =
     tie.close
-    (tie.spec
-    Inv-loop
-    μ-loop
-    is-profile-requires
-    returns
-    returns-2
-    loop-holds
-    mul-step
-    element-copy-out-step
-    extend-requires
-    returns-3
-    add-i
-    loop-less
-    loop-again
-    returns-4)
+    (tie.spec Inv-loop μ-loop (search needs) returns returns-2 loop-holds mul-step element-copy-out-step (search needs) returns-3 add-i loop-less
+    loop-again returns-4)

@@ -26,24 +26,12 @@ abbrev μ-loop : tie.MeasureT-loop
 write-refusal-requires : tie.Need-write-refusal-requires Inv-loop μ-loop
 write-refusal-requires c κs = tt
 
-same-length : tie.Need-same-length Inv-loop μ-loop
-same-length c = search needs
-
 returns : tie.Need-returns Inv-loop μ-loop
 unfolding sheetOf
 returns c = prints roomy refl (rw (printed-long rules fresh (c .before .before .before .before .before .before .before .args .input .now) (omega (arith, c .before .before .before .before .if1 .taken))) (c .before .before .write-refusal .ensures))
 
-fresh-requires : tie.Need-fresh-requires Inv-loop μ-loop
-fresh-requires c κs = search needs
-
 loop-holds : tie.Need-loop-holds Inv-loop μ-loop
 loop-holds c = starts rules _ fresh refl _ _ (c .fresh .ensures)
-
-shared-slice-read-if2 : tie.Need-shared-slice-read-if2 Inv-loop μ-loop
-shared-slice-read-if2 c = search needs
-
-write-feeds-requires : tie.Need-write-feeds-requires Inv-loop μ-loop
-write-feeds-requires c κs = search needs
 
 passed-requires : tie.Need-passed-requires Inv-loop μ-loop
 passed-requires c κs = let k = c .before .before .before .before .before .before .before .loop .inv in let l = row-inside (c .before .before .write-feeds .result .lines) _ (c .before .before .before .before .before .before .before .loop .from) (c .before .before .before .before .before .before .before .loop .inv .inside) (c .before .before .write-feeds .ensures .each) in omega (arith, l, k .counted, k .held .line, c .before .before .before .before .before .before .before .before .before .if1 .left)
@@ -57,9 +45,6 @@ loop-less c = let h = c .before .before .before .write-feeds .ensures .some (rec
 loop-again : tie.Need-loop-again Inv-loop μ-loop
 loop-again c = goes-past rules _ fresh refl _ _ bare _ (λ s h. (h .line, rw (c .passed .ensures) (hold-feeds _ h))) (c .before .before .before .write-feeds .ensures) (c .before .before .before .before .before .before .before .before .loop .inv)
 
-line-end-requires : tie.Need-line-end-requires Inv-loop μ-loop
-line-end-requires c κs = search needs
-
 sub-begins-with : tie.Need-sub-begins-with Inv-loop μ-loop
 sub-begins-with c = let l = piece _ _ _ (c .line-end .ensures) (omega arith) in omega arith
 
@@ -68,9 +53,6 @@ part-begins-with-start c = let l = piece _ _ _ (c .line-end .ensures) (omega ari
 
 part-begins-with-end : tie.Need-part-begins-with-end Inv-loop μ-loop
 part-begins-with-end c = let l = piece _ _ _ (c .line-end .ensures) (omega arith) in omega arith
-
-begins-with-requires : tie.Need-begins-with-requires Inv-loop μ-loop
-begins-with-requires c κs = search needs
 
 sub-print-point : tie.Need-sub-print-point Inv-loop μ-loop
 sub-print-point c = let l = piece _ _ _ (c .before .before .before .before .line-end .ensures) (omega arith) in omega arith
@@ -96,9 +78,6 @@ part-decide-end c = let l = piece _ _ _ (c .before .before .before .before .line
 decide-requires : tie.Need-decide-requires Inv-loop μ-loop
 decide-requires c κs = let l = piece _ _ _ (c .before .before .before .before .before .line-end .ensures) (omega arith) in let k = c .before .before .before .before .before .before .before .before .before .loop .inv in (omega (arith, k .counted, k .held .line, k .inside, c .before .before .before .before .before .before .before .before .before .before .before .if1 .left), omega (arith, l .some, l .size))
 
-write-reply-requires : tie.Need-write-reply-requires Inv-loop μ-loop
-write-reply-requires c κs = search needs
-
 loop-less-2 : tie.Need-loop-less-2 Inv-loop μ-loop
 loop-less-2 c = let l = piece _ _ _ (c .before .before .before .before .before .before .before .before .before .before .line-end .ensures) (omega arith) in omega arith
 
@@ -121,37 +100,7 @@ returns-2 c = prints roomy refl (ends rules _ fresh refl _ _ (omega (arith, c .b
 pub sheet-spec : {M : Type 1} → statement M
 sheet-spec =
     tie.close
-    (tie.spec
-    Inv-loop
-    μ-loop
-    write-refusal-requires
-    same-length
-    returns
-    fresh-requires
-    loop-holds
-    shared-slice-read-if2
-    write-feeds-requires
-    passed-requires
-    add-from
-    loop-less
-    loop-again
-    line-end-requires
-    sub-begins-with
-    part-begins-with-start
-    part-begins-with-end
-    begins-with-requires
-    sub-print-point
-    part-print-point-start
-    part-print-point-end
-    print-point-requires
-    sub-decide
-    part-decide-start
-    part-decide-end
-    decide-requires
-    write-reply-requires
-    loop-less-2
-    loop-again-2
-    loop-less-3
-    loop-again-3
-    same-length-2
-    returns-2)
+    (tie.spec Inv-loop μ-loop write-refusal-requires (search needs) returns (search needs) loop-holds (search needs) (search needs) passed-requires
+    add-from loop-less loop-again (search needs) sub-begins-with part-begins-with-start part-begins-with-end (search needs) sub-print-point
+    part-print-point-start part-print-point-end print-point-requires sub-decide part-decide-start part-decide-end decide-requires (search needs)
+    loop-less-2 loop-again-2 loop-less-3 loop-again-3 same-length-2 returns-2)

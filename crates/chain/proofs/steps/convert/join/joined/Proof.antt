@@ -19,27 +19,6 @@ long-first s = sym (length-map (s .args .first .steps) _) ∙ s .good .0 .1 .1 .
 long-second : (s : tie.Start) → length (s .args .second .steps) ≡ 8
 long-second s = sym (length-map (s .args .second .steps) _) ∙ s .good .1 .0 .1 .1 .0 .1 .0 .1
 
-add-length : tie.Need-add-length
-add-length c = search needs
-
-place-requires : tie.Need-place-requires
-place-requires c κs = search needs
-
-place-requires-2 : tie.Need-place-requires-2
-place-requires-2 c κs = search needs
-
-place-requires-3 : tie.Need-place-requires-3
-place-requires-3 c κs = search needs
-
-place-requires-4 : tie.Need-place-requires-4
-place-requires-4 c κs = search needs
-
-place-requires-5 : tie.Need-place-requires-5
-place-requires-5 c κs = search needs
-
-place-requires-6 : tie.Need-place-requires-6
-place-requires-6 c κs = search needs
-
 place-requires-7 : tie.Need-place-requires-7
 place-requires-7 c κs = (c .before .before .before .before .before .before .before .before .before .pre, omega arith)
 
@@ -63,14 +42,5 @@ returns c =
 pub joined-spec : {M : Type 1} → statement M
 joined-spec =
     tie.close
-    (tie.spec
-    add-length
-    place-requires
-    place-requires-2
-    place-requires-3
-    place-requires-4
-    place-requires-5
-    place-requires-6
-    place-requires-7
-    place-requires-8
+    (tie.spec (search needs) (search needs) (search needs) (search needs) (search needs) (search needs) (search needs) place-requires-7 place-requires-8
     returns)

@@ -34,9 +34,6 @@ met c b e = sym (c .chains-meet .ensures) ∙ e
 returns : tie.Need-returns
 returns c = let m = met (c .before) _ (not-true _ (c .if1 .taken)) in rw m
 
-add-if2 : tie.Need-add-if2
-add-if2 c = search needs
-
 returns-2 : tie.Need-returns-2
 returns-2 c =
     let a = c .before .before .before .before in
@@ -80,4 +77,4 @@ returns-4 c =
     rw (meets e, n, p)
 
 pub pair-fault-spec : {M : Type 1} → statement M
-pair-fault-spec = tie.close (tie.spec chains-meet-requires returns add-if2 returns-2 equal-requires returns-3 returns-4)
+pair-fault-spec = tie.close (tie.spec chains-meet-requires returns (search needs) returns-2 equal-requires returns-3 returns-4)

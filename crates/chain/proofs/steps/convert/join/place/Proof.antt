@@ -1,6 +1,5 @@
 -- `chain::steps::convert::join::place` meets its contract. Assumes nothing.
 use mathlib.Core.Path.{_≡_, sym, _∙_}
-use native.Mathlib.Omega.{arith}
 use borrow.Author.Needs.{needs}
 use lib.ListN.{length, length-map}
 use Rattle.chain.proofs.Joins.{in-first, in-second, in-neither}
@@ -13,33 +12,15 @@ long-first s = sym (length-map (s .args .t1 .steps) _) ∙ s .good .0 .1 .1 .0 .
 long-second : (s : tie.Start) → length (s .args .t2 .steps) ≡ 8
 long-second s = sym (length-map (s .args .t2 .steps) _) ∙ s .good .1 .0 .1 .1 .0 .1 .0 .1
 
-mul-result : tie.Need-mul-result
-mul-result c = search needs
-
-element-copy-out-result : tie.Need-element-copy-out-result
-element-copy-out-result c = search needs
-
 returns : tie.Need-returns
 returns c =
     let s = c .before .before in
     in-first (s .args .t1) (s .args .t2) (long-first s) (long-second s) (s .pre .0) (s .args .index) (c .before .if1 .taken)
 
-mul-result-2 : tie.Need-mul-result-2
-mul-result-2 c = search needs
-
-element-copy-out-result-2 : tie.Need-element-copy-out-result-2
-element-copy-out-result-2 c = search needs
-
 returns-2 : tie.Need-returns-2
 returns-2 c =
     let s = c .before .before .before in
     in-second (s .args .t1) (s .args .t2) (long-first s) (long-second s) (s .pre .0) (s .args .index) (c .before .before .if1 .left) (c .before .if2 .taken)
-
-mul-result-3 : tie.Need-mul-result-3
-mul-result-3 c = search needs
-
-element-copy-out-result-3 : tie.Need-element-copy-out-result-3
-element-copy-out-result-3 c = search needs
 
 returns-3 : tie.Need-returns-3
 returns-3 c =
@@ -49,13 +30,4 @@ returns-3 c =
 pub place-spec : {M : Type 1} → statement M
 place-spec =
     tie.close
-    (tie.spec
-    mul-result
-    element-copy-out-result
-    returns
-    mul-result-2
-    element-copy-out-result-2
-    returns-2
-    mul-result-3
-    element-copy-out-result-3
-    returns-3)
+    (tie.spec (search needs) (search needs) returns (search needs) (search needs) returns-2 (search needs) (search needs) returns-3)

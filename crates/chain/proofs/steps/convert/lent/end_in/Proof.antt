@@ -14,12 +14,6 @@ returns : tie.Need-returns
 unfolding endOf
 returns c = let s = c .before .args in ap (λ (n : ℕ). endOf (s .r) (take n (placesFrom (s .steps .now)))) (sym (c .if1 .taken))
 
-sub-after-at : tie.Need-sub-after-at
-sub-after-at c = search needs
-
-after-at-requires : tie.Need-after-at-requires
-after-at-requires c κs = search needs
-
 returns-2 : tie.Need-returns-2
 returns-2 c =
     let s = c .before .before in
@@ -28,4 +22,4 @@ returns-2 c =
     c .after-at .ensures ∙ sym (ends-at (s .args .steps .now) (s .args .r) (s .pre) (n - 1) last)
 
 pub end-in-spec : {M : Type 1} → statement M
-end-in-spec = tie.close (tie.spec returns sub-after-at after-at-requires returns-2)
+end-in-spec = tie.close (tie.spec returns (search needs) (search needs) returns-2)

@@ -17,9 +17,6 @@ use Rattle.chain.proofs.LentSteps.{lent-holds}
 use Rattle.chain.proofs.steps.convert.lent.forward_by.Statement.{statement}
 use Rattle.chain.proofs.steps.convert.lent.forward_by.Tie as tie
 
-fault-in-requires : tie.Need-fault-in-requires
-fault-in-requires c κs = search needs
-
 module _ (s : tie.Start) where
   abbrev chain : Chain
   chain = chainFrom (s .args .profile) (s .args .steps .now)
@@ -44,17 +41,11 @@ good : (c : tie.Else1) → first (chainTests (chain (c .before .before))) ≡ 0
 good c = sym (lent (c .before)) ∙ c .if1 .left
 
 returns : tie.Need-returns
-unfolding forwardOf chainFrom
+unfolding forwardOf
 returns c =
     let s = c .before .before in
     let f = lent (c .before) in
     ap Refused f ∙ by-chain (chain s) (s .args .point) (wanted s) (reached s) (walked s) (λ e. c .if1 .taken (f ∙ e))
-
-start-in-requires : tie.Need-start-in-requires
-start-in-requires c κs = search needs
-
-entry-fault-requires : tie.Need-entry-fault-requires
-entry-fault-requires c κs = search needs
 
 -- what the point is refused for
 module _ (c : tie.After-entry-fault) where
@@ -68,7 +59,7 @@ module _ (c : tie.After-entry-fault) where
   found = c .entry-fault .ensures ∙ ap₂ (λ (y : ℤ) (r : Realization). entry y (start .args .point) r) (rd (start .fits .profile)) (c .before .start-in .ensures)
 
 returns-2 : tie.Need-returns-2
-unfolding forwardOf chainFrom
+unfolding forwardOf
 returns-2 c =
     let s = start (c .before) in
     let f = found (c .before) in
@@ -86,7 +77,7 @@ forward-walk-requires c κs =
     )
 
 returns-3 : tie.Need-returns-3
-unfolding forwardOf chainFrom
+unfolding forwardOf
 returns-3 c =
     let e = c .before .before .before in
     let s = start e in
@@ -94,4 +85,4 @@ returns-3 c =
     ∙ by-walk (chain s) (s .args .point) (wanted s) (reached s) (walked s) (good (past e)) (sym (found e) ∙ c .before .before .if2 .left)
 
 pub forward-by-spec : {M : Type 1} → statement M
-forward-by-spec = tie.close (tie.spec fault-in-requires returns start-in-requires entry-fault-requires returns-2 end-in-requires forward-walk-requires returns-3)
+forward-by-spec = tie.close (tie.spec (search needs) returns (search needs) (search needs) returns-2 end-in-requires forward-walk-requires returns-3)

@@ -62,9 +62,6 @@ forward-step-requires c κs =
     let l = c .before in
     (subst⁻¹ StepOk (c .step-at .ensures) (sound-step (ns l) (holds l .0) (i l) (below l) (holds l .1)), at l .loop .inv .1)
 
-in-area-requires : tie.Need-in-area-requires Inv-loop μ-loop
-in-area-requires c κs = search needs
-
 -- a turn: that step, then the rest
 module _ (c : tie.After-in-area Inv-loop μ-loop) where
   abbrev l : tie.In-loop Inv-loop μ-loop
@@ -84,25 +81,13 @@ module _ (c : tie.After-in-area Inv-loop μ-loop) where
 
 returns : tie.Need-returns Inv-loop μ-loop
 unfolding answerOf
-returns c =
-    let a = c .before in
-    let s = start (l a) in
-    ap (answerOf (s .args .point) (s .args .reached)) (gone a (area a false (not-true _ (c .if1 .taken))))
-
-add-i : tie.Need-add-i Inv-loop μ-loop
-add-i c = search needs
-
-loop-less : tie.Need-loop-less Inv-loop μ-loop
-loop-less c = omega arith
+returns c = let s = start (l (c .before)) .args in ap (answerOf (s .point) (s .reached)) (gone (c .before) (area (c .before) false (not-true _ (c .if1 .taken))))
 
 loop-again : tie.Need-loop-again Inv-loop μ-loop
 loop-again c =
     let a = c .before in
     let h = area a true (not-false _ (c .if1 .left)) in
     (omega arith, h, onward a h)
-
-moved-to-requires : tie.Need-moved-to-requires Inv-loop μ-loop
-moved-to-requires c κs = search needs
 
 returns-2 : tie.Need-returns-2 Inv-loop μ-loop
 unfolding answerOf walk
@@ -115,4 +100,4 @@ returns-2 c =
     ap Converted (c .moved-to .ensures) ∙ ap (answerOf (s .args .point) (s .args .reached)) (ap (λ (ss : List Step). walk forwardStep ss (at .p)) (sym none) ∙ at .inv .2)
 
 pub forward-walk-spec : {M : Type 1} → statement M
-forward-walk-spec = tie.close (tie.spec Inv-loop μ-loop loop-holds step-at-requires forward-step-requires in-area-requires returns add-i loop-less loop-again moved-to-requires returns-2)
+forward-walk-spec = tie.close (tie.spec Inv-loop μ-loop loop-holds step-at-requires forward-step-requires (search needs) returns (search needs) (search needs) loop-again (search needs) returns-2)

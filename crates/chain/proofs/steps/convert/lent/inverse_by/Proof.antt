@@ -17,9 +17,6 @@ use Rattle.chain.proofs.LentSteps.{lent-holds}
 use Rattle.chain.proofs.steps.convert.lent.inverse_by.Statement.{statement}
 use Rattle.chain.proofs.steps.convert.lent.inverse_by.Tie as tie
 
-fault-in-requires : tie.Need-fault-in-requires
-fault-in-requires c κs = search needs
-
 module _ (s : tie.Start) where
   abbrev chain : Chain
   chain = chainFrom (s .args .profile) (s .args .steps .now)
@@ -44,7 +41,7 @@ good : (c : tie.Else1) → first (chainTests (chain (c .before .before))) ≡ 0
 good c = sym (lent (c .before)) ∙ c .if1 .left
 
 returns : tie.Need-returns
-unfolding inverseOf chainFrom
+unfolding inverseOf
 returns c =
     let s = c .before .before in
     let f = lent (c .before) in
@@ -52,9 +49,6 @@ returns c =
 
 end-in-requires : tie.Need-end-in-requires
 end-in-requires c κs = let s = c .before .before .before in lent-holds (s .args .profile) (s .args .steps .now) (good (c .before)) .0
-
-entry-fault-requires : tie.Need-entry-fault-requires
-entry-fault-requires c κs = search needs
 
 -- what the point is refused for
 module _ (c : tie.After-entry-fault) where
@@ -68,14 +62,11 @@ module _ (c : tie.After-entry-fault) where
   found = c .entry-fault .ensures ∙ ap₂ (λ (y : ℤ) (r : Realization). entry y (start .args .point) r) (rd (start .fits .profile)) (c .before .end-in .ensures)
 
 returns-2 : tie.Need-returns-2
-unfolding inverseOf chainFrom
+unfolding inverseOf
 returns-2 c =
     let s = start (c .before) in
     let f = found (c .before) in
     ap Refused f ∙ by-point (chain s) (s .args .point) (wanted s) (reached s) (walked s) (good (past (c .before))) (λ e. c .if2 .taken (f ∙ e))
-
-start-in-requires : tie.Need-start-in-requires
-start-in-requires c κs = search needs
 
 inverse-walk-requires : tie.Need-inverse-walk-requires
 inverse-walk-requires c κs =
@@ -86,7 +77,7 @@ inverse-walk-requires c κs =
     )
 
 returns-3 : tie.Need-returns-3
-unfolding inverseOf chainFrom
+unfolding inverseOf
 returns-3 c =
     let e = c .before .before .before in
     let s = start e in
@@ -94,4 +85,4 @@ returns-3 c =
     ∙ by-walk (chain s) (s .args .point) (wanted s) (reached s) (walked s) (good (past e)) (sym (found e) ∙ c .before .before .if2 .left)
 
 pub inverse-by-spec : {M : Type 1} → statement M
-inverse-by-spec = tie.close (tie.spec fault-in-requires returns end-in-requires entry-fault-requires returns-2 start-in-requires inverse-walk-requires returns-3)
+inverse-by-spec = tie.close (tie.spec (search needs) returns end-in-requires (search needs) returns-2 (search needs) inverse-walk-requires returns-3)

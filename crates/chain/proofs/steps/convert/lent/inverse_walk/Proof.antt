@@ -28,9 +28,6 @@ abbrev μ-loop : tie.MeasureT-loop
 loop-holds : tie.Need-loop-holds Inv-loop μ-loop
 loop-holds c = (omega arith, c .before .pre .1, refl)
 
-sub-i : tie.Need-sub-i Inv-loop μ-loop
-sub-i c = search needs
-
 -- the step at the place that the loop has come to
 module _ (c : tie.In-loop Inv-loop μ-loop) where
   abbrev start : tie.Start Inv-loop μ-loop
@@ -72,9 +69,6 @@ inverse-step-requires c κs =
     let l = c .before in
     (subst⁻¹ StepOk (c .step-at .ensures) (sound-step (ns l) (holds l .0) (i l) (below l) (holds l .1)), at l .loop .inv .1)
 
-in-area-requires : tie.Need-in-area-requires Inv-loop μ-loop
-in-area-requires c κs = search needs
-
 -- a turn: that step, then the rest
 module _ (c : tie.After-in-area Inv-loop μ-loop) where
   abbrev l : tie.In-loop Inv-loop μ-loop
@@ -94,22 +88,13 @@ module _ (c : tie.After-in-area Inv-loop μ-loop) where
 
 returns : tie.Need-returns Inv-loop μ-loop
 unfolding answerOf
-returns c =
-    let a = c .before in
-    let s = start (l a) in
-    ap (answerOf (s .args .point) (s .args .reached)) (gone a (area a false (not-true _ (c .if1 .taken))))
-
-loop-less : tie.Need-loop-less Inv-loop μ-loop
-loop-less c = omega arith
+returns c = let s = start (l (c .before)) .args in ap (answerOf (s .point) (s .reached)) (gone (c .before) (area (c .before) false (not-true _ (c .if1 .taken))))
 
 loop-again : tie.Need-loop-again Inv-loop μ-loop
 loop-again c =
     let a = c .before in
     let h = area a true (not-false _ (c .if1 .left)) in
     (omega (arith, below (l a)), h, onward a h)
-
-moved-to-requires : tie.Need-moved-to-requires Inv-loop μ-loop
-moved-to-requires c κs = search needs
 
 returns-2 : tie.Need-returns-2 Inv-loop μ-loop
 unfolding answerOf walk
@@ -120,4 +105,4 @@ returns-2 c =
     ap Converted (c .moved-to .ensures) ∙ ap (answerOf (s .args .point) (s .args .reached)) (ap (λ (k : ℕ). walk inverseStep (reverse (take k (placesFrom (s .args .steps .now)))) (at .p)) (sym none) ∙ at .inv .2)
 
 pub inverse-walk-spec : {M : Type 1} → statement M
-inverse-walk-spec = tie.close (tie.spec Inv-loop μ-loop loop-holds sub-i step-at-requires inverse-step-requires in-area-requires returns loop-less loop-again moved-to-requires returns-2)
+inverse-walk-spec = tie.close (tie.spec Inv-loop μ-loop loop-holds (search needs) step-at-requires inverse-step-requires (search needs) returns (search needs) loop-again (search needs) returns-2)

@@ -18,11 +18,8 @@ returns c =
     let none : length (s .steps .now) / 13 ≡ 0 = omega (arith, c .if1 .taken) in
     ap (λ (n : ℕ). startOf (s .r) (take n (placesFrom (s .steps .now)))) (sym none)
 
-before-in-requires : tie.Need-before-in-requires
-before-in-requires c κs = search needs
-
 returns-2 : tie.Need-returns-2
 returns-2 c = let s = c .before .before .args in c .before-in .ensures ∙ sym (starts-at (s .steps .now) (s .r) (omega (arith, c .before .if1 .left)))
 
 pub start-in-spec : {M : Type 1} → statement M
-start-in-spec = tie.close (tie.spec returns before-in-requires returns-2)
+start-in-spec = tie.close (tie.spec returns (search needs) returns-2)

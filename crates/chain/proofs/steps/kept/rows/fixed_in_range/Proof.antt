@@ -9,9 +9,6 @@ use borrow.Author.Needs.{needs}
 use Rattle.chain.proofs.steps.kept.rows.fixed_in_range.Statement.{statement}
 use Rattle.chain.proofs.steps.kept.rows.fixed_in_range.Tie as tie
 
-three-within-requires : tie.Need-three-within-requires
-three-within-requires c κs = search needs
-
 returns : tie.Need-returns
 unfolding readyRange
 returns c =
@@ -19,4 +16,4 @@ returns c =
     c .three-within .ensures ∙ of₃ (λ (x y z : ℤ). upTo 100000000 x && upTo 100000000 y && upTo 100000000 z) (told (t .0 .1)) (told (t .1 .0 .1)) (told (t .1 .1 .0 .1))
 
 pub fixed-in-range-spec : {M : Type 1} → statement M
-fixed-in-range-spec = tie.close (tie.spec three-within-requires returns)
+fixed-in-range-spec = tie.close (tie.spec (search needs) returns)

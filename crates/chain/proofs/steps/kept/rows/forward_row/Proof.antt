@@ -11,81 +11,6 @@ use borrow.Author.Needs.{needs}
 use Rattle.chain.proofs.steps.kept.rows.forward_row.Statement.{statement}
 use Rattle.chain.proofs.steps.kept.rows.forward_row.Tie as tie
 
-mul-at : tie.Need-mul-at
-mul-at c = search needs
-
-mul-moved-by : tie.Need-mul-moved-by
-mul-moved-by c = search needs
-
-element-copy-out-moved-by : tie.Need-element-copy-out-moved-by
-element-copy-out-moved-by c = search needs
-
-add-moved-by : tie.Need-add-moved-by
-add-moved-by c = search needs
-
-mul-moved-by-2 : tie.Need-mul-moved-by-2
-mul-moved-by-2 c = search needs
-
-element-copy-out-moved-by-2 : tie.Need-element-copy-out-moved-by-2
-element-copy-out-moved-by-2 c = search needs
-
-add-moved-by-2 : tie.Need-add-moved-by-2
-add-moved-by-2 c = search needs
-
-mul-moved-by-3 : tie.Need-mul-moved-by-3
-mul-moved-by-3 c = search needs
-
-element-copy-out-moved-by-3 : tie.Need-element-copy-out-moved-by-3
-element-copy-out-moved-by-3 c = search needs
-
-add-moved-by-3 : tie.Need-add-moved-by-3
-add-moved-by-3 c = search needs
-
-mul-moved-by-4 : tie.Need-mul-moved-by-4
-mul-moved-by-4 c = search needs
-
-element-copy-out-moved-by-4 : tie.Need-element-copy-out-moved-by-4
-element-copy-out-moved-by-4 c = search needs
-
-add-moved-by-4 : tie.Need-add-moved-by-4
-add-moved-by-4 c = search needs
-
-mul-moved-by-5 : tie.Need-mul-moved-by-5
-mul-moved-by-5 c = search needs
-
-element-copy-out-moved-by-5 : tie.Need-element-copy-out-moved-by-5
-element-copy-out-moved-by-5 c = search needs
-
-add-moved-by-5 : tie.Need-add-moved-by-5
-add-moved-by-5 c = search needs
-
-mul-moved-by-6 : tie.Need-mul-moved-by-6
-mul-moved-by-6 c = search needs
-
-element-copy-out-moved-by-6 : tie.Need-element-copy-out-moved-by-6
-element-copy-out-moved-by-6 c = search needs
-
-add-moved-by-6 : tie.Need-add-moved-by-6
-add-moved-by-6 c = search needs
-
-mul-moved-by-7 : tie.Need-mul-moved-by-7
-mul-moved-by-7 c = search needs
-
-element-copy-out-moved-by-7 : tie.Need-element-copy-out-moved-by-7
-element-copy-out-moved-by-7 c = search needs
-
-add-moved-by-7 : tie.Need-add-moved-by-7
-add-moved-by-7 c = search needs
-
-mul-moved-by-8 : tie.Need-mul-moved-by-8
-mul-moved-by-8 c = search needs
-
-element-copy-out-moved-by-8 : tie.Need-element-copy-out-moved-by-8
-element-copy-out-moved-by-8 c = search needs
-
-moved-by-requires : tie.Need-moved-by-requires
-moved-by-requires c κs = search needs
-
 returns : tie.Need-returns
 unfolding rowAt readyAt
 returns c =
@@ -103,30 +28,6 @@ returns c =
 pub forward-row-spec : {M : Type 1} → statement M
 forward-row-spec =
     tie.close
-    (tie.spec
-    mul-at
-    mul-moved-by
-    element-copy-out-moved-by
-    add-moved-by
-    mul-moved-by-2
-    element-copy-out-moved-by-2
-    add-moved-by-2
-    mul-moved-by-3
-    element-copy-out-moved-by-3
-    add-moved-by-3
-    mul-moved-by-4
-    element-copy-out-moved-by-4
-    add-moved-by-4
-    mul-moved-by-5
-    element-copy-out-moved-by-5
-    add-moved-by-5
-    mul-moved-by-6
-    element-copy-out-moved-by-6
-    add-moved-by-6
-    mul-moved-by-7
-    element-copy-out-moved-by-7
-    add-moved-by-7
-    mul-moved-by-8
-    element-copy-out-moved-by-8
-    moved-by-requires
-    returns)
+    (tie.spec (search needs) (search needs) (search needs) (search needs) (search needs) (search needs) (search needs) (search needs) (search needs)
+    (search needs) (search needs) (search needs) (search needs) (search needs) (search needs) (search needs) (search needs) (search needs)
+    (search needs) (search needs) (search needs) (search needs) (search needs) (search needs) (λ c κs. search needs) returns)

@@ -17,15 +17,9 @@ use Rattle.chain.proofs.Forms.{Leads, no-form, by-form}
 use Rattle.chain.proofs.steps.kept.rows.moved_by.Statement.{statement}
 use Rattle.chain.proofs.steps.kept.rows.moved_by.Tie as tie
 
-within-requires : tie.Need-within-requires
-within-requires c κs = search needs
-
 -- whether the form is one of the three, as the test reads it
 formed : (c : tie.After-within) (b : Bool) → c .within .result ≡ b → formRange (c .before .args .form) ≡ b
 formed c b e = sym (c .within .ensures ∙ ap (λ (z : ℤ). within (pos 0) z (pos 2)) (rd (c .before .fits .form))) ∙ e
-
-nowhere-requires : tie.Need-nowhere-requires
-nowhere-requires c κs = search needs
 
 returns : tie.Need-returns
 returns c =
@@ -44,12 +38,6 @@ module _ (s : tie.Start) where
   lead : (m : Moved) (r : Ready) → r ≡ readyOf (s .args .form) (s .args .a) (s .args .b) (s .args .c) (s .args .d) (s .args .e) (s .args .f) (s .args .g) → formRange (s .args .form) ≡ true → Stepped (readyRange r) (readyParts r) (s .args .p) m → Leads (s .args .form) (s .args .a) (s .args .b) (s .args .c) (s .args .d) (s .args .e) (s .args .f) (s .args .g) (s .args .p) m
   lead m r w h t = by-form (s .args .form) (s .args .a) (s .args .b) (s .args .c) (s .args .d) (s .args .e) (s .args .f) (s .args .g) (s .args .p) m r w h t
 
-equal-requires : tie.Need-equal-requires
-equal-requires c κs = search needs
-
-fixed-moved-requires : tie.Need-fixed-moved-requires
-fixed-moved-requires c κs = search needs
-
 returns-2 : tie.Need-returns-2
 returns-2 c =
     let s = c .before .before .before .before .before in
@@ -57,12 +45,6 @@ returns-2 c =
     lead s (c .fixed-moved .result) (Fixed (position (read s (s .args .a)) (read s (s .args .b)) (read s (s .args .c)))) (rw (e, rd (s .fits .a), rd (s .fits .b), rd (s .fits .c)))
     (formed (c .before .before .before .before) true (not-false _ (c .before .before .before .if1 .left)))
     (c .fixed-moved .ensures)
-
-equal-requires-2 : tie.Need-equal-requires-2
-equal-requires-2 c κs = search needs
-
-turn-moved-requires : tie.Need-turn-moved-requires
-turn-moved-requires c κs = search needs
 
 returns-3 : tie.Need-returns-3
 returns-3 c =
@@ -84,9 +66,6 @@ returns-3 c =
     (formed (c .before .before .before .before .before .before) true (not-false _ (c .before .before .before .before .before .if1 .left)))
     (c .turn-moved .ensures)
 
-scale-moved-requires : tie.Need-scale-moved-requires
-scale-moved-requires c κs = search needs
-
 returns-4 : tie.Need-returns-4
 returns-4 c =
     let s = c .before .before .before .before .before .before .before in
@@ -101,15 +80,5 @@ returns-4 c =
 pub moved-by-spec : {M : Type 1} → statement M
 moved-by-spec =
     tie.close
-    (tie.spec
-    within-requires
-    nowhere-requires
-    returns
-    equal-requires
-    fixed-moved-requires
-    returns-2
-    equal-requires-2
-    turn-moved-requires
-    returns-3
-    scale-moved-requires
-    returns-4)
+    (tie.spec (search needs) (search needs) returns (search needs) (λ c κs. search needs) returns-2 (search needs) (λ c κs. search needs) returns-3
+    (λ c κs. search needs) returns-4)

@@ -3,8 +3,5 @@ use borrow.Author.Needs.{needs}
 use Rattle.chain.proofs.steps.kept.rows.nowhere.Statement.{statement}
 use Rattle.chain.proofs.steps.kept.rows.nowhere.Tie as tie
 
-returns : tie.Need-returns
-returns c = search needs
-
 pub nowhere-spec : {M : Type 1} → statement M
-nowhere-spec = tie.close (tie.spec returns)
+nowhere-spec = tie.close (tie.spec (search needs))

@@ -4,24 +4,6 @@ use borrow.Author.Needs.{needs}
 use Rattle.chain.proofs.steps.kept.rows.put_ready.Statement.{statement}
 use Rattle.chain.proofs.steps.kept.rows.put_ready.Tie as tie
 
-enum-known-r : tie.Need-enum-known-r
-enum-known-r c = search needs
-
-put-requires : tie.Need-put-requires
-put-requires c κs = search needs
-
-enum-known-r-2 : tie.Need-enum-known-r-2
-enum-known-r-2 c = search needs
-
-put-requires-2 : tie.Need-put-requires-2
-put-requires-2 c κs = search needs
-
-enum-known-r-3 : tie.Need-enum-known-r-3
-enum-known-r-3 c = search needs
-
-put-requires-3 : tie.Need-put-requires-3
-put-requires-3 c κs = search needs
-
 returns : tie.Need-returns
 returns c =
     let t = c .before .before .before .struct-told .given in
@@ -44,13 +26,4 @@ returns-3 c =
 pub put-ready-spec : {M : Type 1} → statement M
 put-ready-spec =
     tie.close
-    (tie.spec
-    enum-known-r
-    put-requires
-    enum-known-r-2
-    put-requires-2
-    enum-known-r-3
-    put-requires-3
-    returns
-    returns-2
-    returns-3)
+    (tie.spec (search needs) (search needs) (search needs) (search needs) (search needs) (search needs) returns returns-2 returns-3)

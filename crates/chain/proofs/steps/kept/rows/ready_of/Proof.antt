@@ -8,17 +8,11 @@ use borrow.Author.Needs.{needs}
 use Rattle.chain.proofs.steps.kept.rows.ready_of.Statement.{statement}
 use Rattle.chain.proofs.steps.kept.rows.ready_of.Tie as tie
 
-equal-requires : tie.Need-equal-requires
-equal-requires c κs = search needs
-
 returns : tie.Need-returns
 returns c =
     let s = c .before .before in
     let q : equal (pos 0) (s .args .form) ≡ true = sym (c .before .equal .ensures ∙ ap (equal (pos 0)) (rd (s .fits .form))) ∙ c .if1 .taken in
     rw (q, rd (s .fits .a), rd (s .fits .b), rd (s .fits .c))
-
-equal-requires-2 : tie.Need-equal-requires-2
-equal-requires-2 c κs = search needs
 
 returns-2 : tie.Need-returns-2
 returns-2 c =
@@ -39,4 +33,4 @@ returns-3 c =
     rw (q, r, rd (s .fits .a), rd (s .fits .b), rd (s .fits .c), rd (s .fits .d))
 
 pub ready-of-spec : {M : Type 1} → statement M
-ready-of-spec = tie.close (tie.spec equal-requires returns equal-requires-2 returns-2 returns-3)
+ready-of-spec = tie.close (tie.spec (search needs) returns (search needs) returns-2 returns-3)

@@ -13,24 +13,6 @@ use Rattle.chain.specs.Prepared.{readyRange, rowAt}
 use Rattle.chain.proofs.steps.kept.rows.row_at.Statement.{statement}
 use Rattle.chain.proofs.steps.kept.rows.row_at.Tie as tie
 
-mul-at : tie.Need-mul-at
-mul-at c = search needs
-
-mul-form : tie.Need-mul-form
-mul-form c = search needs
-
-element-copy-out-form : tie.Need-element-copy-out-form
-element-copy-out-form c = search needs
-
-ready-at-requires : tie.Need-ready-at-requires
-ready-at-requires c κs = search needs
-
-within-requires : tie.Need-within-requires
-within-requires c κs = search needs
-
-ready-in-range-requires : tie.Need-ready-in-range-requires
-ready-in-range-requires c κs = search needs
-
 returns : tie.Need-returns
 unfolding rowAt
 returns c =
@@ -43,4 +25,4 @@ returns c =
     (ap₂ _&&_ (c .before .within .ensures ∙ ap (λ (z : ℤ). within (pos 0) z (pos 2)) form) (c .ready-in-range .ensures ∙ ap readyRange ready)) ready
 
 pub row-at-spec : {M : Type 1} → statement M
-row-at-spec = tie.close (tie.spec mul-at mul-form element-copy-out-form ready-at-requires within-requires ready-in-range-requires returns)
+row-at-spec = tie.close (tie.spec (search needs) (search needs) (search needs) (search needs) (search needs) (search needs) returns)

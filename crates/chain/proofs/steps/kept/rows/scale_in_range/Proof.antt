@@ -9,12 +9,6 @@ use borrow.Author.Needs.{needs}
 use Rattle.chain.proofs.steps.kept.rows.scale_in_range.Statement.{statement}
 use Rattle.chain.proofs.steps.kept.rows.scale_in_range.Tie as tie
 
-three-within-requires : tie.Need-three-within-requires
-three-within-requires c κs = search needs
-
-within-requires : tie.Need-within-requires
-within-requires c κs = search needs
-
 returns : tie.Need-returns
 unfolding readyRange
 returns c =
@@ -24,4 +18,4 @@ returns c =
     ap₂ _&&_ (c2 .three-within .ensures ∙ of₃ (λ (x y z : ℤ). upTo 1971000000000000000 x && upTo 1971000000000000000 y && upTo 1971000000000000000 z) (told (t .0 .1)) (told (t .1 .0 .1)) (told (t .1 .1 .0 .1))) (c .within .ensures ∙ ap (upTo 1202000) (told (t .1 .1 .1 .0 .1)))
 
 pub scale-in-range-spec : {M : Type 1} → statement M
-scale-in-range-spec = tie.close (tie.spec three-within-requires within-requires returns)
+scale-in-range-spec = tie.close (tie.spec (search needs) (search needs) returns)

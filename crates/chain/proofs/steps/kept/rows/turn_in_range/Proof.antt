@@ -9,15 +9,6 @@ use borrow.Author.Needs.{needs}
 use Rattle.chain.proofs.steps.kept.rows.turn_in_range.Statement.{statement}
 use Rattle.chain.proofs.steps.kept.rows.turn_in_range.Tie as tie
 
-three-within-requires : tie.Need-three-within-requires
-three-within-requires c κs = search needs
-
-three-within-requires-2 : tie.Need-three-within-requires-2
-three-within-requires-2 c κs = search needs
-
-within-requires : tie.Need-within-requires
-within-requires c κs = search needs
-
 returns : tie.Need-returns
 unfolding readyRange
 returns c =
@@ -29,4 +20,4 @@ returns c =
 
 pub turn-in-range-spec : {M : Type 1} → statement M
 turn-in-range-spec =
-    tie.close (tie.spec three-within-requires three-within-requires-2 within-requires returns)
+    tie.close (tie.spec (search needs) (search needs) (search needs) returns)

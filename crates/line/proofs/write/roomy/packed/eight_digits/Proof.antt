@@ -10,21 +10,9 @@ use Rattle.line.proofs.write.roomy.packed.pairs_of.Reads as pairs-of-re
 use Rattle.line.proofs.write.roomy.packed.put_word.Reads as put-word-reads
 use Rattle.line.proofs.write.roomy.packed.spread.Reads as spread-reads
 
--- src/write/roomy/packed.rt:71:20
-pairs-of-requires : tie.Need-pairs-of-requires
-pairs-of-requires c κs = search needs
-
 -- src/write/roomy/packed.rt:71:9
 spread-requires : tie.Need-spread-requires
 spread-requires c κs = rw (c .pairs-of .ensures) (P.pairs-good (c .before .before .args .n) (c .before .before .pre .0))
-
--- src/write/roomy/packed.rt:72:5
-put-word-requires : tie.Need-put-word-requires
-put-word-requires c κs = search needs
-
--- src/write/roomy/packed.rt:67:1
-same-length : tie.Need-same-length
-same-length c = search needs
 
 -- src/write/roomy/packed.rt:67:1
 returns : tie.Need-returns
@@ -32,4 +20,4 @@ returns c = let s = c .before .before .before .before .before .before .before in
 
 pub eight-digits-spec : {M : Type 1} → statement M
 eight-digits-spec =
-    tie.close (tie.spec pairs-of-requires spread-requires put-word-requires same-length returns)
+    tie.close (tie.spec (search needs) spread-requires (search needs) (search needs) returns)

@@ -10,25 +10,9 @@ use Rattle.line.proofs.write.roomy.packed.four_digits.Lts as lts
 use Rattle.line.proofs.write.roomy.packed.put_half.Reads as put-half-reads
 use Rattle.line.proofs.write.roomy.packed.spread.Reads as spread-reads
 
--- src/write/roomy/packed.rt:63:20
-mul-spread : tie.Need-mul-spread
-mul-spread c = search needs
-
--- src/write/roomy/packed.rt:63:20
-add-spread : tie.Need-add-spread
-add-spread c = search needs
-
 -- src/write/roomy/packed.rt:63:9
 spread-requires : tie.Need-spread-requires
 spread-requires c κs = let s = c .before in P.two-good (s .args .n % 100) (s .args .n / 100) (omega arith) (omega (arith, s .pre .0))
-
--- src/write/roomy/packed.rt:64:5
-put-half-requires : tie.Need-put-half-requires
-put-half-requires c κs = search needs
-
--- src/write/roomy/packed.rt:59:1
-same-length : tie.Need-same-length
-same-length c = search needs
 
 -- src/write/roomy/packed.rt:59:1
 returns : tie.Need-returns
@@ -37,4 +21,4 @@ returns c = let s = c .before .before .before .before .before .before in T.named
 pub four-digits-spec : {M : Type 1} → statement M
 four-digits-spec =
     tie.close
-    (tie.spec mul-spread add-spread spread-requires put-half-requires same-length returns)
+    (tie.spec (search needs) (search needs) spread-requires (search needs) (search needs) returns)

@@ -8,20 +8,8 @@ use Rattle.line.proofs.write.roomy.packed.further.Lts as lts
 use Rattle.line.proofs.write.roomy.packed.reaches.Reads as reaches-reads
 
 -- src/write/roomy/packed.rt:87:5
-reaches-requires : tie.Need-reaches-requires
-reaches-requires c κs = search needs
-
--- src/write/roomy/packed.rt:87:22
-reaches-requires-2 : tie.Need-reaches-requires-2
-reaches-requires-2 c κs = search needs
-
--- src/write/roomy/packed.rt:87:5
 add-result : tie.Need-add-result
 add-result c = let n = c .before .before .args .n in omega (arith, P.reach-most n 10 _ (c .before .reaches .ensures), P.reach-most n 100 _ (c .reaches2 .ensures))
-
--- src/write/roomy/packed.rt:87:40
-reaches-requires-3 : tie.Need-reaches-requires-3
-reaches-requires-3 c κs = search needs
 
 -- src/write/roomy/packed.rt:87:5
 add-result-2 : tie.Need-add-result-2
@@ -34,10 +22,4 @@ returns c = P.further-is _ _ _ _ (c .before .before .reaches .ensures) (c .befor
 pub further-spec : {M : Type 1} → statement M
 further-spec =
     tie.close
-    (tie.spec
-    reaches-requires
-    reaches-requires-2
-    add-result
-    reaches-requires-3
-    add-result-2
-    returns)
+    (tie.spec (search needs) (search needs) add-result (search needs) add-result-2 returns)

@@ -13,22 +13,6 @@ use Rattle.line.proofs.write.roomy.packed.pairs_of.Lts as lts
 hundreds : (s : tie.Start) → bitAnd ((s .args .n % 10000 * 4294967296 + s .args .n / 10000) * 10486 / 1048576) 545460846719 ≡ s .args .n % 10000 / 100 * 4294967296 + s .args .n / 10000 / 100
 hundreds s = P.hundreds-is (s .args .n / 10000) (s .args .n % 10000) (omega (arith, s .pre)) (omega arith)
 
--- src/write/roomy/packed.rt:45:17
-mul-fours : tie.Need-mul-fours
-mul-fours c = search needs
-
--- src/write/roomy/packed.rt:45:17
-add-fours : tie.Need-add-fours
-add-fours c = search needs
-
--- src/write/roomy/packed.rt:46:21
-mul-hundreds : tie.Need-mul-hundreds
-mul-hundreds c = search needs
-
--- src/write/roomy/packed.rt:47:5
-mul-result : tie.Need-mul-result
-mul-result c = search needs
-
 -- src/write/roomy/packed.rt:47:21
 mul-result-2 : tie.Need-mul-result-2
 mul-result-2 c = omega (arith, hundreds c)
@@ -44,4 +28,4 @@ returns c = let n = c .args .n in ap (λ (t : ℕ). (n % 10000 * 4294967296 + n 
 pub pairs-of-spec : {M : Type 1} → statement M
 pairs-of-spec =
     tie.close
-    (tie.spec mul-fours add-fours mul-hundreds mul-result mul-result-2 sub-result returns)
+    (tie.spec (search needs) (search needs) (search needs) (search needs) mul-result-2 sub-result returns)

@@ -9,21 +9,9 @@ use Rattle.line.proofs.write.roomy.packed.put_half.Reads as reads
 use Rattle.line.proofs.write.roomy.packed.put_half.Lts as lts
 use Rattle.line.proofs.write.roomy.packed.put_pair.Reads as put-pair-reads
 
--- src/write/roomy/packed.rt:28:9
-put-pair-requires : tie.Need-put-pair-requires
-put-pair-requires c κs = search needs
-
--- src/write/roomy/packed.rt:29:5
-put-pair-requires-2 : tie.Need-put-pair-requires-2
-put-pair-requires-2 c κs = search needs
-
--- src/write/roomy/packed.rt:24:1
-same-length : tie.Need-same-length
-same-length c = search needs
-
 -- src/write/roomy/packed.rt:24:1
 returns : tie.Need-returns
 returns c = T.both 4 (c .before .before .before .before .before .before .put-pair .ensures) (c .before .before .put-pair2 .ensures) (omega arith) refl
 
 pub put-half-spec : {M : Type 1} → statement M
-put-half-spec = tie.close (tie.spec put-pair-requires put-pair-requires-2 same-length returns)
+put-half-spec = tie.close (tie.spec (search needs) (search needs) (search needs) returns)

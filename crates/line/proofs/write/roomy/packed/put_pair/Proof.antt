@@ -9,33 +9,9 @@ use Rattle.line.proofs.write.roomy.packed.put_pair.Tie as tie
 use Rattle.line.proofs.write.roomy.packed.put_pair.Reads as reads
 use Rattle.line.proofs.write.roomy.packed.put_pair.Lts as lts
 
--- src/write/roomy/packed.rt:19:15
-cast-out : tie.Need-cast-out
-cast-out c = search needs
-
--- src/write/roomy/packed.rt:19:5
-slice-write-out : tie.Need-slice-write-out
-slice-write-out c = search needs
-
--- src/write/roomy/packed.rt:20:19
-cast-out-2 : tie.Need-cast-out-2
-cast-out-2 c = search needs
-
--- src/write/roomy/packed.rt:20:9
-add-out : tie.Need-add-out
-add-out c = search needs
-
 -- src/write/roomy/packed.rt:20:5
 slice-write-out-2 : tie.Need-slice-write-out-2
 slice-write-out-2 c = rw length-set (omega arith)
-
--- src/write/roomy/packed.rt:21:5
-add-result : tie.Need-add-result
-add-result c = search needs
-
--- src/write/roomy/packed.rt:15:1
-same-length : tie.Need-same-length
-same-length c = search needs
 
 -- src/write/roomy/packed.rt:15:1
 returns : tie.Need-returns
@@ -44,12 +20,4 @@ returns c = T.beside (c .args .out .now) (c .args .at) (c .args .w % 256) (c .ar
 pub put-pair-spec : {M : Type 1} → statement M
 put-pair-spec =
     tie.close
-    (tie.spec
-    cast-out
-    slice-write-out
-    cast-out-2
-    add-out
-    slice-write-out-2
-    add-result
-    same-length
-    returns)
+    (tie.spec (search needs) (search needs) (search needs) (search needs) slice-write-out-2 (search needs) (search needs) returns)

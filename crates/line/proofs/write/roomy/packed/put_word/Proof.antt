@@ -9,21 +9,9 @@ use Rattle.line.proofs.write.roomy.packed.put_word.Reads as reads
 use Rattle.line.proofs.write.roomy.packed.put_word.Lts as lts
 use Rattle.line.proofs.write.roomy.packed.put_half.Reads as put-half-reads
 
--- src/write/roomy/packed.rt:36:9
-put-half-requires : tie.Need-put-half-requires
-put-half-requires c κs = search needs
-
--- src/write/roomy/packed.rt:37:5
-put-half-requires-2 : tie.Need-put-half-requires-2
-put-half-requires-2 c κs = search needs
-
--- src/write/roomy/packed.rt:32:1
-same-length : tie.Need-same-length
-same-length c = search needs
-
 -- src/write/roomy/packed.rt:32:1
 returns : tie.Need-returns
 returns c = T.both 8 (c .before .before .before .before .before .before .put-half .ensures) (c .before .before .put-half2 .ensures) (omega arith) refl
 
 pub put-word-spec : {M : Type 1} → statement M
-put-word-spec = tie.close (tie.spec put-half-requires put-half-requires-2 same-length returns)
+put-word-spec = tie.close (tie.spec (search needs) (search needs) (search needs) returns)

@@ -7,14 +7,6 @@ use Rattle.line.proofs.write.roomy.packed.spread.Tie as tie
 use Rattle.line.proofs.write.roomy.packed.spread.Reads as reads
 use Rattle.line.proofs.write.roomy.packed.spread.Lts as lts
 
--- src/write/roomy/packed.rt:55:17
-mul-tens : tie.Need-mul-tens
-mul-tens c = search needs
-
--- src/write/roomy/packed.rt:56:5
-mul-result : tie.Need-mul-result
-mul-result c = search needs
-
 -- src/write/roomy/packed.rt:56:19
 mul-result-2 : tie.Need-mul-result-2
 mul-result-2 c = omega (arith, P.tens-less (c .args .pairs) (c .pre), c .pre .3)
@@ -23,13 +15,9 @@ mul-result-2 c = omega (arith, P.tens-less (c .args .pairs) (c .pre), c .pre .3)
 sub-result : tie.Need-sub-result
 sub-result c = P.tens-less (c .args .pairs) (c .pre)
 
--- src/write/roomy/packed.rt:56:5
-add-result : tie.Need-add-result
-add-result c = search needs
-
 -- src/write/roomy/packed.rt:51:1
 returns : tie.Need-returns
 returns c = P.spread-is (c .args .pairs) (c .pre)
 
 pub spread-spec : {M : Type 1} → statement M
-spread-spec = tie.close (tie.spec mul-tens mul-result mul-result-2 sub-result add-result returns)
+spread-spec = tie.close (tie.spec (search needs) (search needs) mul-result-2 sub-result (search needs) returns)

@@ -17,35 +17,8 @@ use borrow.Author.Needs.{needs}
 use Rattle.sheet_rules.proofs.decide.whole.printed.print_converted.Statement.{statement}
 use Rattle.sheet_rules.proofs.decide.whole.printed.print_converted.Tie as tie
 
-print-refusal-requires : tie.Need-print-refusal-requires
-print-refusal-requires c κs = search needs
-
-same-length : tie.Need-same-length
-same-length c = search needs
-
 returns : tie.Need-returns
 returns c = λ s h. let q : s .refused ≡ true = sym (h .refused) ∙ c .before .before .before .before .if1 .taken in rw q (shown (gave-refusal h _ _ _ _ refl (sym (or-true (s .closed))) _ _ _ refl) (c .before .before .print-refusal .ensures))
-
-forward-prepared-requires : tie.Need-forward-prepared-requires
-forward-prepared-requires c κs = search needs
-
-enum-known-number : tie.Need-enum-known-number
-enum-known-number c = search needs
-
-print-refusal-requires-2 : tie.Need-print-refusal-requires-2
-print-refusal-requires-2 c κs = search needs
-
-enum-known-converted : tie.Need-enum-known-converted
-enum-known-converted c = search needs
-
-write-labelled-requires : tie.Need-write-labelled-requires
-write-labelled-requires c κs = search needs
-
-after-requires : tie.Need-after-requires
-after-requires c κs = search needs
-
-same-length-2 : tie.Need-same-length-2
-same-length-2 c = search needs
 
 returns-2 : tie.Need-returns-2
 returns-2 c = λ s h.
@@ -53,9 +26,6 @@ returns-2 c = λ s h.
     let q : s .refused ≡ false = sym (h .refused) ∙ c .before .before .before .before .before .before .before .before .if1 .left in
     let e = answered h (a .args .point) (a .pre .1) (c .before .before .before .before .before .before .before .forward-prepared .ensures) (c .before .before .before .before .before .number .given .1) in
     rw (q, e) (shown (gave-refusal h _ _ _ _ refl (sym (or-true (s .closed))) _ _ _ refl) (c .before .before .print-refusal2 .ensures))
-
-same-length-3 : tie.Need-same-length-3
-same-length-3 c = search needs
 
 -- a conversion keeps the label, so that it is written with the label that was read
 relabel : {r : Answer} {q : Point} (l : List ℤ) (p : Point) → r ≡ forwardPrepared l p → r ≡ Converted q
@@ -78,17 +48,5 @@ returns-3 c = λ s h.
 pub print-converted-spec : {M : Type 1} → statement M
 print-converted-spec =
     tie.close
-    (tie.spec
-    print-refusal-requires
-    same-length
-    returns
-    forward-prepared-requires
-    enum-known-number
-    print-refusal-requires-2
-    enum-known-converted
-    write-labelled-requires
-    after-requires
-    same-length-2
-    returns-2
-    same-length-3
-    returns-3)
+    (tie.spec (search needs) (search needs) returns (search needs) (search needs) (search needs) (search needs) (search needs) (search needs)
+    (search needs) returns-2 (search needs) returns-3)

@@ -9,32 +9,11 @@ use borrow.Author.Needs.{needs}
 use Rattle.sheet_rules.proofs.decide.whole.printed.print_point.Statement.{statement}
 use Rattle.sheet_rules.proofs.decide.whole.printed.print_point.Tie as tie
 
-read-point-requires : tie.Need-read-point-requires
-read-point-requires c κs = search needs
-
-enum-known-fault : tie.Need-enum-known-fault
-enum-known-fault c = search needs
-
-print-refusal-requires : tie.Need-print-refusal-requires
-print-refusal-requires c κs = search needs
-
-enum-known-number : tie.Need-enum-known-number
-enum-known-number c = search needs
-
-print-refusal-requires-2 : tie.Need-print-refusal-requires-2
-print-refusal-requires-2 c κs = search needs
-
-enum-known-point : tie.Need-enum-known-point
-enum-known-point c = search needs
-
 print-converted-requires : tie.Need-print-converted-requires
 print-converted-requires c κs =
     let a = c .before .before .before .before .before .before .before .before in
     let y : toZ w64 (ofZ w64 (a .args .state .profile)) ≡ a .args .state .profile = search needs in
     (a .pre, point-sound _ _ _ (sym (rw y at (c .before .before .before .before .read-point .ensures)) ∙ c .before .before .point .given .1))
-
-same-length : tie.Need-same-length
-same-length c = search needs
 
 returns : tie.Need-returns
 returns c = λ s h.
@@ -43,18 +22,12 @@ returns c = λ s h.
     let e = sym (rw (y, h .profile) at (c .before .before .before .before .before .before .before .read-point .ensures)) ∙ c .before .before .before .before .before .fault .given .1 in
     rw e (shown (gave-refusal h _ _ _ _ (h .refused) (h .closed ∙ sym (or-false (s .closed))) _ _ _ refl) (c .before .before .print-refusal .ensures))
 
-same-length-2 : tie.Need-same-length-2
-same-length-2 c = search needs
-
 returns-2 : tie.Need-returns-2
 returns-2 c = λ s h.
     let a = c .before .before .before .before .before .before .before .before .before .before .before in
     let y : toZ w64 (ofZ w64 (a .args .state .profile)) ≡ a .args .state .profile = search needs in
     let e = sym (rw (y, h .profile) at (c .before .before .before .before .before .before .before .read-point .ensures)) ∙ c .before .before .before .before .before .number .given .1 in
     rw e (shown (gave-refusal h _ _ _ _ (h .refused) (sym (or-true (s .closed))) _ _ _ refl) (c .before .before .print-refusal2 .ensures))
-
-same-length-3 : tie.Need-same-length-3
-same-length-3 c = search needs
 
 returns-3 : tie.Need-returns-3
 returns-3 c = λ s h.
@@ -66,17 +39,5 @@ returns-3 c = λ s h.
 pub print-point-spec : {M : Type 1} → statement M
 print-point-spec =
     tie.close
-    (tie.spec
-    read-point-requires
-    enum-known-fault
-    print-refusal-requires
-    enum-known-number
-    print-refusal-requires-2
-    enum-known-point
-    print-converted-requires
-    same-length
-    returns
-    same-length-2
-    returns-2
-    same-length-3
-    returns-3)
+    (tie.spec (search needs) (search needs) (search needs) (search needs) (search needs) (search needs) print-converted-requires (search needs) returns
+    (search needs) returns-2 (search needs) returns-3)

@@ -4,18 +4,9 @@ use borrow.Author.Needs.{needs}
 use Rattle.sheet_rules.proofs.decide.whole.printed.print_refusal.Statement.{statement}
 use Rattle.sheet_rules.proofs.decide.whole.printed.print_refusal.Tie as tie
 
-write-refusal-requires : tie.Need-write-refusal-requires
-write-refusal-requires c κs = search needs
-
-after-requires : tie.Need-after-requires
-after-requires c κs = search needs
-
-same-length : tie.Need-same-length
-same-length c = search needs
-
 returns : tie.Need-returns
 unfolding refusedIn
 returns c = (c .before .before .before .write-refusal .ensures, c .after .ensures)
 
 pub print-refusal-spec : {M : Type 1} → statement M
-print-refusal-spec = tie.close (tie.spec write-refusal-requires after-requires same-length returns)
+print-refusal-spec = tie.close (tie.spec (search needs) (search needs) (search needs) returns)

@@ -19,7 +19,7 @@ use Rattle.bounds.proofs.Formula.{var, over, All, none, also, value, tested, pr
 use Rattle.bounds.proofs.Zero.{wholes, whole-among, nought, Upto, sub-self, add-zero-is}
 use Rattle.elementary.specs.Floats.{near, #}
 use Rattle.angle.specs.Units.{k, radians, metres}
-use Rattle.angle.specs.Ranges.{nearby, originTests, pointTests, cassiniTests, originFault}
+use Rattle.angle.specs.Ranges.{nearby, originTests, anglesAndMeridianTests, cassiniTests, originFault}
 use Rattle.elementary.specs.Series.{sineOf, cosineOf}
 use Rattle.angle.specs.Ellipsoids.{ellipsoidOf, primeVertical, meridianArc}
 use Rattle.angle.specs.Cassini.{originMade, cassiniWith, cassiniAt, cassiniOf}
@@ -145,6 +145,6 @@ pub at-origin : (o : OriginNumbers) → originFault o ≡ 0 → cassiniOf o (o .
 unfolding originFault cassiniOf
 at-origin o h =
     let p : Passed (originTests o) = passed (originTests o) tt h in
-    let q : Passed (pointTests (o .longitude) (o .latitude) (o .longitude)) = (p .1 .1 .1 .0, (p .1 .1 .1 .1 .0, (ap not (near-itself (o .longitude)), tt))) in
-    unless-none _ Refused (cassiniAt (originMade o) (o .latitude) (o .longitude)) (orders.none (cassiniTests o (o .latitude) (o .longitude)) (both (originTests o) (pointTests (o .longitude) (o .latitude) (o .longitude)) p q))
+    let q : Passed (anglesAndMeridianTests (o .longitude) (o .latitude) (o .longitude)) = (p .1 .1 .1 .0, (p .1 .1 .1 .1 .0, (ap not (near-itself (o .longitude)), tt))) in
+    unless-none _ Refused (cassiniAt (originMade o) (o .latitude) (o .longitude)) (orders.none (cassiniTests o (o .latitude) (o .longitude)) (both (originTests o) (anglesAndMeridianTests (o .longitude) (o .latitude) (o .longitude)) p q))
     ∙ at o p

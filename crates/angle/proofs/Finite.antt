@@ -17,7 +17,7 @@ use Rattle.bounds.proofs.Formula.{var, lit, plus, minus, times, over, All, none
 use Rattle.bounds.proofs.Zero.{wholes, Upto}
 use Rattle.elementary.specs.Floats.{#, whole}
 use Rattle.angle.specs.Units.{k, radians, metres}
-use Rattle.angle.specs.Ranges.{cartesianTests, originTests, pointTests, cassiniTests}
+use Rattle.angle.specs.Ranges.{cartesianTests, originTests, anglesAndMeridianTests, cassiniTests}
 use Rattle.elementary.specs.Series.{sineOf, cosineOf}
 use Rattle.angle.specs.Ellipsoids.{ellipsoidOf, primeVertical, meridianArc}
 use Rattle.angle.specs.Cartesian.{cartesianAt, cartesianOf, inUnits, cartesianUnitsOf}
@@ -161,7 +161,7 @@ north-test : T (tested plane (plus (var 6) northF) (most 3900000 1))
 unfolding tested
 north-test = tt
 
-module _ (o : OriginNumbers) (lat lon : ℤ) (p : Passed (originTests o)) (q : Passed (pointTests (o .longitude) lat lon)) where
+module _ (o : OriginNumbers) (lat lon : ℤ) (p : Passed (originTests o)) (q : Passed (anglesAndMeridianTests (o .longitude) lat lon)) where
   abbrev g : Ellipsoid
   g = ellipsoidOf (o .ellipsoid)
 

@@ -4,7 +4,7 @@ ghost use mathlib.Core.Bool.{true};
 ghost use lib.IntN.{_-ℤ_};
 ghost use Rattle.refusal.specs.Order.{first};
 ghost use Rattle.ranges.specs.Ranges.{latitudeRange, offsetRange};
-ghost use Rattle.angle.specs.Ranges.{nearby, pointTests, originFault};
+ghost use Rattle.angle.specs.Ranges.{nearby, anglesAndMeridianTests, originFault};
 ghost use Rattle.angle.specs.Units.{metres as Units·metres, radians as Units·radians};
 ghost use Rattle.angle.specs.Ellipsoids.{ellipsoidOf, meridianArc};
 ghost use Rattle.angle.specs.Terms.{termsOf, parallelOf};
@@ -100,7 +100,7 @@ pub fn make_origin(o: OriginNumbers) -> OriginAnswer
 // 0, or GEODETIC for the point's angles, then APART where the longitudes are over 4 degrees apart. The longitudes are compared as whole
 // numbers, and no sum passes an i64: the point's longitude is in its range by then.
 fn point_fault(origin: i64, latitude: i64, longitude: i64) -> u8
-    ensures { λ r. ⌜ r ≡ first (pointTests origin latitude longitude) ⌝ }
+    ensures { λ r. ⌜ r ≡ first (anglesAndMeridianTests origin latitude longitude) ⌝ }
 {
     let fault = angles_fault(latitude, longitude);
     if fault != 0 {

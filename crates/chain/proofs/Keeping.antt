@@ -21,7 +21,7 @@ use Rattle.chain.specs.declared.Answer.{Answer}
 use Rattle.chain.specs.declared.Answer.the-variants.{Refused}
 use Rattle.chain.specs.Faults.{StepOk, latest, stepFault, pointFault, profileFault, sameRealization, pointTests, stepTests, joinTest, laterTests, stepsTests, chainTests}
 use Rattle.chain.specs.Parts.{forwardBy, inverseBy}
-use Rattle.chain.specs.Convert.{forwardStep, inverseStep, startOf, endOf, joins, moreTests, placeTests, convert, forwardOf, inverseOf}
+use Rattle.chain.specs.Convert.{forwardStep, inverseStep, startOf, endOf, joins, moreTests, realizationAndAreaTests, convert, forwardOf, inverseOf}
 use Rattle.chain.specs.Ready.{readyFor}
 use Rattle.chain.specs.Prepared.{number, lengthIn, startIn, endIn, numbersOf, rowsOf, extendFault, firstRow, startWith, keptOf, extendedBy, preparedTests, reachedWith, forwardPrepared, inversePrepared, chainOf, Readied, Ends, Holds}
 use Rattle.chain.proofs.Sizes.{step-ok}
@@ -80,7 +80,7 @@ module _ (y : ℤ) (l : List ℤ) (ss : List Step) (holds : Holds y l ss) where
       ltb-false 8 (length ss) (step-passed (ltb 8 (length ss)) refusal.ninth (first (stepsTests y ss)) tt (f .1) .0)
 
   module _ (p : Point) where
-    tests : (n : ℕ) (given wanted : Realization) → n ≤ 8 → (equal (pos 0) (pos n) || sameRealization (p .realization) given) ≡ sameRealization (p .realization) wanted → first (preparedTests (pos n) given p) ≡ first (placeTests p wanted)
+    tests : (n : ℕ) (given wanted : Realization) → n ≤ 8 → (equal (pos 0) (pos n) || sameRealization (p .realization) given) ≡ sameRealization (p .realization) wanted → first (preparedTests (pos n) given p) ≡ first (realizationAndAreaTests p wanted)
     tests n given wanted h e = rw (few-steps n 8 h, e)
 
     wanted-start : (ts : List Step) → Ends (startIn l) (endIn l) ts → (equal (pos 0) (pos (length ts)) || sameRealization (p .realization) (startIn l)) ≡ sameRealization (p .realization) (startOf (p .realization) ts)
@@ -104,13 +104,13 @@ module _ (y : ℤ) (l : List ℤ) (ss : List Step) (holds : Holds y l ss) where
     reached-start (s ∷ ts) e = rw (some-steps (length ts)) (e .starts)
 
     -- a sound chain and a point with no fault leave the tests of the place
-    placed : (n : ℕ) (wanted : Realization) → first (ownTests y n ss) ≡ 0 → pointFault y p ≡ 0 → first (ownTests y n ss ++ (pointTests y p ++ placeTests p wanted)) ≡ first (placeTests p wanted)
+    placed : (n : ℕ) (wanted : Realization) → first (ownTests y n ss) ≡ 0 → pointFault y p ≡ 0 → first (ownTests y n ss ++ (pointTests y p ++ realizationAndAreaTests p wanted)) ≡ first (realizationAndAreaTests p wanted)
     unfolding pointFault
     placed n wanted good fault =
-        first-append (ownTests y n ss) (pointTests y p ++ placeTests p wanted) (numbered-steps y ss)
-        ∙ ap (λ (m : ℕ). orElse m (first (pointTests y p ++ placeTests p wanted))) good
-        ∙ first-append (pointTests y p) (placeTests p wanted) tt
-        ∙ ap (λ (m : ℕ). orElse m (first (placeTests p wanted))) fault
+        first-append (ownTests y n ss) (pointTests y p ++ realizationAndAreaTests p wanted) (numbered-steps y ss)
+        ∙ ap (λ (m : ℕ). orElse m (first (pointTests y p ++ realizationAndAreaTests p wanted))) good
+        ∙ first-append (pointTests y p) (realizationAndAreaTests p wanted) tt
+        ∙ ap (λ (m : ℕ). orElse m (first (realizationAndAreaTests p wanted))) fault
 
     pub prepared-forward : pointFault y p ≡ 0 → forwardPrepared l p ≡ forwardOf (chainOf y ss) p
     unfolding forwardPrepared forwardOf convert

@@ -20,7 +20,7 @@ use Rattle.chain.specs.declared.Answer.the-variants.{Converted, Refused}
 use Rattle.chain.specs.declared.Direction.{Direction}
 use Rattle.chain.specs.declared.Direction.the-variants.{Forward, Inverse}
 use Rattle.chain.specs.Faults.{stepFault, pointFault, pointTests, stepTests, stepsTests, chainTests, stepsOf}
-use Rattle.chain.specs.Convert.{Walk, walk, forwardStep, inverseStep, answerOf, startOf, endOf, moreTests, placeTests, convert, forwardOf, inverseOf}
+use Rattle.chain.specs.Convert.{Walk, walk, forwardStep, inverseStep, answerOf, startOf, endOf, moreTests, realizationAndAreaTests, convert, forwardOf, inverseOf}
 use Rattle.chain.specs.Prepared.{extendedBy, chainOf, Holds}
 use Rattle.chain.specs.PointRow.{convertOf, noNumbers, extendedAll, readyOf, convertPrepared, convertReady}
 use Rattle.chain.proofs.Accepted.{numbered-steps, chain-passed, entry, by-chain, by-point}
@@ -54,7 +54,7 @@ ready-holds c e =
 module _ (c : Chain) (good : first (chainTests c) ≡ 0) (p : Point) (wanted reached : Realization) (w : Walk) where
   silent : convert c p wanted reached w ≡ unless (entry (c .profile) p wanted) Refused (answerOf p reached w)
   unfolding convert
-  silent = ap (λ (n : ℕ). unless n Refused (answerOf p reached w)) (on (chainTests c) (pointTests (c .profile) p ++ placeTests p wanted) (passed (chainTests c) (numbered-steps (c .profile) (stepsOf c)) good))
+  silent = ap (λ (n : ℕ). unless n Refused (answerOf p reached w)) (on (chainTests c) (pointTests (c .profile) p ++ realizationAndAreaTests p wanted) (passed (chainTests c) (numbered-steps (c .profile) (stepsOf c)) good))
 
 module _ (c : Chain) (good : first (chainTests c) ≡ 0) (p : Point) where
   abbrev steps : Chain
@@ -93,7 +93,7 @@ module _ (c : Chain) (p : Point) where
   module _ (good : first (chainTests c) ≡ 0) where
     point-first : (pointFault (c .profile) p ≡ 0 → ⊥) → (wanted : Realization) → pointFault (c .profile) p ≡ entry (c .profile) p wanted
     unfolding pointFault
-    point-first h wanted = sym (stop (pointTests (c .profile) p) (placeTests p wanted) h)
+    point-first h wanted = sym (stop (pointTests (c .profile) p) (realizationAndAreaTests p wanted) h)
 
     refused-point : (pointFault (c .profile) p ≡ 0 → ⊥) → (wanted reached : Realization) (w : Walk) → Refused (pointFault (c .profile) p) ≡ convert c p wanted reached w
     refused-point h wanted reached w = let e = point-first h wanted in ap Refused e ∙ by-point c p wanted reached w good (λ f. h (e ∙ f))

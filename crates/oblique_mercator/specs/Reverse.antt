@@ -81,11 +81,11 @@ unfoldable pub reverseAt : Projection → Float → Float → Angles
 reverseAt p E N = let t = turnedOf p E N in pick (gateOf t) (inUnits (p .centre) (foundOf p t)) (Refused geodetic)
 
 -- a point on a made projection, refused: 2 for a record that was not made here, 23, 12
-abbrev pub pointTests : Projection → Float → Float → List Test
-pointTests p E N = (not (longitudeRange (p .centre)) gives range) ∷ (not (inPlane E && inPlane N) gives numbers.plane) ∷ []
+abbrev pub centreAndPlaneTests : Projection → Float → Float → List Test
+centreAndPlaneTests p E N = (not (longitudeRange (p .centre)) gives range) ∷ (not (inPlane E && inPlane N) gives numbers.plane) ∷ []
 
 unfoldable pub reverseFromOf : Projection → Float → Float → Angles
-reverseFromOf p E N = unless (first (pointTests p E N)) Refused (reverseAt p E N)
+reverseFromOf p E N = unless (first (centreAndPlaneTests p E N)) Refused (reverseAt p E N)
 
 -- on a projection as it is answered
 abbrev pub foundOn : ProjectionAnswer → Float → Float → Angles

@@ -18,7 +18,7 @@ use Rattle.bounds.proofs.Zero.{Upto}
 use Rattle.angle.specs.Ranges.{angleTests}
 use Rattle.velocity_grid.specs.Bilinear.{CellOk}
 use Rattle.velocity_grid.specs.OnGrid.{gridRange, onGrid, cellOf, CellIn}
-use Rattle.velocity_grid.specs.AtPoint.{partRange, valueOf, known, cellKnown, cornersOf, partOf, partsIn, gridTests, pointTests, partsTests, partsOf, PartsOk}
+use Rattle.velocity_grid.specs.AtPoint.{partRange, valueOf, known, cellKnown, cornersOf, partOf, partsIn, gridTests, anglesAndCellTests, partsTests, partsOf, PartsOk}
 use Rattle.line.specs.declared.GridHeader.{GridHeader}
 use Rattle.velocity_grid.specs.declared.Cell.{Cell}
 use Rattle.line.specs.declared.Parts.{Parts}
@@ -87,20 +87,20 @@ module _ (g : GridHeader) (nodes : List ℤ) (lat lon : ℤ) where
   pub by-grid : (first (gridTests g nodes) ≡ 0 → ⊥) → answer.Refused (first (gridTests g nodes)) ≡ partsOf g nodes lat lon
   unfolding partsOf
   by-grid f =
-      rw (stop (gridTests g nodes) (pointTests g nodes lat lon) f)
+      rw (stop (gridTests g nodes) (anglesAndCellTests g nodes lat lon) f)
       (sym (unless-some (first (gridTests g nodes)) answer.Refused (answer.Parts (partsIn nodes cell)) f))
 
   module _ (p : Passed (gridTests g nodes)) where
     pub by-angles : (first (angleTests lat lon) ≡ 0 → ⊥) → answer.Refused (first (angleTests lat lon)) ≡ partsOf g nodes lat lon
     unfolding partsOf
     by-angles f =
-        rw (on (gridTests g nodes) (pointTests g nodes lat lon) p, stop (angleTests lat lon) ((not (onGrid g lat lon) gives refusal.offGrid) ∷ (not (cellKnown nodes cell) gives refusal.offGrid) ∷ []) f)
+        rw (on (gridTests g nodes) (anglesAndCellTests g nodes lat lon) p, stop (angleTests lat lon) ((not (onGrid g lat lon) gives refusal.offGrid) ∷ (not (cellKnown nodes cell) gives refusal.offGrid) ∷ []) f)
         (sym (unless-some (first (angleTests lat lon)) answer.Refused (answer.Parts (partsIn nodes cell)) f))
 
     module _ (q : Passed (angleTests lat lon)) where
       decided : first (partsTests g nodes lat lon) ≡ first ((not (onGrid g lat lon) gives refusal.offGrid) ∷ (not (cellKnown nodes cell) gives refusal.offGrid) ∷ [])
       decided =
-          on (gridTests g nodes) (pointTests g nodes lat lon) p
+          on (gridTests g nodes) (anglesAndCellTests g nodes lat lon) p
           ∙ on (angleTests lat lon) ((not (onGrid g lat lon) gives refusal.offGrid) ∷ (not (cellKnown nodes cell) gives refusal.offGrid) ∷ []) q
 
       pub by-place : onGrid g lat lon ≡ false → answer.Refused refusal.offGrid ≡ partsOf g nodes lat lon

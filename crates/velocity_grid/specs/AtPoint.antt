@@ -58,13 +58,13 @@ abbrev pub gridTests : GridHeader → List ℤ → List Test
 gridTests g nodes = (not (gridRange g) gives refusal.range) ∷ (not (eqb (length nodes) (3 * nodesOf g)) gives refusal.lines) ∷ []
 
 -- 12 for the angles, then 24 off the grid or at a node without a value, also where its weight is 0
-abbrev pub pointTests : GridHeader → List ℤ → ℤ → ℤ → List Test
-pointTests g nodes latitude longitude =
+abbrev pub anglesAndCellTests : GridHeader → List ℤ → ℤ → ℤ → List Test
+anglesAndCellTests g nodes latitude longitude =
     angleTests latitude longitude
     ++ ((not (onGrid g latitude longitude) gives refusal.offGrid) ∷ (not (cellKnown nodes (cellOf g latitude longitude)) gives refusal.offGrid) ∷ [])
 
 abbrev pub partsTests : GridHeader → List ℤ → ℤ → ℤ → List Test
-partsTests g nodes latitude longitude = gridTests g nodes ++ pointTests g nodes latitude longitude
+partsTests g nodes latitude longitude = gridTests g nodes ++ anglesAndCellTests g nodes latitude longitude
 
 unfoldable pub partsOf : GridHeader → List ℤ → ℤ → ℤ → PartsAnswer
 unfolding partsIn cellOf

@@ -7,7 +7,7 @@ use mir.Syntax.{w64}
 use mir.Val.{SFits, toZ, ofZ}
 use mir.ValLaws.{toZ-ofZ}
 use Rattle.refusal.specs.Order.{first, unless}
-use Rattle.angle.specs.Ranges.{originTests, pointTests, originFault}
+use Rattle.angle.specs.Ranges.{originTests, anglesAndMeridianTests, originFault}
 use Rattle.angle.specs.Cassini.{originMade, cassiniAt, cassiniOf}
 use Rattle.angle.specs.declared.OriginNumbers.{OriginNumbers}
 use Rattle.angle.specs.declared.Projected.{Projected}
@@ -20,7 +20,7 @@ use Rattle.angle.proofs.projection.cassini.Tie as tie
 -- ---- the answer by the faults
 module _ (o : OriginNumbers) (lat lon : ℤ) where
   abbrev fault : ℕ
-  fault = first (pointTests (o .longitude) lat lon)
+  fault = first (anglesAndMeridianTests (o .longitude) lat lon)
 
   abbrev laid : Projected
   laid = cassiniAt (originMade o) lat lon
@@ -29,12 +29,12 @@ module _ (o : OriginNumbers) (lat lon : ℤ) where
   unfolding cassiniOf originFault
   by-origin h =
       sym (unless-some (first (originTests o)) Refused laid h)
-      ∙ ap (λ (f : ℕ). unless f Refused laid) (sym (stop (originTests o) (pointTests (o .longitude) lat lon) h))
+      ∙ ap (λ (f : ℕ). unless f Refused laid) (sym (stop (originTests o) (anglesAndMeridianTests (o .longitude) lat lon) h))
 
   -- where the origin has no fault the point decides
   by-point : originFault o ≡ 0 → unless fault Refused laid ≡ cassiniOf o lat lon
   unfolding cassiniOf originFault
-  by-point h = ap (λ (f : ℕ). unless f Refused laid) (sym (on (originTests o) (pointTests (o .longitude) lat lon) (passed (originTests o) tt h)))
+  by-point h = ap (λ (f : ℕ). unless f Refused laid) (sym (on (originTests o) (anglesAndMeridianTests (o .longitude) lat lon) (passed (originTests o) tt h)))
 
 returns : tie.Need-returns
 returns c =

@@ -6,7 +6,7 @@ use mir.Syntax.{w64}
 use mir.Val.{SFits, toZ, ofZ}
 use mir.ValLaws.{toZ-ofZ}
 use Rattle.refusal.specs.Order.{first}
-use Rattle.angle.specs.Ranges.{pointTests}
+use Rattle.angle.specs.Ranges.{anglesAndMeridianTests}
 use Rattle.angle.specs.Cassini.{cassiniAt, cassiniFromOf}
 use Rattle.angle.specs.declared.Projected.the-variants.{Refused}
 use Rattle.refusal.proofs.Orders.{unless-some, unless-none}
@@ -16,7 +16,7 @@ use Rattle.angle.proofs.projection.cassini_from.Tie as tie
 
 module _ (c : tie.After-point-fault) where
   abbrev fault : ℕ
-  fault = let a = c .before .before .args in first (pointTests (a .origin .longitude) (a .latitude) (a .longitude))
+  fault = let a = c .before .before .args in first (anglesAndMeridianTests (a .origin .longitude) (a .latitude) (a .longitude))
 
   fault-is : c .point-fault .result ≡ fault
   fault-is =

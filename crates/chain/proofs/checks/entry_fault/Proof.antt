@@ -8,7 +8,7 @@ use Rattle.refusal.specs.Order.{first}
 use Rattle.chain.specs.declared.Point.{Point}
 use Rattle.chain.specs.declared.Realization.{Realization}
 use Rattle.chain.specs.Faults.{pointTests, pointFault}
-use Rattle.chain.specs.Convert.{placeTests}
+use Rattle.chain.specs.Convert.{realizationAndAreaTests}
 use Rattle.refusal.proofs.Orders.{passed, stop, on}
 use Rattle.rounding.proofs.Machine.{rd}
 use Rattle.chain.proofs.checks.entry_fault.Statement.{statement}
@@ -26,7 +26,7 @@ unfolding pointFault
 returns c =
     let s = c .before .before in
     let f = own (c .before) in
-    f ∙ sym (stop (pointTests (s .args .profile) (s .args .point)) (placeTests (s .args .point) (s .args .wanted)) (λ e. c .if1 .taken (f ∙ e)))
+    f ∙ sym (stop (pointTests (s .args .profile) (s .args .point)) (realizationAndAreaTests (s .args .point) (s .args .wanted)) (λ e. c .if1 .taken (f ∙ e)))
 
 same-realization-requires : tie.Need-same-realization-requires
 same-realization-requires c κs = tt
@@ -42,15 +42,15 @@ module _ (c : tie.Else1) where
   abbrev wanted : Realization
   wanted = c .before .before .args .wanted
 
-  place : first (placeTests point wanted) ≡ first (pointTests profile point ++ placeTests point wanted)
+  place : first (realizationAndAreaTests point wanted) ≡ first (pointTests profile point ++ realizationAndAreaTests point wanted)
   unfolding pointFault
-  place = sym (on (pointTests profile point) (placeTests point wanted) (passed (pointTests profile point) tt (sym (own (c .before)) ∙ c .if1 .left)))
+  place = sym (on (pointTests profile point) (realizationAndAreaTests point wanted) (passed (pointTests profile point) tt (sym (own (c .before)) ∙ c .if1 .left)))
 
 returns-2 : tie.Need-returns-2
 returns-2 c =
     let t = c .before .before .before in
     let a = sym (c .before .same-realization .ensures) ∙ not-true _ (c .if2 .taken) in
-    let e : _≡_ {A = ℕ} 9 (first (placeTests (point t) (wanted t))) = rw a in
+    let e : _≡_ {A = ℕ} 9 (first (realizationAndAreaTests (point t) (wanted t))) = rw a in
     e ∙ place t
 
 in-area-requires : tie.Need-in-area-requires
@@ -62,7 +62,7 @@ returns-3 c =
     let t = d .before .before .before in
     let a = sym (d .before .same-realization .ensures) ∙ not-false _ (d .if2 .left) in
     let b = sym (c .before .in-area .ensures) ∙ not-true _ (c .if3 .taken) in
-    let e : _≡_ {A = ℕ} 10 (first (placeTests (point t) (wanted t))) = rw (a, b) in
+    let e : _≡_ {A = ℕ} 10 (first (realizationAndAreaTests (point t) (wanted t))) = rw (a, b) in
     e ∙ place t
 
 returns-4 : tie.Need-returns-4
@@ -71,7 +71,7 @@ returns-4 c =
     let t = d .before .before .before in
     let a = sym (d .before .same-realization .ensures) ∙ not-false _ (d .if2 .left) in
     let b = sym (c .before .in-area .ensures) ∙ not-false _ (c .if3 .left) in
-    let e : _≡_ {A = ℕ} 0 (first (placeTests (point t) (wanted t))) = rw (a, b) in
+    let e : _≡_ {A = ℕ} 0 (first (realizationAndAreaTests (point t) (wanted t))) = rw (a, b) in
     e ∙ place t
 
 pub entry-fault-spec : {M : Type 1} → statement M

@@ -35,7 +35,7 @@ use Rattle.elementary.proofs.Formulas.{sineF, cosineF, sine-among, cosine-among
 use Rattle.angle.proofs.Formulas.{eastF, northF, axisF, polarF}
 use Rattle.angle.proofs.Sizes.{from, most, eccentricity, Shaped, shaped, radians-among, parts-among, sine-latitude, cosine-latitude, radius-among, arc-among, metres-among}
 use Rattle.ranges.proofs.Ranges.{natural}
-use Rattle.angle.proofs.Answered.{Bound, whole-answer}
+use Rattle.angle.proofs.WholeAnswers.{Bound, whole-answer}
 use Rattle.angle.proofs.Wholes.{natural-upto, upto, sub-pos}
 
 -- what is not refused passed every test

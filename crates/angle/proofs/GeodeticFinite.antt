@@ -24,7 +24,7 @@ use Rattle.angle.specs.Ellipsoids.{ellipsoidOf}
 use Rattle.angle.specs.Geodetic.{foundAt, inRanges, placed, inAngles, geodeticUnitsOf}
 use Rattle.angle.specs.declared.Found.{Found}
 use Rattle.angle.specs.declared.GeodeticUnits.the-variants.{Refused}
-use Rattle.angle.proofs.Answered.{Bound, whole-answer}
+use Rattle.angle.proofs.WholeAnswers.{Bound, whole-answer}
 use Rattle.angle.proofs.GeodeticFormulas.{latitudeF, longitudeF, heightF, given, found-is}
 use Rattle.angle.proofs.Sizes.{above, most, axis, flattening, eccentricity, shaped}
 use Rattle.angle.proofs.Wholes.{negative}

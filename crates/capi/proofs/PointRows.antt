@@ -20,7 +20,7 @@ use Rattle.chain.specs.declared.Direction.{Direction}
 use Rattle.chain.specs.Faults.{chainTests}
 use Rattle.chain.specs.PointRow.{convertOf, readyOf, convertReady}
 use Rattle.chain.proofs.Readying.{ready-converts}
-use Rattle.capi.specs.Outcome.{Outcome, refused, gives as writes, Answered}
+use Rattle.capi.specs.Outcome.{CallOutcome, refused, gives as writes, Returns}
 use Rattle.chain.specs.Numbers.{chainFrom}
 use Rattle.capi.specs.Chains.{pointFrom, pointNumbers}
 use Rattle.capi.specs.PointRow.{placeOf, answersOf, directionFrom, wholeRows, lentTests, rowCall}
@@ -78,15 +78,15 @@ module _ (y d : ℤ) (chain points out : List ℤ) where
   lent = first (lentTests d (length points / 7) (length out / 8))
 
   -- what is written where nothing is refused
-  abbrev all : Outcome ℤ
+  abbrev all : CallOutcome ℤ
   all = writes (answersOf (convertOf c (directionFrom d)) (length points / 7) points ++ drop (length points / 7 * 8) out)
 
-  pub unsized : wholeRows (length chain) (length points) (length out) ≡ false → Answered (rowCall y chain d points out) out out (pos 255)
+  pub unsized : wholeRows (length chain) (length points) (length out) ≡ false → Returns (rowCall y chain d points out) out out (pos 255)
   unfolding rowCall
   unsized e = wrong (rw e)
 
   module _ (sized : wholeRows (length chain) (length points) (length out) ≡ true) where
-    pub refused-lent : (lent ≡ 0 → ⊥) → {r : ℤ} → r ≡ pos lent → Answered (rowCall y chain d points out) out out r
+    pub refused-lent : (lent ≡ 0 → ⊥) → {r : ℤ} → r ≡ pos lent → Returns (rowCall y chain d points out) out out r
     unfolding rowCall
     refused-lent h e =
         declined (rw sized
@@ -100,7 +100,7 @@ module _ (y d : ℤ) (chain points out : List ℤ) where
       pub room : length points / 7 * 8 ≤ length out
       room = let e = step-passed (ltb (length out / 8) (length points / 7)) _ _ tt good in omega (arith, ltb-false (length out / 8) (length points / 7) (e .0))
 
-      pub refused-chain : {n : ℕ} → n ≡ first (chainTests c) → (n ≡ 0 → ⊥) → {r : ℤ} → r ≡ pos n → Answered (rowCall y chain d points out) out out r
+      pub refused-chain : {n : ℕ} → n ≡ first (chainTests c) → (n ≡ 0 → ⊥) → {r : ℤ} → r ≡ pos n → Returns (rowCall y chain d points out) out out r
       unfolding rowCall
       refused-chain {n} f h e =
           declined (rw sized (ap (λ (n : ℕ). unless n refused all) chain-decides ∙ unless-some (first (chainTests c)) refused all (λ z. h (f ∙ z)))) (e ∙ ap pos f)
@@ -110,7 +110,7 @@ module _ (y d : ℤ) (chain points out : List ℤ) where
       given e = rw sized (unless-none _ refused all (chain-decides ∙ e))
 
       pub answered : first (chainTests c) ≡ 0 → {w : ReadyChain} {b : Direction} → w ≡ readyOf c → b ≡ directionFrom d → {after : List ℤ} → after ≡ sets out 0 (answersOf (convertReady w b) (length points / 7) points)
-          → Answered (rowCall y chain d points out) out after (pos 0)
+          → Returns (rowCall y chain d points out) out after (pos 0)
       answered e f g a =
           rw (given e) (record {
             status = refl;

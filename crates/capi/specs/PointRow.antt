@@ -14,7 +14,7 @@ use Rattle.chain.specs.declared.Direction.{Direction}
 use Rattle.chain.specs.declared.Direction.the-variants.{Forward, Inverse}
 use Rattle.chain.specs.Faults.{chainTests}
 use Rattle.chain.specs.PointRow.{convertOf}
-use Rattle.capi.specs.Outcome.{Outcome, refused, gives as writes, ifSized}
+use Rattle.capi.specs.Outcome.{CallOutcome, refused, gives as writes, ifSized}
 use Rattle.chain.specs.Numbers.{letter, chainFrom}
 use Rattle.capi.specs.Chains.{pointFrom, pointNumbers}
 
@@ -46,7 +46,7 @@ abbrev pub lentTests : ℤ → ℕ → ℕ → List Test
 lentTests d points answers = (ltb answers points gives refusal.row) ∷ (not (known d) gives refusal.range) ∷ []
 
 -- then the chain by itself; and where nothing is refused, each point's answer is the single conversion's, and the array past them stays
-unfoldable pub rowCall : ℤ → List ℤ → ℤ → List ℤ → List ℤ → Outcome ℤ
+unfoldable pub rowCall : ℤ → List ℤ → ℤ → List ℤ → List ℤ → CallOutcome ℤ
 rowCall y chain d points out =
     ifSized (wholeRows (length chain) (length points) (length out))
     (unless (first (lentTests d (length points / 7) (length out / 8) ++ chainTests (chainFrom y chain))) refused

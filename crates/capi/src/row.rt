@@ -6,7 +6,7 @@ ghost use lib.ListN.{length};
 ghost use lib.Seq.{sets};
 ghost use Rattle.refusal.specs.Order.{first};
 ghost use Rattle.chain.specs.PointRow.{convertReady};
-ghost use Rattle.capi.specs.Outcome.{Answered};
+ghost use Rattle.capi.specs.Outcome.{Returns};
 ghost use Rattle.capi.specs.PointRow.{placeOf, answersOf, directionFrom, wholeRows, lentTests, rowCall};
 use crate::WRONG_LENGTH;
 use crate::conversion::point_from;
@@ -134,7 +134,7 @@ pub extern "C" fn swivelcrane_row(
     points: &[i64],
     answers: &mut [i64],
 ) -> i64
-    ensures { λ r. ⌜ Answered (rowCall profile (now (chain .entry)) direction (now (points .entry)) (now (answers .entry))) (now (answers .entry)) (now (answers .exit)) r ⌝ }
+    ensures { λ r. ⌜ Returns (rowCall profile (now (chain .entry)) direction (now (points .entry)) (now (answers .entry))) (now (answers .entry)) (now (answers .exit)) r ⌝ }
 {
     if !are_whole(chain.len(), points.len(), answers.len()) {
         return WRONG_LENGTH;

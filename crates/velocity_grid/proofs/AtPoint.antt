@@ -116,22 +116,22 @@ module _ (g : GridHeader) (nodes : List ℤ) (lat lon : ℤ) where
       by-none e f = rw (decided, e, f)
 
 -- ---- what an answer says
-pub record Answered (lat lon : ℤ) (p : Parts) : Type 0 where
+pub record PartsFound (lat lon : ℤ) (p : Parts) : Type 0 where
   pub parts : PartsOk p
   pub latitude : latitudeRange lat ≡ true
   pub longitude : longitudeRange lon ≡ true
 
 module _ (g : GridHeader) (nodes : List ℤ) (lat lon : ℤ) (p : Parts) where
-  all-passed : Passed (partsTests g nodes lat lon) → partsIn nodes (cellOf g lat lon) ≡ p → Answered lat lon p
+  all-passed : Passed (partsTests g nodes lat lon) → partsIn nodes (cellOf g lat lon) ≡ p → PartsFound lat lon p
   all-passed t e = record {
     parts = subst PartsOk e (parts-ok nodes (cellOf g lat lon) (cell-in g (not-false _ (t .0)) lat lon) (not-false _ (t .1 .1 .1 .1 .1 .0)));
     latitude = not-false _ (t .1 .1 .0);
     longitude = not-false _ (t .1 .1 .1 .0);
   }
 
-  pub answered : partsOf g nodes lat lon ≡ answer.Parts p → Answered lat lon p
+  pub parts-found : partsOf g nodes lat lon ≡ answer.Parts p → PartsFound lat lon p
   unfolding partsOf
-  answered = go (first (partsTests g nodes lat lon)) refl
+  parts-found = go (first (partsTests g nodes lat lon)) refl
     where
       same : (a b : Parts) → answer.Parts a ≡ answer.Parts b → a ≡ b
       same a b h = cc
@@ -139,7 +139,7 @@ module _ (g : GridHeader) (nodes : List ℤ) (lat lon : ℤ) (p : Parts) where
       never : (n : ℕ) → answer.Refused n ≡ answer.Parts p → ⊥
       never n h = let z : _≡_ {A = ℕ} 0 1 = cc in omega arith
 
-      go : (n : ℕ) → first (partsTests g nodes lat lon) ≡ n → unless n answer.Refused (answer.Parts (partsIn nodes (cellOf g lat lon))) ≡ answer.Parts p → Answered lat lon p
+      go : (n : ℕ) → first (partsTests g nodes lat lon) ≡ n → unless n answer.Refused (answer.Parts (partsIn nodes (cellOf g lat lon))) ≡ answer.Parts p → PartsFound lat lon p
       go zero e h = all-passed (passed (partsTests g nodes lat lon) tt e) (same _ _ h)
       go (suc n) e h = absurd (never (suc n) h)
 

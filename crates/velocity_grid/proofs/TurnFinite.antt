@@ -23,7 +23,7 @@ use Rattle.elementary.specs.Series.{sineOf, cosineOf}
 use Rattle.elementary.proofs.Formulas.{sineF, cosineF, sine-among, cosine-among}
 use Rattle.angle.specs.Units.{k, radians}
 use Rattle.angle.proofs.UnitLaws.{k-is}
-use Rattle.angle.proofs.Answered.{Bound, whole-answer}
+use Rattle.angle.proofs.WholeAnswers.{Bound, whole-answer}
 use Rattle.angle.proofs.Sizes.{most, radians-among}
 use Rattle.angle.proofs.Wholes.{natural-upto, sub-pos}
 use Rattle.velocity_grid.specs.AtPoint.{PartsOk}

@@ -13,7 +13,7 @@ use Rattle.velocity_grid.specs.Turn.{turnedAt, inUnits}
 use Rattle.velocity_grid.specs.declared.PartsAnswer.{PartsAnswer}
 use Rattle.velocity_grid.specs.declared.Turned.{Turned}
 use Rattle.velocity_grid.specs.declared.VelocityAnswer.{VelocityAnswer}
-use Rattle.velocity_grid.proofs.AtPoint.{Answered, answered}
+use Rattle.velocity_grid.proofs.AtPoint.{PartsFound, parts-found}
 use Rattle.velocity_grid.proofs.step.velocity_at.Statement.{statement}
 use Rattle.velocity_grid.proofs.step.velocity_at.Tie as tie
 
@@ -27,7 +27,7 @@ turn-requires : tie.Need-turn-requires
 turn-requires c κs =
     let b = c .before .before .before in
     let s = b .before in
-    let h = answered (s .args .g) (now (s .args .nodes)) (s .args .latitude) (s .args .longitude) (c .before .p .given .0 .0) (found b ∙ c .before .p .given .1) in
+    let h = parts-found (s .args .g) (now (s .args .nodes)) (s .args .latitude) (s .args .longitude) (c .before .p .given .0 .0) (found b ∙ c .before .p .given .1) in
     (h .parts, ap latitudeRange (rd (s .fits .latitude)) ∙ h .latitude, ap longitudeRange (rd (s .fits .longitude)) ∙ h .longitude)
 
 returns : tie.Need-returns

@@ -152,7 +152,7 @@ fn lay(o: Origin, terms: Terms, p: Parallel, m: f64, difference: f64) -> Project
 }
 
 // The same on a made origin, for a latitude in its range and longitudes that are not too far apart.
-fn place(o: Origin, latitude: i64, longitude: i64) -> Projected
+fn project(o: Origin, latitude: i64, longitude: i64) -> Projected
     requires { ⌜ (latitudeRange latitude ≡ true) × (nearby longitude (o .longitude) ≡ true) ⌝ }
     ensures { λ r. ⌜ r ≡ cassiniAt o latitude longitude ⌝ }
 {
@@ -164,8 +164,8 @@ fn place(o: Origin, latitude: i64, longitude: i64) -> Projected
     lay(o, terms, p, m, difference)
 }
 
-// The same on an origin as it is written, where its ellipsoid's terms are constants: `place` works them out.
-fn place_once(o: OriginNumbers, latitude: i64, longitude: i64) -> Projected
+// The same on an origin as it is written, where its ellipsoid's terms are constants: `project` works them out.
+fn project_once(o: OriginNumbers, latitude: i64, longitude: i64) -> Projected
     requires { ⌜ (originFault o ≡ 0) × (latitudeRange latitude ≡ true) × (nearby longitude (o .longitude) ≡ true) ⌝ }
     ensures { λ r. ⌜ r ≡ cassiniAt (originMade o) latitude longitude ⌝ }
 {
@@ -188,7 +188,7 @@ pub fn cassini_from(origin: Origin, latitude: i64, longitude: i64) -> Projected
     if fault != 0 {
         return Projected::Refused(fault);
     }
-    place(origin, latitude, longitude)
+    project(origin, latitude, longitude)
 }
 
 // A point on an origin as it is written, in metres. Refused: RANGE, then GEODETIC, of the origin or the point, then APART.
@@ -203,7 +203,7 @@ pub fn cassini(o: OriginNumbers, latitude: i64, longitude: i64) -> Projected
     if point != 0 {
         return Projected::Refused(point);
     }
-    place_once(o, latitude, longitude)
+    project_once(o, latitude, longitude)
 }
 
 // Both, or the first refusal.

@@ -23,39 +23,39 @@ use Rattle.chain.proofs.Readying.{ready-converts}
 use Rattle.capi.specs.Outcome.{CallOutcome, refused, gives as writes, Returns}
 use Rattle.chain.specs.Numbers.{chainFrom}
 use Rattle.capi.specs.Chains.{pointFrom, pointNumbers}
-use Rattle.capi.specs.PointRow.{placeOf, answersOf, directionFrom, wholeRows, lentTests, rowCall}
+use Rattle.capi.specs.PointRow.{answerNumbers, answersOf, directionFrom, wholeRows, lentTests, rowCall}
 use Rattle.capi.proofs.Laws.{wrong, declined}
 use Rattle.capi.proofs.Joinings.{sets-append}
 
-pub place-length : (a : Answer) → length (placeOf a) ≡ 8
+pub answer-length : (a : Answer) → length (answerNumbers a) ≡ 8
 unfolding pointNumbers
-place-length (Converted p) = refl
-place-length (Refused n) = refl
+answer-length (Converted p) = refl
+answer-length (Refused n) = refl
 
 module _ (f : Point → Answer) where
   pub answers-length : (n : ℕ) (ns : List ℤ) → length (answersOf f n ns) ≡ n * 8
   unfolding answersOf
   answers-length zero ns = omega arith
-  answers-length (suc n) ns = omega (arith, length-append (placeOf (f (pointFrom ns))) (answersOf f n (drop 7 ns)), place-length (f (pointFrom ns)), answers-length n (drop 7 ns))
+  answers-length (suc n) ns = omega (arith, length-append (answerNumbers (f (pointFrom ns))) (answersOf f n (drop 7 ns)), answer-length (f (pointFrom ns)), answers-length n (drop 7 ns))
 
   pub no-answers : (ns : List ℤ) → [] ≡ answersOf f 0 ns
   unfolding answersOf
   no-answers ns = refl
 
   -- the next answer, and then the rest
-  next : (n : ℕ) (ns : List ℤ) → answersOf f (suc n) ns ≡ placeOf (f (pointFrom ns)) ++ answersOf f n (drop 7 ns)
+  next : (n : ℕ) (ns : List ℤ) → answersOf f (suc n) ns ≡ answerNumbers (f (pointFrom ns)) ++ answersOf f n (drop 7 ns)
   unfolding answersOf
   next n ns = refl
 
   pub turn : (points out : List ℤ) (count i : ℕ) {a : Answer} → i < count → a ≡ f (pointFrom (drop (7 * i) points))
-      → sets (sets out (8 * i) (placeOf a)) (8 * (i + 1)) (answersOf f (count - (i + 1)) (drop (7 * (i + 1)) points)) ≡ sets out (8 * i) (answersOf f (count - i) (drop (7 * i) points))
+      → sets (sets out (8 * i) (answerNumbers a)) (8 * (i + 1)) (answersOf f (count - (i + 1)) (drop (7 * (i + 1)) points)) ≡ sets out (8 * i) (answersOf f (count - i) (drop (7 * i) points))
   turn points out count i {a} h e =
       let k : count - i ≡ suc (count - (i + 1)) = omega arith in
       let m : 7 * i + 7 ≡ 7 * (i + 1) = omega arith in
-      let z : 8 * (i + 1) ≡ 8 * i + length (placeOf (f (pointFrom (drop (7 * i) points)))) = omega (arith, place-length (f (pointFrom (drop (7 * i) points)))) in
+      let z : 8 * (i + 1) ≡ 8 * i + length (answerNumbers (f (pointFrom (drop (7 * i) points)))) = omega (arith, answer-length (f (pointFrom (drop (7 * i) points)))) in
       let t : drop (7 * (i + 1)) points ≡ drop 7 (drop (7 * i) points) = ap (λ (j : ℕ). drop j points) (sym m) ∙ sym (drop-drop 7 (7 * i) points) in
       rw (k, e, z, t, next (count - (i + 1)) (drop (7 * i) points))
-      (sets-append out (placeOf (f (pointFrom (drop (7 * i) points)))) (answersOf f (count - (i + 1)) (drop 7 (drop (7 * i) points))) (8 * i))
+      (sets-append out (answerNumbers (f (pointFrom (drop (7 * i) points)))) (answersOf f (count - (i + 1)) (drop 7 (drop (7 * i) points))) (8 * i))
 
   -- all of them, at the start of an array that has room
   pub all-answers : (points out : List ℤ) (n : ℕ) → n * 8 ≤ length out → sets out 0 (answersOf f n points) ≡ answersOf f n points ++ drop (n * 8) out
@@ -67,7 +67,7 @@ module _ (f : Point → Answer) where
 same-answers : (f g : Point → Answer) → ((p : Point) → f p ≡ g p) → (n : ℕ) (ns : List ℤ) → answersOf f n ns ≡ answersOf g n ns
 unfolding answersOf
 same-answers f g h zero ns = refl
-same-answers f g h (suc n) ns = ap₂ _++_ (ap placeOf (h (pointFrom ns))) (same-answers f g h n (drop 7 ns))
+same-answers f g h (suc n) ns = ap₂ _++_ (ap answerNumbers (h (pointFrom ns))) (same-answers f g h n (drop 7 ns))
 
 -- ---- how the call ends
 module _ (y d : ℤ) (chain points out : List ℤ) where

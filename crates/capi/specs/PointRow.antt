@@ -20,14 +20,14 @@ use Rattle.capi.specs.Chains.{pointFrom, pointNumbers}
 
 -- ---- the answers
 -- the refusal number or 0, then the point's numbers: zeros beside a refusal
-abbrev pub placeOf : Answer → List ℤ
-placeOf (answer.Converted p) = pos 0 ∷ pointNumbers p
-placeOf (answer.Refused n) = pos n ∷ replicate 7 (pos 0)
+abbrev pub answerNumbers : Answer → List ℤ
+answerNumbers (answer.Converted p) = pos 0 ∷ pointNumbers p
+answerNumbers (answer.Refused n) = pos n ∷ replicate 7 (pos 0)
 
 -- of n points, one after the other
 unfoldable pub answersOf : (Point → Answer) → ℕ → List ℤ → List ℤ
 answersOf f zero ns = []
-answersOf f (suc n) ns = placeOf (f (pointFrom ns)) ++ answersOf f n (drop 7 ns)
+answersOf f (suc n) ns = answerNumbers (f (pointFrom ns)) ++ answersOf f n (drop 7 ns)
 
 -- ---- which way: 0 along the chain, 1 back
 abbrev pub known : ℤ → Bool

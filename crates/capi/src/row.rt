@@ -7,7 +7,7 @@ ghost use lib.Seq.{sets};
 ghost use Rattle.refusal.specs.Order.{first};
 ghost use Rattle.chain.specs.PointRow.{convertReady};
 ghost use Rattle.capi.specs.Outcome.{Returns};
-ghost use Rattle.capi.specs.PointRow.{placeOf, answersOf, directionFrom, wholeRows, lentTests, rowCall};
+ghost use Rattle.capi.specs.PointRow.{answerNumbers, answersOf, directionFrom, wholeRows, lentTests, rowCall};
 use crate::WRONG_LENGTH;
 use crate::conversion::point_from;
 use crate::status::status;
@@ -86,7 +86,7 @@ fn put(
 // An answer from a place on: a refusal has zeros beside its number.
 fn put_answer(answer: Answer, out: &mut [i64], at: usize)
     requires { ⌜ at + 8 ≤ length (now out) ⌝ }
-    ensures { λ _. ⌜ now (out .exit) ≡ sets (now (out .entry)) at (placeOf answer) ⌝ }
+    ensures { λ _. ⌜ now (out .exit) ≡ sets (now (out .entry)) at (answerNumbers answer) ⌝ }
 {
     match answer {
         Answer::Refused(n) => put(out, at, status(n), 0, 0, 0, 0, 0, 0, 0),

@@ -1,4 +1,4 @@
--- The order of refusals by value: a case for each place in the order, in which that test fails and every later one that can; and what the edition of 2009 has.
+-- The order of refusals by value: a case for each test of the order, in which that one fails and every later one that can; and what the edition of 2009 has.
 use mathlib.Core.Path.{_≡_}
 use mathlib.Core.List.{List, [], _∷_, map}
 use Prim.Native.Nat.{ℕ}

@@ -113,8 +113,8 @@ numberCases =
 abbrev still : Kind
 still = shift o o o
 
-abbrev pub placeCases : List Fault
-placeCases =
+abbrev pub realizationCases : List Fault
+realizationCases =
     by (step still (on 0 2010000) (on 8 2010000)) refusal.range
     ∷ by (step still (on 11 2010000) (on 8 2010000)) refusal.range
     ∷ by (step still (on 8 2010000) (on 0 2010000)) refusal.range
@@ -135,7 +135,7 @@ placeCases =
     ∷ []
 
 abbrev pub rangeCases : List Fault
-rangeCases = pointCases ++ (numberCases ++ placeCases)
+rangeCases = pointCases ++ (numberCases ++ realizationCases)
 
 abbrev pub RangeCases : Type 0
 RangeCases = map (λ (f : Fault). f .found) rangeCases ≡ map (λ (f : Fault). f .wanted) rangeCases

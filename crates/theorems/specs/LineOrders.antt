@@ -1,5 +1,5 @@
--- The orders of refusals that go by what a line is read as: what a sheet and a plan print for a line, and the later of two. A case for each place in an order, in
--- which that test fails and every later one that can. The order within a reader is held by MalformedCases.antt and crates/cases/specs/OrderCases.antt.
+-- The orders of refusals that go by what a line is read as: what a sheet and a plan print for a line, and the later of two. A case for each test of an order, in
+-- which that one fails and every later one that can. The order within a reader is held by MalformedCases.antt and crates/cases/specs/OrderCases.antt.
 use mathlib.Core.Bool.{Bool, true, false}
 use mathlib.Core.Path.{_≡_}
 use mathlib.Core.List.{List, [], _∷_}

@@ -103,9 +103,9 @@ module _ (g : GridHeader) (nodes : List ℤ) (lat lon : ℤ) where
           on (gridTests g nodes) (anglesAndCellTests g nodes lat lon) p
           ∙ on (angleTests lat lon) ((not (onGrid g lat lon) gives refusal.offGrid) ∷ (not (cellKnown nodes cell) gives refusal.offGrid) ∷ []) q
 
-      pub by-place : onGrid g lat lon ≡ false → answer.Refused refusal.offGrid ≡ partsOf g nodes lat lon
+      pub by-off-grid : onGrid g lat lon ≡ false → answer.Refused refusal.offGrid ≡ partsOf g nodes lat lon
       unfolding partsOf
-      by-place e = rw (decided, e)
+      by-off-grid e = rw (decided, e)
 
       pub by-nodes : onGrid g lat lon ≡ true → cellKnown nodes cell ≡ false → answer.Refused refusal.offGrid ≡ partsOf g nodes lat lon
       unfolding partsOf

@@ -12,7 +12,7 @@ use Rattle.angle.specs.Units.{radians}
 use Rattle.angle.specs.Worked.{openAngles}
 use Rattle.chain.specs.Case.{answer}
 use Rattle.velocity_grid.specs.Bilinear.{blend, weighed, bilinear}
-use Rattle.velocity_grid.specs.OnGrid.{sizeRange, meshRange, gridRange, meshOf, nodesOf, onAxis, placeOf, onGrid, alongOf, cellOf}
+use Rattle.velocity_grid.specs.OnGrid.{sizeRange, meshRange, gridRange, meshOf, nodesOf, onAxis, axisCellOf, onGrid, alongOf, cellOf}
 use Rattle.velocity_grid.specs.AtPoint.{known, cellKnown, cornersOf, partOf, partsIn, partsOf}
 use Rattle.velocity_grid.specs.Turn.{turnedBy, inUnits}
 use Rattle.velocity_grid.specs.Step.{velocityFor}
@@ -153,5 +153,5 @@ points-worked : points
     ∷ Refused refusal.lines
     ∷ Refused refusal.range
     ∷ [])
-unfolding points header firstEight missing whole-grid partsOf partsIn partOf cornersOf cellKnown known cellOf alongOf placeOf onGrid onAxis meshOf nodesOf gridRange sizeRange meshRange bilinear weighed blend answer
+unfolding points header firstEight missing whole-grid partsOf partsIn partOf cornersOf cellKnown known cellOf alongOf axisCellOf onGrid onAxis meshOf nodesOf gridRange sizeRange meshRange bilinear weighed blend answer
 points-worked = refl

@@ -37,7 +37,7 @@ pub enum GridAnswer {
 }
 
 // Where a number stands along an axis: the cell, from 0, and how far into it.
-pub struct Place {
+pub struct AxisCell {
     pub cell: usize,
     pub offset: usize,
 }

@@ -73,9 +73,9 @@ returns-2 c =
 none : (c : tie.Else2) → point (c .before) ≡ 0
 none c = sym (point-is (c .before)) ∙ c .if2 .left
 
-place-once-requires : tie.Need-place-once-requires
+project-once-requires : tie.Need-project-once-requires
 unfolding point
-place-once-requires c κs =
+project-once-requires c κs =
     let d = c .before .before .before in
     let s = d .before .before in
     let p = point-near (s .args .o .longitude) (s .args .latitude) (s .args .longitude) (none c) in
@@ -95,4 +95,4 @@ returns-3 c =
 pub cassini-spec : {M : Type 1} → statement M
 cassini-spec =
     tie.close
-    (tie.spec (search needs) returns (search needs) returns-2 place-once-requires returns-3)
+    (tie.spec (search needs) returns (search needs) returns-2 project-once-requires returns-3)

@@ -38,8 +38,8 @@ returns c =
 none : (c : tie.Else1) → fault (c .before) ≡ 0
 none c = sym (fault-is (c .before)) ∙ c .if1 .left
 
-place-requires : tie.Need-place-requires
-place-requires c κs =
+project-requires : tie.Need-project-requires
+project-requires c κs =
     let d = c .before .before .before in
     rw (toZ-ofZ w64 (d .args .latitude) (d .fits .latitude), toZ-ofZ w64 (d .args .longitude) (d .fits .longitude))
     (point-near (d .args .origin .longitude) (d .args .latitude) (d .args .longitude) (none c))
@@ -56,4 +56,4 @@ returns-2 c =
 
 pub cassini-from-spec : {M : Type 1} → statement M
 cassini-from-spec =
-    tie.close (tie.spec (search needs) returns place-requires returns-2)
+    tie.close (tie.spec (search needs) returns project-requires returns-2)

@@ -16,7 +16,7 @@ use Rattle.refusal.specs.Order.{pick}
 use Rattle.ranges.proofs.Ranges.{both, all}
 use Rattle.chain.specs.declared.Chain.{Chain}
 use Rattle.chain.specs.Numbers.{number, chainFrom}
-use Rattle.chain.proofs.LentSteps.{eight-places}
+use Rattle.chain.proofs.LentSteps.{eight-steps}
 use Rattle.line.specs.Bytes.{letterP, lineFeed}
 use Rattle.line.specs.Lines.{lineEnd}
 use Rattle.line.specs.Text.{Wrote}
@@ -103,7 +103,7 @@ module _ (ns : List ℤ) (bytes : List ℕ) (long : length ns ≡ 111) (ranged :
 
     eight : length (chainIn ns .steps) ≡ 8
     unfolding chainIn
-    eight = eight-places _
+    eight = eight-steps _
 
     bad : x .response ≡ response.Unsound → unsound here ≡ endsWith here text end false
     unfolding streamFrom

@@ -23,7 +23,7 @@ use Rattle.chain.specs.declared.Shift.{Shift}
 use Rattle.chain.specs.declared.Velocity.{Velocity}
 use Rattle.chain.specs.declared.BursaWolf.{BursaWolf}
 use Rattle.chain.specs.declared.Kind.the-variants as kind
-use Rattle.chain.specs.Join.{noStep}
+use Rattle.chain.specs.Join.{pastSteps}
 use Rattle.line.specs.Bytes.{letterB, letterF, letterT, letterV}
 use Rattle.line.specs.Text.{Wrote}
 use Rattle.sheet_rules.specs.declared.Reply.{Reply}
@@ -37,7 +37,7 @@ use Rattle.sheet_stream.specs.declared.Outcome.{Outcome}
 use Rattle.sheet_stream.specs.declared.Outcome.the-variants.{Open, Line, Refused}
 use Rattle.sheet_stream.specs.Fragments.{Countable, Short}
 use Rattle.chain.specs.Numbers.{number, chainFrom}
-use Rattle.chain.proofs.LentSteps.{no-places}
+use Rattle.chain.proofs.LentSteps.{eight-none}
 use Rattle.capi.specs.Fragments.{FreshFromC, sizedState, stateRange, isFlag, chainIn, standingIn, streamFrom, flag, bit, headOf, conventionNumber, rowOf, withNewStep, numbersWith, Called, ofOutcome, called, stateCall, toldOf, toldAfter, Stated}
 
 -- ---- the lengths
@@ -95,7 +95,7 @@ countable ns bytes l e =
 -- the state that C begins with
 pub fresh-from-c : FreshFromC
 unfolding streamFrom chainIn
-fresh-from-c = rw (equal-self (pos 0), no-places)
+fresh-from-c = rw (equal-self (pos 0), eight-none)
 
 -- ---- bytes copied one after the other
 pub one-more : (to from : List ℕ) (i : ℕ) → i < length to → i < length from → take i to ≡ take i from → take (i + 1) (set to i (getD from i 0)) ≡ take (i + 1) from
@@ -164,7 +164,7 @@ unfolding streamFrom
 from-parts ns bytes hst hk hf hs = rw (hst, hk, hf, hs)
 
 -- ---- a step taken in
-pub new-step : (ns : List ℤ) (c : Chain) {k : ℕ} → k ≡ natAbs (number ns 6) → k < c .length → sets ns (7 + 13 * k) (rowOf (getD (c .steps) k noStep)) ≡ withNewStep ns c
+pub new-step : (ns : List ℤ) (c : Chain) {k : ℕ} → k ≡ natAbs (number ns 6) → k < c .length → sets ns (7 + 13 * k) (rowOf (getD (c .steps) k pastSteps)) ≡ withNewStep ns c
 unfolding withNewStep
 new-step ns c {k} e h = rw (← e, lt-ltb k (c .length) h)
 

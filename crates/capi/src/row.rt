@@ -57,7 +57,7 @@ fn direction_from(direction: i64) -> Direction
     Direction::Forward
 }
 
-// Eight numbers from a place on.
+// Eight numbers from an index on.
 fn put(
     out: &mut [i64],
     at: usize,
@@ -83,7 +83,7 @@ fn put(
     out[at + 7] = z;
 }
 
-// An answer from a place on: a refusal has zeros beside its number.
+// An answer from an index on: a refusal has zeros beside its number.
 fn put_answer(answer: Answer, out: &mut [i64], at: usize)
     requires { ⌜ at + 8 ≤ length (now out) ⌝ }
     ensures { λ _. ⌜ now (out .exit) ≡ sets (now (out .entry)) at (answerNumbers answer) ⌝ }
@@ -105,7 +105,7 @@ fn put_answer(answer: Answer, out: &mut [i64], at: usize)
     }
 }
 
-// The answer of each point, in its place.
+// The answer of each point, in their order.
 fn put_answers(ready: ReadyChain, direction: Direction, points: &[i64], out: &mut [i64])
     requires { ⌜ length (now points) / 7 * 8 ≤ length (now out) ⌝ }
     ensures { λ _. ⌜ now (out .exit) ≡ sets (now (out .entry)) 0 (answersOf (convertReady ready direction) (length (now (points .entry)) / 7) (now (points .entry))) ⌝ }

@@ -103,10 +103,10 @@ module _ (y : ℤ) (l : List ℤ) (ss : List Step) (holds : Holds y l ss) where
     reached-start [] e = rw no-steps
     reached-start (s ∷ ts) e = rw (some-steps (length ts)) (e .starts)
 
-    -- a sound chain and a point with no fault leave the tests of the place
-    placed : (n : ℕ) (wanted : Realization) → first (ownTests y n ss) ≡ 0 → pointFault y p ≡ 0 → first (ownTests y n ss ++ (pointTests y p ++ realizationAndAreaTests p wanted)) ≡ first (realizationAndAreaTests p wanted)
+    -- a sound chain and a point with no fault leave the tests of its realization and of the area
+    point-then : (n : ℕ) (wanted : Realization) → first (ownTests y n ss) ≡ 0 → pointFault y p ≡ 0 → first (ownTests y n ss ++ (pointTests y p ++ realizationAndAreaTests p wanted)) ≡ first (realizationAndAreaTests p wanted)
     unfolding pointFault
-    placed n wanted good fault =
+    point-then n wanted good fault =
         first-append (ownTests y n ss) (pointTests y p ++ realizationAndAreaTests p wanted) (numbered-steps y ss)
         ∙ ap (λ (m : ℕ). orElse m (first (pointTests y p ++ realizationAndAreaTests p wanted))) good
         ∙ first-append (pointTests y p) (realizationAndAreaTests p wanted) tt
@@ -118,7 +118,7 @@ module _ (y : ℤ) (l : List ℤ) (ss : List Step) (holds : Holds y l ss) where
         let g = rw (take-length ss) at (holds .sound) in
         rw (take-length ss, holds .count, reached-end ss (holds .ends))
         (ap₂ (λ (m : ℕ) (a : Answer). unless m Refused a)
-        (tests (length ss) (startIn l) (startOf (p .realization) ss) short (wanted-start ss (holds .ends)) ∙ sym (placed (length ss) (startOf (p .realization) ss) g fault))
+        (tests (length ss) (startIn l) (startOf (p .realization) ss) short (wanted-start ss (holds .ends)) ∙ sym (point-then (length ss) (startOf (p .realization) ss) g fault))
         (carried-walk forwardBy forwardStep forward-same p (endOf (p .realization) ss) ss (rowsOf l 1 (length ss)) (p .position) (holds .rows)))
 
     pub prepared-inverse : pointFault y p ≡ 0 → inversePrepared l p ≡ inverseOf (chainOf y ss) p
@@ -127,7 +127,7 @@ module _ (y : ℤ) (l : List ℤ) (ss : List Step) (holds : Holds y l ss) where
         let g = rw (take-length ss) at (holds .sound) in
         rw (take-length ss, holds .count, reached-start ss (holds .ends))
         (ap₂ (λ (m : ℕ) (a : Answer). unless m Refused a)
-        (tests (length ss) (endIn l) (endOf (p .realization) ss) short (wanted-end ss (holds .ends)) ∙ sym (placed (length ss) (endOf (p .realization) ss) g fault))
+        (tests (length ss) (endIn l) (endOf (p .realization) ss) short (wanted-end ss (holds .ends)) ∙ sym (point-then (length ss) (endOf (p .realization) ss) g fault))
         (carried-walk inverseBy inverseStep inverse-same p (startOf (p .realization) ss) (reverse ss) (reverse (rowsOf l 1 (length ss))) (p .position) (readied-back ss (rowsOf l 1 (length ss)) (holds .rows))))
 
 -- ---- a sound chain with one sound step more that joins it
@@ -177,14 +177,14 @@ module _ (y : ℤ) (l : List ℤ) (ss : List Step) (s : Step) (holds : Holds y l
   ok : StepOk s
   ok = step-ok y s alone
 
-  place : (joins ss s ≡ true) × (leb 8 (length ss) ≡ false)
-  place =
+  joins-and-fits : (joins ss s ≡ true) × (leb 8 (length ss) ≡ false)
+  joins-and-fits =
       let f = both-pass (stepTests y s) (moreTests ss s) tt passed .1 in
       let g = head-holds (joins ss s) _ _ f in
       (g .0, step-passed (leb 8 (length ss)) _ 0 tt (g .1) .0)
 
   few : length ss < 8
-  few = leb-false 8 (length ss) (place .1)
+  few = leb-false 8 (length ss) (joins-and-fits .1)
 
   abbrev mid : List ℤ
   mid = sets l (8 * (length ss + 1)) (numbersOf (readyFor s))
@@ -218,7 +218,7 @@ module _ (y : ℤ) (l : List ℤ) (ss : List Step) (s : Step) (holds : Holds y l
     count = at-first 0 (omega arith) ∙ ap pos (sym (length-append ss (s ∷ [])));
     ends = rw (at-first 1 (omega arith), at-first 2 (omega arith), at-first 3 (omega arith), at-first 4 (omega arith)) (record { starts = start-more ss (startIn l) s (holds .ends .starts); ends = end-more ss (s .after) s });
     rows = rw (length-append) rows;
-    sound = sound-more y ss s (holds .sound) few alone (place .0);
+    sound = sound-more y ss s (holds .sound) few alone (joins-and-fits .0);
   }
 
   -- the extended numbers hold the chain with the step

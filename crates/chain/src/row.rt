@@ -79,7 +79,7 @@ fn row_fault(chain: Chain, points: usize, answers: usize) -> u8
     checks::chain_fault(chain)
 }
 
-// Each point of a lent row by one chain. The first answers are those of `forward` or `inverse` for each point, in order, refused or not; places past the
+// Each point of a lent row by one chain. The first answers are those of `forward` or `inverse` for each point, in order, refused or not; answers past the
 // points are left as they were. A row of answers that is too short, or a bad chain, gives its number and writes nothing; else 0.
 pub fn convert_row(
     chain: Chain,

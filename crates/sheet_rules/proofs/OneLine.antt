@@ -124,7 +124,7 @@ module _ (c : Chain) (h : c .length ≤ length (c .steps)) (a : Bool) (r : Reply
   after-refusal k n p d e = rw (d, e) (chain-same c h)
 
 module _ (st : Standing) (l : List ℕ) where
-  -- the steps in the places after a line, under whatever profile
+  -- the steps in the chain after a line, under whatever profile
   pub chain-by : (c : Chain) (r : Reply) (y : ℤ) → r ≡ replyOf (said st) l → y ≡ nextOf (said st) l .profile → c ≡ chainWith (st .chain) (st .chain .profile) (stepsAfter (stepsOf (st .chain)) (eqb (getD l 0 0) letterS) r (readStep (st .chain .profile) l)) → record { steps = c .steps; length = c .length; profile = y } ≡ chainWith (st .chain) (nextOf (said st) l .profile) (nextOf (said st) l .steps)
   chain-by c r y e g f = rw (f, e, g, steps-by (said st) l)
 
@@ -158,7 +158,7 @@ pub held : (st : Standing) (l : List ℤ) → st .chain .length < st .line → p
 held st l n h = record { line = refl; profile = refl; refused = refl; closed = refl; chain = h; counted = omega (arith, n, few-steps (st .chain)) }
 
 -- ---- where a sheet stands after a line
--- the sheet that stands in a chain's places is that sheet
+-- the sheet that stands in a chain is that sheet
 pub said-at : (c : Chain) (s : Sheet) → said (standingAt c s) ≡ s
 said-at c s = rw (take-append-seam (s .steps) (drop (length (s .steps)) (c .steps)))
 
@@ -182,7 +182,7 @@ module _ (st : Standing) (l : List ℕ) where
   pub after-rules : st .line ≤ mostLines → said (afterLine st l) ≡ nextOf (said st) l
   after-rules h = ap said (after-at h) ∙ said-at (st .chain) (nextOf (said st) l)
 
--- ---- a line more, in a chain's own places
+-- ---- a line more, in a chain's own steps
 -- no line takes a step away
 grows : (s : Sheet) (l : List ℕ) → length (s .steps) ≤ length (nextOf s l .steps)
 unfolding nextOf
@@ -208,18 +208,18 @@ grows s l = by-letters (λ (x : Sheet). length (s .steps) ≤ length (x .steps))
         go zero = same
         go (suc n) = same
 
-past-places : (xs ys : List Step) (m : ℕ) → length xs ≤ m → drop m (xs ++ drop (length xs) ys) ≡ drop m ys
-past-places [] ys m h = refl
-past-places (x ∷ xs) ys zero h = absurd (omega arith)
-past-places (x ∷ xs) [] (suc m) h = ap (λ (l : List Step). drop m (xs ++ l)) (sym (drop-nil (length xs))) ∙ past-places xs [] m (omega arith) ∙ drop-nil m
-past-places (x ∷ xs) (y ∷ ys) (suc m) h = past-places xs ys m (omega arith)
+past-steps : (xs ys : List Step) (m : ℕ) → length xs ≤ m → drop m (xs ++ drop (length xs) ys) ≡ drop m ys
+past-steps [] ys m h = refl
+past-steps (x ∷ xs) ys zero h = absurd (omega arith)
+past-steps (x ∷ xs) [] (suc m) h = ap (λ (l : List Step). drop m (xs ++ l)) (sym (drop-nil (length xs))) ∙ past-steps xs [] m (omega arith) ∙ drop-nil m
+past-steps (x ∷ xs) (y ∷ ys) (suc m) h = past-steps xs ys m (omega arith)
 
 pub after-standing : (c : Chain) (s : Sheet) (l : List ℕ) → s .line ≤ mostLines → afterLine (standingAt c s) l ≡ standingAt c (nextOf s l)
 after-standing c s l h =
     after-at (standingAt c s) l h
     ∙ ap (λ (x : Sheet). standingAt (chainWith c (s .profile) (s .steps)) (nextOf x l)) (said-at c s)
     ∙ ap (λ (p : List Step). record { line = nextOf s l .line; chain = record { steps = nextOf s l .steps ++ p; length = length (nextOf s l .steps); profile = nextOf s l .profile }; refused = nextOf s l .refused; closed = nextOf s l .closed })
-    (past-places (s .steps) (c .steps) (length (nextOf s l .steps)) (grows s l))
+    (past-steps (s .steps) (c .steps) (length (nextOf s l .steps)) (grows s l))
 
 -- what the rules say alike of two lines is answered alike
 pub same-reply : (st : Standing) (k l : List ℕ) → replyOf (said st) k ≡ replyOf (said st) l → replyTo st k ≡ replyTo st l
@@ -252,8 +252,8 @@ unfolding soundStanding counted
 sound-made st p = rw (lt-ltb (st .chain .length) (st .line) (p .from), le-leb (st .line) (suc mostLines) (p .to), p .chain)
 
 -- nothing read yet
-pub fresh-sound : (places : List Step) → Sound (freshAt places)
-fresh-sound places = record { from = omega arith; to = omega arith; chain = holds-fresh .sound }
+pub fresh-sound : (spare : List Step) → Sound (freshAt spare)
+fresh-sound spare = record { from = omega arith; to = omega arith; chain = holds-fresh .sound }
 
 -- ---- it stays sound
 abbrev Good : ℤ → List Step → Type 0

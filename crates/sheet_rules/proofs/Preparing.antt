@@ -25,7 +25,7 @@ use Rattle.chain.proofs.Keeping.{holds-none, steps-at, extend-joins, extend-hol
 use Rattle.sheet_rules.specs.OneLine.{Prepares}
 
 -- ---- the steps of a chain, one by one
--- the first n of a list, parted at a place below n
+-- the first n of a list, parted at an index below n
 parted : (l : List Step) (n i : ℕ) (d : Step) → i < n → i < length l → (b : List Step) × (take n l ≡ take i l ++ (getD l i d ∷ b))
 parted [] n i d h k = absurd (NatL.not-suc-le-zero k)
 parted (x ∷ xs) zero i d h k = absurd (NatL.not-suc-le-zero h)

@@ -32,17 +32,17 @@ mostLines = 1000000
 abbrev pub said : Standing → Sheet
 said s = record { line = s .line; profile = s .chain .profile; steps = stepsOf (s .chain); refused = s .refused; closed = s .closed }
 
--- these steps in a chain's places, under a profile; the places past them stay as they were
+-- these steps in a chain, under a profile; what stands past them stays as it was
 abbrev pub chainWith : Chain → ℤ → List Step → Chain
 chainWith c y ss = record { steps = ss ++ drop (length ss) (c .steps); length = length ss; profile = y }
 
--- where a sheet stands, in the places of a chain
+-- where a sheet stands, its steps in a chain
 abbrev pub standingAt : Chain → Sheet → Standing
 standingAt c s = record { line = s .line; chain = chainWith c (s .profile) (s .steps); refused = s .refused; closed = s .closed }
 
--- nothing read yet, in whatever places
+-- nothing read yet, whatever steps the chain has to spare
 abbrev pub freshAt : List Step → Standing
-freshAt places = record { line = 1; chain = record { steps = places; length = 0; profile = latest }; refused = false; closed = false }
+freshAt spare = record { line = 1; chain = record { steps = spare; length = 0; profile = latest }; refused = false; closed = false }
 
 -- ---- a sheet can stand here: its counts are in range, and its chain is good by value
 -- the line to come has at most one line past the limit as its number, and no line before it gave more than one step

@@ -27,12 +27,12 @@ use Rattle.sheet_rules.proofs.Unread.{open-18}
 use Rattle.sheet_stream.specs.declared.Stream.{Stream}
 use Rattle.sheet_stream.specs.declared.Fed.{Fed}
 use Rattle.sheet_stream.specs.declared.Outcome.the-variants.{Open, Line, Refused}
-use Rattle.sheet_stream.specs.Fragments.{between, empty, keep, held, unended, closing, ended, endReply, fed, later, scan, sound, unsound, feedOf, finishOf, Countable, Short}
+use Rattle.sheet_stream.specs.Fragments.{between, noBytes, keep, held, unended, closing, ended, endReply, fed, later, scan, sound, unsound, feedOf, finishOf, Countable, Short}
 
 -- no bytes kept: a room of zeros
-pub empty-is : replicate 200 0 ≡ empty
-unfolding empty
-empty-is = refl
+pub no-bytes-is : replicate 200 0 ≡ noBytes
+unfolding noBytes
+no-bytes-is = refl
 
 -- ---- a sound state
 pub record Sound (s : Stream) : Type 0 where

@@ -31,7 +31,7 @@ use Rattle.sheet_rules.proofs.Room.{sheet-lines}
 use Rattle.sheet_rules.proofs.Unread.{cut-reply, cut-next, open-reply, open-next}
 use Rattle.sheet_stream.specs.declared.Stream.{Stream}
 use Rattle.sheet_stream.specs.declared.Outcome.the-variants.{Open, Line, Refused}
-use Rattle.sheet_stream.specs.Fragments.{empty, between, fresh, keep, held, unended, closing, ended, endReply, finishOf}
+use Rattle.sheet_stream.specs.Fragments.{noBytes, between, fresh, keep, held, unended, closing, ended, endReply, finishOf}
 use Rattle.sheet_stream.specs.Calls.{Told, told, after, deliver, joined, bytes, finished, rulesRun, rulesLast, texts}
 use Rattle.sheet_stream.specs.WholeSheet.{OverTheLink, oneRun, answersTo, closingOf, noSteps, pastLimit}
 use Rattle.sheet_stream.proofs.Laws.{Sound, sound-parts, sound-made, sound-ended, sound-keep, unended-same, finish-none, finish-open}
@@ -76,7 +76,7 @@ record Holds (s : Stream) (st : Standing) (w : List ℕ) : Type 0 where
   size : length (s .kept) ≡ longestLine
 
 held-none : (st : Standing) (fin : Bool) → Holds (between st fin) st []
-unfolding empty
+unfolding noBytes
 held-none st fin = record { standing = refl; count = refl; begins = refl; size = length-replicate {A = ℕ} 200 0 }
 
 held-more : (s : Stream) (st : Standing) (w : List ℕ) (b : ℕ) → Holds s st w → Holds (keep s b) st (w ++ (b ∷ []))
@@ -183,8 +183,8 @@ runs (b ∷ f) s st w p n h =
     go true q e k = rw (eqb-true b lineFeed q) (at-feed s st w (bytes (ended s) f) (linesFrom [] f) n h e)
     go false q e k = k (eqb-false b lineFeed q)
 
-fresh-sound : (places : List Step) → Sound (fresh places)
-fresh-sound places = record { going = refl; count = omega arith; standing = line.fresh-sound places }
+fresh-sound : (spare : List Step) → Sound (fresh spare)
+fresh-sound spare = record { going = refl; count = omega arith; standing = line.fresh-sound spare }
 
 -- ---- the run is the rules' own up to the limit, then 28 for each further line
 limited : (ls : List (List ℕ)) (st : Standing) (k : ℕ) → st .line + k ≡ suc mostLines → run st ls ≡ rulesRun (said st) (take k ls) ++ replicate (length ls - k) pastLimit
@@ -202,7 +202,7 @@ limited (l ∷ ls) st (suc k) e =
     let j : rulesRun (said (afterLine st l)) (take k ls) ≡ rulesRun (nextOf (said st) l) (take k ls) = ap (λ (x : Sheet). rulesRun x (take k ls)) (after-rules st l h) in
     rw (reply-rules st l h, i, j, y)
 
--- and leaves the sheet where the rules leave it, in the places of the chain that it began with
+-- and leaves the sheet where the rules leave it, in the chain that it began with
 stands : (ls : List (List ℕ)) (c : Chain) (s : Sheet) (k : ℕ) → s .line + k ≡ suc mostLines → last (standingAt c s) ls ≡ standingAt c (rulesLast s (take k ls))
 unfolding last rulesLast
 stands [] c s k e = rw (take-nil k)
@@ -210,20 +210,20 @@ stands (l ∷ ls) c s zero e = rw (after-past (standingAt c s) l (omega arith)) 
 stands (l ∷ ls) c s (suc k) e =
     ap (λ (st : Standing). last st ls) (after-standing c s l (omega arith)) ∙ stands ls c (nextOf s l) k (omega (arith, next-line s l))
 
-ran : (places : List Step) (text : List ℕ) → Ran (freshAt places) (lines text) ≡ oneRun places text
+ran : (spare : List Step) (text : List ℕ) → Ran (freshAt spare) (lines text) ≡ oneRun spare text
 unfolding answersTo closingOf
-ran places text =
-    rw (limited (lines text) (freshAt places) mostLines refl, stands (lines text) (noSteps places) sheet.fresh mostLines refl)
+ran spare text =
+    rw (limited (lines text) (freshAt spare) mostLines refl, stands (lines text) (noSteps spare) sheet.fresh mostLines refl)
 
 -- the answers and the closing state, byte by byte
-bytes-run : (places : List Step) (text : List ℕ) → finished (bytes (fresh places) text) ≡ oneRun places text
-bytes-run places text =
-    runs text (fresh places) (freshAt places) [] (fresh-sound places) none-yet (held-none (freshAt places) false)
-    ∙ ap (Ran (freshAt places)) (from-lines [] text ∙ glue-none (lines text))
-    ∙ ran places text
+bytes-run : (spare : List Step) (text : List ℕ) → finished (bytes (fresh spare) text) ≡ oneRun spare text
+bytes-run spare text =
+    runs text (fresh spare) (freshAt spare) [] (fresh-sound spare) none-yet (held-none (freshAt spare) false)
+    ∙ ap (Ran (freshAt spare)) (from-lines [] text ∙ glue-none (lines text))
+    ∙ ran spare text
 
-cut : (places : List Step) (fs : List (List ℕ)) → finished (deliver (fresh places) fs) ≡ oneRun places (joined fs)
-cut places fs = ap finished (deliver-bytes (fresh places) fs (fresh-sound places)) ∙ bytes-run places (joined fs)
+cut : (spare : List Step) (fs : List (List ℕ)) → finished (deliver (fresh spare) fs) ≡ oneRun spare (joined fs)
+cut spare fs = ap finished (deliver-bytes (fresh spare) fs (fresh-sound spare)) ∙ bytes-run spare (joined fs)
 
 -- ---- and prints what a whole sheet prints
 prints : (ls : List (List ℕ)) (s : Sheet) → texts (rulesRun s ls) ≡ listing.run rules s ls
@@ -235,16 +235,16 @@ prints (l ∷ ls) s = ap (λ (t : List ℕ). replyText (sheet.replyOf s l) ++ t)
 all-answered : (k : ℕ) (ls : List (List ℕ)) → length ls ≤ k → texts (rulesRun sheet.fresh (take k ls) ++ replicate (length ls - k) pastLimit) ≡ listing.run rules sheet.fresh ls
 all-answered k ls h = let z : length ls - k ≡ 0 = omega (arith, h) in rw (z, take-all k ls h, append-nil) (prints ls sheet.fresh)
 
-printed : (places : List Step) (fs : List (List ℕ)) → length (joined fs) ≤ longestInput → texts (finished (deliver (fresh places) fs) .replies) ≡ sheet.sheetOf (joined fs)
+printed : (spare : List Step) (fs : List (List ℕ)) → length (joined fs) ≤ longestInput → texts (finished (deliver (fresh spare) fs) .replies) ≡ sheet.sheetOf (joined fs)
 unfolding answersTo
-printed places fs h =
-    ap (λ (t : Told). texts (t .replies)) (cut places fs)
+printed spare fs h =
+    ap (λ (t : Told). texts (t .replies)) (cut spare fs)
     ∙ all-answered mostLines (lines (joined fs)) (omega (arith, count-lines (joined fs), h))
     ∙ sym (sheet-lines (joined fs) h)
 
 pub over-the-link : OverTheLink
 over-the-link = record {
   cut = cut;
-  called = λ places text rs t c. ap finished (sym (any-calls (fresh-sound places) c)) ∙ bytes-run places text;
+  called = λ spare text rs t c. ap finished (sym (any-calls (fresh-sound spare) c)) ∙ bytes-run spare text;
   printed = printed;
 }

@@ -4,7 +4,7 @@ ghost use mathlib.Core.Path.{_≡_};
 ghost use Prim.Native.Nat.{_+_, _-_, _<_, _≤_, min};
 ghost use lib.Seq.{sets};
 ghost use lib.ListN.{length, take, replicate};
-ghost use Rattle.sheet_stream.specs.Fragments.{empty, noStep, fresh as Fragments·fresh, unended, unsound, endsWith, fedAt, feedOf, finishOf};
+ghost use Rattle.sheet_stream.specs.Fragments.{noBytes, spareStep, fresh as Fragments·fresh, unended, unsound, endsWith, fedAt, feedOf, finishOf};
 use chain::Chain;
 use chain::Kind;
 use chain::Realization;
@@ -47,14 +47,14 @@ pub struct Fed {
 }
 
 fn no_bytes() -> [u8; 200]
-    ensures { λ r. ⌜ r ≡ empty ⌝ }
+    ensures { λ r. ⌜ r ≡ noBytes ⌝ }
 {
     [0; 200]
 }
 
-// What stands in the places past a chain's steps.
-fn no_step() -> Step
-    ensures { λ r. ⌜ r ≡ noStep ⌝ }
+// What stands past a chain's steps.
+fn spare_step() -> Step
+    ensures { λ r. ⌜ r ≡ spareStep ⌝ }
 {
     Step {
         kind: Kind::Frame,
@@ -65,9 +65,9 @@ fn no_step() -> Step
 
 // Nothing has come yet.
 pub fn fresh() -> Stream
-    ensures { λ r. ⌜ r ≡ Fragments·fresh (replicate 8 noStep) ⌝ }
+    ensures { λ r. ⌜ r ≡ Fragments·fresh (replicate 8 spareStep) ⌝ }
 {
-    let step = no_step();
+    let step = spare_step();
     let steps = [step; 8];
     let kept = no_bytes();
     Stream {

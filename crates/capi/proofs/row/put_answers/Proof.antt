@@ -1,4 +1,4 @@
--- `capi::row::put_answers` meets its contract: what is left to put, from the i-th place on, makes the whole. Assumes nothing.
+-- `capi::row::put_answers` meets its contract: what is left to put, from the i-th answer on, makes the whole. Assumes nothing.
 use mathlib.Core.Path.{_≡_, refl, sym, _∙_, ap}
 use mathlib.Core.List.{List}
 use Prim.Native.Nat.{ℕ, _+_, _-_, _*_, _/_, _<_, _≤_}

@@ -31,7 +31,7 @@ returns c =
 same-realization-requires : tie.Need-same-realization-requires
 same-realization-requires c κs = tt
 
--- where the point's numbers are not refused, its place decides
+-- where the point's numbers are not refused, its realization and the area decide
 module _ (c : tie.Else1) where
   abbrev profile : ℤ
   profile = c .before .before .args .profile
@@ -42,16 +42,16 @@ module _ (c : tie.Else1) where
   abbrev wanted : Realization
   wanted = c .before .before .args .wanted
 
-  place : first (realizationAndAreaTests point wanted) ≡ first (pointTests profile point ++ realizationAndAreaTests point wanted)
+  realization-and-area : first (realizationAndAreaTests point wanted) ≡ first (pointTests profile point ++ realizationAndAreaTests point wanted)
   unfolding pointFault
-  place = sym (on (pointTests profile point) (realizationAndAreaTests point wanted) (passed (pointTests profile point) tt (sym (own (c .before)) ∙ c .if1 .left)))
+  realization-and-area = sym (on (pointTests profile point) (realizationAndAreaTests point wanted) (passed (pointTests profile point) tt (sym (own (c .before)) ∙ c .if1 .left)))
 
 returns-2 : tie.Need-returns-2
 returns-2 c =
     let t = c .before .before .before in
     let a = sym (c .before .same-realization .ensures) ∙ not-true _ (c .if2 .taken) in
     let e : _≡_ {A = ℕ} 9 (first (realizationAndAreaTests (point t) (wanted t))) = rw a in
-    e ∙ place t
+    e ∙ realization-and-area t
 
 in-area-requires : tie.Need-in-area-requires
 in-area-requires c κs = tt
@@ -63,7 +63,7 @@ returns-3 c =
     let a = sym (d .before .same-realization .ensures) ∙ not-false _ (d .if2 .left) in
     let b = sym (c .before .in-area .ensures) ∙ not-true _ (c .if3 .taken) in
     let e : _≡_ {A = ℕ} 10 (first (realizationAndAreaTests (point t) (wanted t))) = rw (a, b) in
-    e ∙ place t
+    e ∙ realization-and-area t
 
 returns-4 : tie.Need-returns-4
 returns-4 c =
@@ -72,7 +72,7 @@ returns-4 c =
     let a = sym (d .before .same-realization .ensures) ∙ not-false _ (d .if2 .left) in
     let b = sym (c .before .in-area .ensures) ∙ not-false _ (c .if3 .left) in
     let e : _≡_ {A = ℕ} 0 (first (realizationAndAreaTests (point t) (wanted t))) = rw (a, b) in
-    e ∙ place t
+    e ∙ realization-and-area t
 
 pub entry-fault-spec : {M : Type 1} → statement M
 entry-fault-spec = tie.close (tie.spec point-fault-requires returns same-realization-requires returns-2 in-area-requires returns-3 returns-4)

@@ -29,14 +29,14 @@ use Rattle.refusal.proofs.Orders as orders
 use Rattle.refusal.proofs.Orders.{Passed, passed, both, unless-none}
 use Rattle.elementary.proofs.Formulas.{n}
 use Rattle.angle.proofs.Formulas.{eastF, northF}
-use Rattle.angle.proofs.Sizes.{from, most, eccentricity, Shaped, shaped, sine-latitude, cosine-latitude, radius-among, arc-among, metres-among}
+use Rattle.angle.proofs.Sizes.{from, sizeUpTo, eccentricity, Shaped, shaped, sine-latitude, cosine-latitude, radius-among, arc-among, metres-among}
 use Rattle.ranges.specs.Ranges.{upTo}
 use Rattle.ranges.proofs.Ranges.{natural, up-to-holds}
 use Rattle.angle.proofs.Wholes.{natural-upto, upto}
 
 -- ---- what is added is a zero
 abbrev ends : List Ends
-ends = eccentricity ∷ most 3 20 ∷ from 98 100 102 100 ∷ most 6379000 1 ∷ nought ∷ nought ∷ []
+ends = eccentricity ∷ sizeUpTo 3 20 ∷ from 98 100 102 100 ∷ sizeUpTo 6379000 1 ∷ nought ∷ nought ∷ []
 
 east-test : T (tested ends eastF nought)
 unfolding tested

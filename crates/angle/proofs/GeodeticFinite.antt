@@ -26,7 +26,7 @@ use Rattle.angle.specs.declared.Found.{Found}
 use Rattle.angle.specs.declared.GeodeticUnits.the-variants.{Refused}
 use Rattle.angle.proofs.WholeAnswers.{Bound, whole-answer}
 use Rattle.angle.proofs.GeodeticFormulas.{latitudeF, longitudeF, heightF, given, found-is}
-use Rattle.angle.proofs.Sizes.{above, most, axis, flattening, eccentricity, shaped}
+use Rattle.angle.proofs.Sizes.{above, sizeUpTo, axis, flattening, eccentricity, shaped}
 use Rattle.angle.proofs.Wholes.{negative}
 
 -- ---- X, Y and Z of the area as f64s
@@ -76,7 +76,7 @@ abbrev longitudeB : Ends
 longitudeB = above 22000 1 140000 1
 
 abbrev heightB : Ends
-heightB = most 3300000 1
+heightB = sizeUpTo 3300000 1
 
 latitude-test : T (tested area latitudeF latitudeB)
 unfolding tested round neg div seconds

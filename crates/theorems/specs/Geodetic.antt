@@ -10,14 +10,14 @@ use Rattle.bounds.proofs.Formula.{Fine}
 use Rattle.angle.specs.Ranges.{positionTests}
 use Rattle.angle.specs.Ellipsoids.{ellipsoidOf}
 use Rattle.angle.specs.Geodetic.{foundAt, inRanges, geodeticUnitsOf}
-use Rattle.angle.proofs.Sizes.{above, most}
+use Rattle.angle.proofs.Sizes.{above, sizeUpTo}
 use Rattle.angle.proofs.GeodeticFormulas.{latitudeF, longitudeF, heightF, given}
 
 -- latitude 0 to 43,200 seconds, which is never negative; longitude 22,000 to 140,000 seconds past 90 degrees; height at most 3,300,000 m in size
 pub record Sized (a b c : Float) : Type 0 where
   pub latitude : Among a (above 0 1 43200 1)
   pub longitude : Among b (above 22000 1 140000 1)
-  pub height : Among c (most 3300000 1)
+  pub height : Among c (sizeUpTo 3300000 1)
 
 abbrev pub FoundBounded : Type 0
 FoundBounded = (code X Y Z : ℤ) → first (positionTests code X Y Z) ≡ 0 → let f = foundAt (ellipsoidOf code) X Y Z in Sized (f .latitude) (f .longitude) (f .height)

@@ -14,7 +14,7 @@ use Rattle.angle.specs.Units.{metres}
 use Rattle.angle.specs.Ranges.{originFault}
 use Rattle.angle.specs.Cartesian.{cartesianOf, cartesianUnitsOf}
 use Rattle.angle.specs.Cassini.{cassiniOf, cassiniMillimetresOf}
-use Rattle.angle.proofs.Sizes.{most}
+use Rattle.angle.proofs.Sizes.{sizeUpTo}
 
 -- every accepted origin goes to exactly its false easting and northing
 abbrev pub AtOrigin : Type 0
@@ -22,17 +22,17 @@ AtOrigin = (o : OriginNumbers) → originFault o ≡ 0 → cassiniOf o (o .latit
 
 -- a position's X, Y and Z: finite, and at most so many metres in size
 pub record Bounded (a b c : Float) : Type 0 where
-  pub x : Among a (most 3700000 1)
-  pub y : Among b (most 7500000 1)
-  pub z : Among c (most 1000000 1)
+  pub x : Among a (sizeUpTo 3700000 1)
+  pub y : Among b (sizeUpTo 7500000 1)
+  pub z : Among c (sizeUpTo 1000000 1)
 
 abbrev pub CartesianFinite : Type 0
 CartesianFinite = (code lat lon h : ℤ) (x y z : Float) → cartesianOf code lat lon h ≡ cartesian.Metres x y z → Bounded x y z
 
 -- an easting and a northing
 pub record Laid (a b : Float) : Type 0 where
-  pub east : Among a (most 2500000 1)
-  pub north : Among b (most 3900000 1)
+  pub east : Among a (sizeUpTo 2500000 1)
+  pub north : Among b (sizeUpTo 3900000 1)
 
 abbrev pub ProjectedFinite : Type 0
 ProjectedFinite = (o : OriginNumbers) (lat lon : ℤ) (e n : Float) → cassiniOf o lat lon ≡ projected.Metres e n → Laid e n

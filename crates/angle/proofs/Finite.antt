@@ -194,9 +194,9 @@ module _ (o : OriginNumbers) (lat lon : ℤ) (p : Passed (originTests o)) (q : P
       (also (cosine-latitude g lat G latitude′)
       (also (radius-among g lat G latitude′) (also difference (also arcs-among (also (metres-among z h) none))))))
 
-  projected-bounded : ProjectedBounded (cassiniAt (originMade o) lat lon)
+  cassini-bounded : ProjectedBounded (cassiniAt (originMade o) lat lon)
   unfolding value cassiniAt cassiniWith originMade
-  projected-bounded = (
+  cassini-bounded = (
     proved (laid (o .«false_easting») (upto 2000000000 1999999999 (o .«false_easting») 2000000000 (lit≤ tt) (lit≤ tt) (not-false _ (p .1 .0)))) (plus (var 6) eastF) (sizeUpTo 2500000 1) east-test,
     proved (laid (o .«false_northing») (upto 2000000000 1999999999 (o .«false_northing») 2000000000 (lit≤ tt) (lit≤ tt) (not-false _ (p .1 .1 .0)))) (plus (var 6) northF) (sizeUpTo 3900000 1) north-test,
   )
@@ -207,7 +207,7 @@ projected-bounded o lat lon =
     given (first (cassiniTests o lat lon)) projected.Refused (cassiniAt (originMade o) lat lon) ProjectedBounded (λ i. tt)
     (λ (z : first (cassiniTests o lat lon) ≡ 0).
     let p : Passed (cassiniTests o lat lon) = passed (cassiniTests o lat lon) tt z in
-    projected-bounded o lat lon (p .0, (p .1 .0, (p .1 .1 .0, (p .1 .1 .1 .0, (p .1 .1 .1 .1 .0, tt))))) (p .1 .1 .1 .1 .1))
+    cassini-bounded o lat lon (p .0, (p .1 .0, (p .1 .1 .0, (p .1 .1 .1 .0, (p .1 .1 .1 .1 .0, tt))))) (p .1 .1 .1 .1 .1))
 
 -- ---- no rounding refuses
 bound-x : Bound 3700000

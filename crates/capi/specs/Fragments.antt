@@ -106,13 +106,13 @@ kindRow (Velocity t) s = row (pos letterV) (pos 0) s (t .vx) (t .vy) (t .vz) (po
 kindRow (BursaWolf t) s = row (pos letterB) (conventionNumber (t .convention)) s (t .dx) (t .dy) (t .dz) (t .rx) (t .ry) (t .rz) (t .s)
 kindRow Frame s = row (pos letterF) (pos 0) s (pos 0) (pos 0) (pos 0) (pos 0) (pos 0) (pos 0) (pos 0)
 
-unfoldable pub rowOf : Step → List ℤ
-rowOf s = kindRow (s .kind) s
+unfoldable pub stepNumbers : Step → List ℤ
+stepNumbers s = kindRow (s .kind) s
 
 -- a step that was taken in stands past those that were there
 unfoldable pub withNewStep : List ℤ → Chain → List ℤ
 withNewStep ns c =
-    pick (ltb (natAbs (number ns 6)) (c .length)) (sets ns (7 + 13 * natAbs (number ns 6)) (rowOf (getD (c .steps) (natAbs (number ns 6)) pastSteps))) ns
+    pick (ltb (natAbs (number ns 6)) (c .length)) (sets ns (7 + 13 * natAbs (number ns 6)) (stepNumbers (getD (c .steps) (natAbs (number ns 6)) pastSteps))) ns
 
 -- the state's numbers after a call, from those before it
 unfoldable pub numbersWith : List ℤ → Stream → List ℤ

@@ -31,11 +31,11 @@ countOf (refused n) = negℤ (pos n)
 countOf (gives vs) = pos (length vs)
 
 -- they stand at the start of the array, which is as it was past them; and all of it where none are given
-abbrev pub startOf : CallOutcome ℤ → List ℤ → List ℤ
-startOf wrongLength before = before
-startOf (refused n) before = before
-startOf (gives vs) before = vs ++ drop (length vs) before
+abbrev pub atStart : CallOutcome ℤ → List ℤ → List ℤ
+atStart wrongLength before = before
+atStart (refused n) before = before
+atStart (gives vs) before = vs ++ drop (length vs) before
 
 pub record Counted (o : CallOutcome ℤ) (before after : List ℤ) (r : ℤ) : Type 0 where
   pub status : r ≡ countOf o
-  pub out : after ≡ startOf o before
+  pub out : after ≡ atStart o before

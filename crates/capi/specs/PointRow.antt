@@ -30,8 +30,8 @@ answersOf f zero ns = []
 answersOf f (suc n) ns = answerNumbers (f (pointFrom ns)) ++ answersOf f n (drop 7 ns)
 
 -- ---- which way: 0 along the chain, 1 back
-abbrev pub known : ℤ → Bool
-known d = letter d 0 || letter d 1
+abbrev pub directionRange : ℤ → Bool
+directionRange d = letter d 0 || letter d 1
 
 unfoldable pub directionFrom : ℤ → Direction
 directionFrom d = pick (letter d 1) Inverse Forward
@@ -43,7 +43,7 @@ wholeRows chain points answers = eqb (chain % 13) 0 && eqb (points % 7) 0 && eqb
 
 -- fewer answers than points: 26; then a direction that is neither: 2
 abbrev pub lentTests : ℤ → ℕ → ℕ → List Test
-lentTests d points answers = (ltb answers points gives refusal.row) ∷ (not (known d) gives refusal.range) ∷ []
+lentTests d points answers = (ltb answers points gives refusal.row) ∷ (not (directionRange d) gives refusal.range) ∷ []
 
 -- then the chain by itself; and where nothing is refused, each point's answer is the single conversion's, and the array past them stays
 unfoldable pub rowCall : ℤ → List ℤ → ℤ → List ℤ → List ℤ → CallOutcome ℤ

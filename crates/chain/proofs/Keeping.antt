@@ -23,7 +23,7 @@ use Rattle.chain.specs.Faults.{StepOk, latest, stepFault, pointFault, pr
 use Rattle.chain.specs.Parts.{forwardBy, inverseBy}
 use Rattle.chain.specs.Convert.{forwardStep, inverseStep, startOf, endOf, joins, moreTests, realizationAndAreaTests, convert, forwardOf, inverseOf}
 use Rattle.chain.specs.Ready.{readyFor}
-use Rattle.chain.specs.Prepared.{number, lengthIn, startIn, endIn, numbersOf, rowsOf, extendFault, firstRow, startWith, keptOf, extendedBy, preparedTests, reachedWith, forwardPrepared, inversePrepared, chainOf, Readied, Ends, Holds}
+use Rattle.chain.specs.Prepared.{rowNumber, lengthIn, startIn, endIn, numbersOf, rowsOf, extendFault, firstRow, startWith, keptOf, extendedBy, preparedTests, reachedWith, forwardPrepared, inversePrepared, chainOf, Readied, ChainEnds, Holds}
 use Rattle.chain.proofs.Sizes.{step-ok}
 use Rattle.chain.proofs.Prepared.{prepares, forward-same, inverse-same}
 use Rattle.chain.proofs.Accepted.{numbered-steps}
@@ -83,22 +83,22 @@ module _ (y : ℤ) (l : List ℤ) (ss : List Step) (holds : Holds y l ss) where
     tests : (n : ℕ) (given wanted : Realization) → n ≤ 8 → (equal (pos 0) (pos n) || sameRealization (p .realization) given) ≡ sameRealization (p .realization) wanted → first (preparedTests (pos n) given p) ≡ first (realizationAndAreaTests p wanted)
     tests n given wanted h e = rw (few-steps n 8 h, e)
 
-    wanted-start : (ts : List Step) → Ends (startIn l) (endIn l) ts → (equal (pos 0) (pos (length ts)) || sameRealization (p .realization) (startIn l)) ≡ sameRealization (p .realization) (startOf (p .realization) ts)
+    wanted-start : (ts : List Step) → ChainEnds (startIn l) (endIn l) ts → (equal (pos 0) (pos (length ts)) || sameRealization (p .realization) (startIn l)) ≡ sameRealization (p .realization) (startOf (p .realization) ts)
     unfolding startOf
     wanted-start [] e = rw (no-steps, same-self (p .realization))
     wanted-start (s ∷ ts) e = rw (some-steps (length ts)) (ap (sameRealization (p .realization)) (e .starts))
 
-    wanted-end : (ts : List Step) → Ends (startIn l) (endIn l) ts → (equal (pos 0) (pos (length ts)) || sameRealization (p .realization) (endIn l)) ≡ sameRealization (p .realization) (endOf (p .realization) ts)
+    wanted-end : (ts : List Step) → ChainEnds (startIn l) (endIn l) ts → (equal (pos 0) (pos (length ts)) || sameRealization (p .realization) (endIn l)) ≡ sameRealization (p .realization) (endOf (p .realization) ts)
     unfolding endOf
     wanted-end [] e = rw (no-steps, same-self (p .realization))
     wanted-end (s ∷ ts) e = rw (some-steps (length ts)) (ap (sameRealization (p .realization)) (e .ends))
 
-    reached-end : (ts : List Step) → Ends (startIn l) (endIn l) ts → reachedWith (pos (length ts)) (p .realization) (endIn l) ≡ endOf (p .realization) ts
+    reached-end : (ts : List Step) → ChainEnds (startIn l) (endIn l) ts → reachedWith (pos (length ts)) (p .realization) (endIn l) ≡ endOf (p .realization) ts
     unfolding endOf
     reached-end [] e = rw no-steps
     reached-end (s ∷ ts) e = rw (some-steps (length ts)) (e .ends)
 
-    reached-start : (ts : List Step) → Ends (startIn l) (endIn l) ts → reachedWith (pos (length ts)) (p .realization) (startIn l) ≡ startOf (p .realization) ts
+    reached-start : (ts : List Step) → ChainEnds (startIn l) (endIn l) ts → reachedWith (pos (length ts)) (p .realization) (startIn l) ≡ startOf (p .realization) ts
     unfolding startOf
     reached-start [] e = rw no-steps
     reached-start (s ∷ ts) e = rw (some-steps (length ts)) (e .starts)
@@ -144,7 +144,7 @@ sound-more y ss t e h f j =
     rw (take-length (ss ++ (t ∷ [])), m .0, a) (steps-joined y ss (t ∷ []) (n .1) (alone-passes y t f) j)
 
 -- ---- a prepared chain with a step more
-joined : (ss : List Step) (l : List ℤ) (s : Step) → Ends (startIn l) (endIn l) ss → (equal (pos 0) (pos (length ss)) || sameRealization (endIn l) (s .before)) ≡ joins ss s
+joined : (ss : List Step) (l : List ℤ) (s : Step) → ChainEnds (startIn l) (endIn l) ss → (equal (pos 0) (pos (length ss)) || sameRealization (endIn l) (s .before)) ≡ joins ss s
 unfolding endOf
 joined [] l s e = rw (no-steps, same-self (s .before))
 joined (t ∷ ss) l s e = rw (some-steps (length ss)) (ap (λ (r : Realization). sameRealization r (s .before)) (e .ends))
@@ -202,7 +202,7 @@ module _ (y : ℤ) (l : List ℤ) (ss : List Step) (s : Step) (holds : Holds y l
   mid-room : length mid ≡ 72
   mid-room = length-sets l (8 * (length ss + 1)) (numbersOf (readyFor s)) ∙ holds .room
 
-  at-first : (j : ℕ) → j < 5 → number more-numbers 0 j ≡ getD (firstRow (pos (length ss) +ℤ pos 1) start (s .after)) j (pos 0)
+  at-first : (j : ℕ) → j < 5 → rowNumber more-numbers 0 j ≡ getD (firstRow (pos (length ss) +ℤ pos 1) start (s .after)) j (pos 0)
   at-first j h = first-at mid (pos (length ss) +ℤ pos 1) start (s .after) j h mid-room
 
   rows : Readied (ss ++ (s ∷ [])) (rowsOf more-numbers 1 (length ss + 1))

@@ -2,7 +2,7 @@
 ghost use mathlib.Core.Path.{_≡_};
 ghost use Rattle.refusal.specs.Order.{first};
 ghost use Rattle.chain.specs.Faults.{chainTests, stepsOf};
-ghost use Rattle.chain.specs.PointRow.{noNumbers, extendedAll, readyOf, convertReady, rowFault, faultOf, rowOf};
+ghost use Rattle.chain.specs.PointRow.{noNumbers, extendedAll, readyOf, convertReady, rowFault, rowFaultOf, rowAnswers};
 use crate::Answer;
 use crate::Chain;
 use crate::Direction;
@@ -87,8 +87,8 @@ pub fn convert_row(
     points: &[Point],
     answers: &mut [Answer],
 ) -> u8
-    ensures { λ r. ⌜ (r ≡ faultOf chain (now (points .entry)) (now (answers .entry)))
-        × (now (answers .exit) ≡ rowOf chain direction (now (points .entry)) (now (answers .entry))) ⌝ }
+    ensures { λ r. ⌜ (r ≡ rowFaultOf chain (now (points .entry)) (now (answers .entry)))
+        × (now (answers .exit) ≡ rowAnswers chain direction (now (points .entry)) (now (answers .entry))) ⌝ }
 {
     let fault = row_fault(chain, points.len(), answers.len());
     if fault == 0 {

@@ -111,7 +111,7 @@ pub enum GridLine {
 }
 
 // East, north and up, in hundredths of a millimetre a year.
-pub struct Parts {
+pub struct VelocityParts {
     pub east: i64,
     pub north: i64,
     pub up: i64,
@@ -119,7 +119,7 @@ pub struct Parts {
 
 // A node of a velocity grid: its parts, carried likewise, or no value.
 pub enum NodeLine {
-    Parts(Parts),
+    Parts(VelocityParts),
     NoValue,
     Malformed(Fault),
 }

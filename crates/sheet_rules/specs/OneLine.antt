@@ -29,8 +29,8 @@ abbrev pub mostLines : ℕ
 mostLines = 1000000
 
 -- ---- the sheet that stands here
-abbrev pub said : Standing → Sheet
-said s = record { line = s .line; profile = s .chain .profile; steps = stepsOf (s .chain); refused = s .refused; closed = s .closed }
+abbrev pub sheetAt : Standing → Sheet
+sheetAt s = record { line = s .line; profile = s .chain .profile; steps = stepsOf (s .chain); refused = s .refused; closed = s .closed }
 
 -- these steps in a chain, under a profile; what stands past them stays as it was
 abbrev pub chainWith : Chain → ℤ → List Step → Chain
@@ -57,10 +57,10 @@ unfoldable pub past : Standing → Bool
 past s = ltb mostLines (s .line)
 
 unfoldable pub replyTo : Standing → List ℕ → Reply
-replyTo s l = pick (past s) (reply.Refused (suc mostLines) refusal.limit 0) (replyOf (said s) l)
+replyTo s l = pick (past s) (reply.Refused (suc mostLines) refusal.limit 0) (replyOf (sheetAt s) l)
 
 unfoldable pub afterLine : Standing → List ℕ → Standing
-afterLine s l = pick (past s) s (standingAt (s .chain) (nextOf (said s) l))
+afterLine s l = pick (past s) s (standingAt (s .chain) (nextOf (sheetAt s) l))
 
 abbrev pub answered : Standing → Response → Answered
 answered s r = record { standing = s; response = r }
@@ -89,7 +89,7 @@ pointAnswered c line refused l =
 
 -- ---- how the code gets there
 -- a chain prepared step by step: whether it is good, and the numbers that hold it
-pub record Prepares (c : Chain) (numbers : List ℤ) (good : Bool) : Type 0 where
+pub record PreparesChain (c : Chain) (numbers : List ℤ) (good : Bool) : Type 0 where
   pub told : good ≡ eqb (first (chainTests c)) 0
   pub holds : good ≡ true → prepared.Holds (c .profile) numbers (stepsOf c)
 

@@ -19,7 +19,7 @@ use Rattle.sheet_rules.specs.declared.Reply.{Reply}
 use Rattle.sheet_rules.specs.declared.Reply.the-variants as reply
 use Rattle.sheet_rules.specs.declared.Response.{Response}
 use Rattle.sheet_rules.specs.declared.Response.the-variants as response
-use Rattle.sheet_rules.specs.OneLine.{mostLines, said, soundStanding, replyTo, afterLine, answered, answeredTo, lineAnswered}
+use Rattle.sheet_rules.specs.OneLine.{mostLines, sheetAt, soundStanding, replyTo, afterLine, answered, answeredTo, lineAnswered}
 use Rattle.sheet_rules.proofs.OneLine.{both, sound-after, reply-rules, reply-past}
 use Rattle.sheet_rules.proofs.OneLine as line
 use Rattle.sheet_rules.proofs.Room.{answer-short}
@@ -166,7 +166,7 @@ finish-18 s e k h l =
     let z : length (held s) ≡ s .count = length-take-le (s .count) (s .kept) (omega (arith, p .count)) in
     let m : min (length (unended (held s))) longestLine ≡ s .count = omega (arith, p .count, unended-length (held s)) in
     ap (λ (r : Fed). r .outcome) (finish-open s e (λ q. omega arith))
-    ∙ ap Line (reply-rules (s .standing) (unended (held s)) l ∙ open-18 (said (s .standing)) (unended (held s)) (unended-last (held s)) ∙ ap (reply.Refused (s .standing .line) refusal.length) m)
+    ∙ ap Line (reply-rules (s .standing) (unended (held s)) l ∙ open-18 (sheetAt (s .standing)) (unended (held s)) (unended-last (held s)) ∙ ap (reply.Refused (s .standing .line) refusal.length) m)
 
 pub finish-28 : (s : Stream) → sound s ≡ true → 0 < s .count → mostLines < s .standing .line → finishOf s .outcome ≡ Line (reply.Refused (suc mostLines) refusal.limit 0)
 finish-28 s e h l = ap (λ (r : Fed). r .outcome) (finish-open s e (λ q. omega arith)) ∙ ap Line (reply-past (s .standing) (unended (held s)) l)

@@ -138,8 +138,8 @@ abbrev pub OriginOrder : Type 0
 OriginOrder = origins ≡ wantedOfOrigins
 
 -- a position line; the projection's 13 and 14 come after
-abbrev pub positions : List (List ℕ)
-positions =
+abbrev pub positionLines : List (List ℕ)
+positionLines =
     plan.replyText (geodeticReply later (geodetic-line.Malformed (fault refusal.id 2)))
     ∷ plan.replyText (geodeticReply later (geodetic-line.Refused refusal.geodetic))
     ∷ plan.replyText (geodeticReply later (geodetic-line.Geodetic position))
@@ -150,8 +150,8 @@ abbrev wantedOfPositions : List (List ℕ)
 wantedOfPositions =
     refusalText 5 refusal.id 2 ∷ refusalText 5 refusal.earlier 0 ∷ refusalText 5 refusal.earlier 0 ∷ refusalText 5 refusal.geodetic 0 ∷ []
 
-abbrev pub PositionOrder : Type 0
-PositionOrder = positions ≡ wantedOfPositions
+abbrev pub PositionLineOrder : Type 0
+PositionLineOrder = positionLines ≡ wantedOfPositions
 
 -- ---- the later of two: the first line's refusal, the second's, 16, 17
 abbrev pub pairs : List Verdict
@@ -189,5 +189,5 @@ pub record LineOrders : Type 0 where
   pub points : PointOrder
   pub editions : EditionOrder
   pub origins : OriginOrder
-  pub positions : PositionOrder
+  pub positions : PositionLineOrder
   pub pairs : PairOrder

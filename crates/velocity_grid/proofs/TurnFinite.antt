@@ -29,7 +29,7 @@ use Rattle.angle.proofs.Wholes.{natural-upto, sub-pos}
 use Rattle.velocity_grid.specs.AtPoint.{PartsOk}
 use Rattle.velocity_grid.specs.Turn.{turnedBy, turnedAt, inUnits}
 use Rattle.velocity_grid.specs.Bounded as statements
-use Rattle.line.specs.declared.Parts.{Parts}
+use Rattle.line.specs.declared.VelocityParts.{VelocityParts}
 use Rattle.velocity_grid.proofs.AtPoint.{sized-upto}
 
 -- ---- the latitude's and the longitude's sine and cosine, and the three parts
@@ -77,7 +77,7 @@ tests : Tests
 unfolding tested round neg div
 tests = record { latitude = rw k-is tt; past = rw k-is tt; small-sine = tt; small-cosine = tt; large-sine = tt; large-cosine = tt; x = tt; y = tt; z = tt }
 
-module _ (p : Parts) (lat lon : ℤ) (o : PartsOk p) (a : latitudeRange lat ≡ true) (b : longitudeRange lon ≡ true) where
+module _ (p : VelocityParts) (lat lon : ℤ) (o : PartsOk p) (a : latitudeRange lat ≡ true) (b : longitudeRange lon ≡ true) where
   abbrev φ : Float
   φ = radians lat
 

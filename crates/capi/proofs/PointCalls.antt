@@ -122,8 +122,8 @@ module _ (ns : List ℤ) (bytes : List ℕ) (long : length ns ≡ 111) (ranged :
         go false = tt
 
     module _ (out : List ℕ) (told : List ℤ) where
-      pub point-29 : x .response ≡ response.Unsound → {r : ℤ} → r ≡ negℤ (pos refusal.state) → FedCall (endsWith here text end false) ns ns bytes bytes out out told told r
-      point-29 e f = rw (← bad e) (record { state = declined here (Refused refusal.state) ns bytes out refusal.state refl f; tells = refl })
+      pub point-state : x .response ≡ response.Unsound → {r : ℤ} → r ≡ negℤ (pos refusal.state) → FedCall (endsWith here text end false) ns ns bytes bytes out out told told r
+      point-state e f = rw (← bad e) (record { state = declined here (Refused refusal.state) ns bytes out refusal.state refl f; tells = refl })
 
       pub point-told :
           (r : Reply) → x .response ≡ response.Replied r → 200 ≤ length out → length told ≡ 2 → {ns' : List ℤ} {bytes' out' : List ℕ} {told' : List ℤ} {k : ℕ} →

@@ -10,7 +10,7 @@ use mir.ValLaws.{toZ-pos}
 use Rattle.rounding.proofs.Machine.{told}
 use Rattle.sheet_stream.proofs.Laws.{no-bytes-is}
 use Rattle.capi.proofs.Streams.{two}
-use Rattle.capi.proofs.PointCalls.{point-29, point-told}
+use Rattle.capi.proofs.PointCalls.{point-state, point-told}
 use borrow.Author.Needs.{needs}
 use Rattle.capi.proofs.point_line.feed_point.Statement.{statement}
 use Rattle.capi.proofs.point_line.feed_point.Tie as tie
@@ -25,7 +25,7 @@ returns c =
     let a = c .before .before .before in
     let s = c .before .before .before .before .before .before .before .before in
     let n = s .args in
-    point-29 (n .numbers .now) (n .bytes .now) (s .pre .0) (s .pre .1) (s .pre .6) (n .text .now) (s .pre .7) (n .end) (a .answer-in .result) (a .answer-in .ensures) (n .out .now) (n .told .now) (c .before .enum-told .given .1) (told (c .minus .ok) ∙ c .minus .ensures)
+    point-state (n .numbers .now) (n .bytes .now) (s .pre .0) (s .pre .1) (s .pre .6) (n .text .now) (s .pre .7) (n .end) (a .answer-in .result) (a .answer-in .ensures) (n .out .now) (n .told .now) (c .before .enum-told .given .1) (told (c .minus .ok) ∙ c .minus .ensures)
 
 returns-2 : tie.Need-returns-2
 returns-2 c =

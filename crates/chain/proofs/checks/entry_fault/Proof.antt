@@ -4,6 +4,7 @@ use mathlib.Core.List.{_++_}
 use Prim.Native.Nat.{ℕ}
 use lib.IntN.{ℤ}
 use borrow.Author.Tests.{not-true, not-false}
+use Rattle.refusal.specs.Numbers as refusal
 use Rattle.refusal.specs.Order.{first}
 use Rattle.chain.specs.declared.Point.{Point}
 use Rattle.chain.specs.declared.Realization.{Realization}
@@ -50,7 +51,7 @@ returns-2 : tie.Need-returns-2
 returns-2 c =
     let t = c .before .before .before in
     let a = sym (c .before .same-realization .ensures) ∙ not-true _ (c .if2 .taken) in
-    let e : _≡_ {A = ℕ} 9 (first (realizationAndAreaTests (point t) (wanted t))) = rw a in
+    let e : _≡_ {A = ℕ} refusal.start (first (realizationAndAreaTests (point t) (wanted t))) = rw a in
     e ∙ realization-and-area t
 
 in-area-requires : tie.Need-in-area-requires
@@ -62,7 +63,7 @@ returns-3 c =
     let t = d .before .before .before in
     let a = sym (d .before .same-realization .ensures) ∙ not-false _ (d .if2 .left) in
     let b = sym (c .before .in-area .ensures) ∙ not-true _ (c .if3 .taken) in
-    let e : _≡_ {A = ℕ} 10 (first (realizationAndAreaTests (point t) (wanted t))) = rw (a, b) in
+    let e : _≡_ {A = ℕ} refusal.area (first (realizationAndAreaTests (point t) (wanted t))) = rw (a, b) in
     e ∙ realization-and-area t
 
 returns-4 : tie.Need-returns-4

@@ -36,7 +36,7 @@ returns c =
     let s = c7 .before .before .before .before in
     let f = s .args .first in
     let g = s .args .second in
-    rw (c7 .joined-step .ensures, c6 .place2 .ensures, c5 .place3 .ensures, c4 .place4 .ensures, c3 .place5 .ensures, c2 .place6 .ensures, c .before .place7 .ensures, c .place8 .ensures, told (c7 .before .struct-told .given .1 .1 .0 .1))
+    rw (c7 .joined-step .ensures, c6 .joined-step2 .ensures, c5 .joined-step3 .ensures, c4 .joined-step4 .ensures, c3 .joined-step5 .ensures, c2 .joined-step6 .ensures, c .before .joined-step7 .ensures, c .joined-step8 .ensures, told (c7 .before .struct-told .given .1 .1 .0 .1))
     (ap₂ (λ (l : List Step) (n : ℕ). record { steps = l; length = n; profile = f .profile }) (each (joinedSteps f g) (eight-steps f g (long-first s) (long-second s) (s .pre))) (counted f g (long-first s) (long-second s) (s .pre)))
 
 pub joined-spec : {M : Type 1} → statement M

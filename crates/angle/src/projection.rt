@@ -99,7 +99,7 @@ pub fn make_origin(o: OriginNumbers) -> OriginAnswer
 
 // 0, or GEODETIC for the point's angles, then APART where the longitudes are over 4 degrees apart. The longitudes are compared as whole
 // numbers, and no sum passes an i64: the point's longitude is in its range by then.
-fn point_fault(origin: i64, latitude: i64, longitude: i64) -> u8
+fn meridian_fault(origin: i64, latitude: i64, longitude: i64) -> u8
     ensures { λ r. ⌜ r ≡ first (anglesAndMeridianTests origin latitude longitude) ⌝ }
 {
     let fault = angles_fault(latitude, longitude);
@@ -181,10 +181,10 @@ fn project_once(o: OriginNumbers, latitude: i64, longitude: i64) -> Projected
 
 // A point on a made origin, whatever the origin holds: easting and northing in metres. Refused: GEODETIC for the point's angles, then
 // APART where the longitudes are over 4 degrees apart.
-pub fn cassini_from(origin: Origin, latitude: i64, longitude: i64) -> Projected
+fn cassini_from(origin: Origin, latitude: i64, longitude: i64) -> Projected
     ensures { λ r. ⌜ r ≡ cassiniFromOf origin latitude longitude ⌝ }
 {
-    let fault = point_fault(origin.longitude, latitude, longitude);
+    let fault = meridian_fault(origin.longitude, latitude, longitude);
     if fault != 0 {
         return Projected::Refused(fault);
     }
@@ -199,7 +199,7 @@ pub fn cassini(o: OriginNumbers, latitude: i64, longitude: i64) -> Projected
     if fault != 0 {
         return Projected::Refused(fault);
     }
-    let point = point_fault(o.longitude, latitude, longitude);
+    let point = meridian_fault(o.longitude, latitude, longitude);
     if point != 0 {
         return Projected::Refused(point);
     }

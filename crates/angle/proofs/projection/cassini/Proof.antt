@@ -46,11 +46,11 @@ returns c =
 sound : (c : tie.Else1) → originFault (c .before .before .args .o) ≡ 0
 sound c = sym (c .before .origin-fault .ensures) ∙ c .if1 .left
 
-module _ (c : tie.After-point-fault) where
+module _ (c : tie.After-meridian-fault) where
   point : ℕ
   point = let a = c .before .before .before .before .args in fault (a .o) (a .latitude) (a .longitude)
 
-  point-is : c .point-fault .result ≡ point
+  point-is : c .meridian-fault .result ≡ point
   unfolding point
   point-is =
       let d = c .before .before .before .before in
@@ -59,7 +59,7 @@ module _ (c : tie.After-point-fault) where
       let o : toZ w64 (ofZ w64 (a .o .longitude)) ≡ a .o .longitude = toZ-ofZ w64 (a .o .longitude) f in
       let lat : toZ w64 (ofZ w64 (a .latitude)) ≡ a .latitude = toZ-ofZ w64 (a .latitude) (d .fits .latitude) in
       let lon : toZ w64 (ofZ w64 (a .longitude)) ≡ a .longitude = toZ-ofZ w64 (a .longitude) (d .fits .longitude) in
-      cc (c .point-fault .ensures)
+      cc (c .meridian-fault .ensures)
 
 returns-2 : tie.Need-returns-2
 unfolding point

@@ -14,18 +14,18 @@ use Rattle.angle.proofs.NoFault.{point-near}
 use Rattle.angle.proofs.projection.cassini_from.Statement.{statement}
 use Rattle.angle.proofs.projection.cassini_from.Tie as tie
 
-module _ (c : tie.After-point-fault) where
+module _ (c : tie.After-meridian-fault) where
   abbrev fault : ℕ
   fault = let a = c .before .before .args in first (anglesAndMeridianTests (a .origin .longitude) (a .latitude) (a .longitude))
 
-  fault-is : c .point-fault .result ≡ fault
+  fault-is : c .meridian-fault .result ≡ fault
   fault-is =
       let d = c .before .before in
       let f : SFits w64 (d .args .origin .longitude) = search needs in
       let o : toZ w64 (ofZ w64 (d .args .origin .longitude)) ≡ d .args .origin .longitude = toZ-ofZ w64 (d .args .origin .longitude) f in
       let lat : toZ w64 (ofZ w64 (d .args .latitude)) ≡ d .args .latitude = toZ-ofZ w64 (d .args .latitude) (d .fits .latitude) in
       let lon : toZ w64 (ofZ w64 (d .args .longitude)) ≡ d .args .longitude = toZ-ofZ w64 (d .args .longitude) (d .fits .longitude) in
-      cc (c .point-fault .ensures)
+      cc (c .meridian-fault .ensures)
 
 returns : tie.Need-returns
 unfolding cassiniFromOf

@@ -14,7 +14,7 @@ use lib.Ieee.Fits.{div-fits}
 use lib.Ieee.Scale.{finite}
 use lib.Ieee.Positive.{num}
 use Rattle.bounds.proofs.Size.{sign, sign-round, div-sign}
-use Rattle.bounds.proofs.Among.{Ends, Among, point, is-finite, num-above, closed, within}
+use Rattle.bounds.proofs.Among.{Ends, Among, exactEnds, is-finite, num-above, closed, within}
 use Rattle.bounds.proofs.Formula.{var, over, All, none, also, value, tested, proved}
 use Rattle.bounds.proofs.Zero.{wholes, whole-among, nought, Upto, sub-self, add-zero-is}
 use Rattle.elementary.specs.Floats.{near, #}
@@ -46,7 +46,7 @@ north-test : T (tested ends northF nought)
 unfolding tested
 north-test = tt
 
-zero-test : T (within (point (radians (pos 0))) nought)
+zero-test : T (within (exactEnds (radians (pos 0))) nought)
 unfolding within radians k mul ofInt round
 zero-test = tt
 

@@ -9,7 +9,7 @@ use lib.Dec.{T}
 use lib.IntN.{ℤ, pos}
 use lib.Ieee.{Float, binary64, round, neg, div, mul, sub}
 use lib.Ieee.Scale.{finite}
-use Rattle.bounds.proofs.Among.{Ends, Among, untold, told, point, closed, within}
+use Rattle.bounds.proofs.Among.{Ends, Among, untold, told, exactEnds, closed, within}
 use Rattle.bounds.proofs.Formula.{var, lit, times, over, none, also, value, tested, proved}
 use Rattle.bounds.proofs.Zero.{wholes, Upto, ofInt-among}
 use Rattle.elementary.specs.Floats.{near, #, whole}
@@ -51,7 +51,7 @@ pub record Shaped (e : Ellipsoid) : Type 0 where
 
 -- a closed value that lies in J
 abbrev Lies : Float → Ends → Type 0
-Lies x J = T (within (point x) J)
+Lies x J = T (within (exactEnds x) J)
 
 -- each of the four rows
 four : (P : ℕ → Type 0) → P 0 → P 1 → P 2 → P 3 → (i : ℕ) → i < 4 → P i

@@ -89,8 +89,8 @@ abbrev pub conventionNumber : Convention → ℤ
 conventionNumber PositionVector = pos letterP
 conventionNumber CoordinateFrame = pos letterC
 
-abbrev pub row : ℤ → ℤ → Step → ℤ → ℤ → ℤ → ℤ → ℤ → ℤ → ℤ → List ℤ
-row kind convention s a b c d e f g =
+abbrev pub stepRow : ℤ → ℤ → Step → ℤ → ℤ → ℤ → ℤ → ℤ → ℤ → ℤ → List ℤ
+stepRow kind convention s a b c d e f g =
     kind
     ∷ convention
     ∷ s .before .datum
@@ -101,10 +101,10 @@ row kind convention s a b c d e f g =
     ∷ []
 
 abbrev pub kindRow : Kind → Step → List ℤ
-kindRow (Shift t) s = row (pos letterT) (pos 0) s (t .dx) (t .dy) (t .dz) (pos 0) (pos 0) (pos 0) (pos 0)
-kindRow (Velocity t) s = row (pos letterV) (pos 0) s (t .vx) (t .vy) (t .vz) (pos 0) (pos 0) (pos 0) (pos 0)
-kindRow (BursaWolf t) s = row (pos letterB) (conventionNumber (t .convention)) s (t .dx) (t .dy) (t .dz) (t .rx) (t .ry) (t .rz) (t .s)
-kindRow Frame s = row (pos letterF) (pos 0) s (pos 0) (pos 0) (pos 0) (pos 0) (pos 0) (pos 0) (pos 0)
+kindRow (Shift t) s = stepRow (pos letterT) (pos 0) s (t .dx) (t .dy) (t .dz) (pos 0) (pos 0) (pos 0) (pos 0)
+kindRow (Velocity t) s = stepRow (pos letterV) (pos 0) s (t .vx) (t .vy) (t .vz) (pos 0) (pos 0) (pos 0) (pos 0)
+kindRow (BursaWolf t) s = stepRow (pos letterB) (conventionNumber (t .convention)) s (t .dx) (t .dy) (t .dz) (t .rx) (t .ry) (t .rz) (t .s)
+kindRow Frame s = stepRow (pos letterF) (pos 0) s (pos 0) (pos 0) (pos 0) (pos 0) (pos 0) (pos 0) (pos 0)
 
 unfoldable pub stepNumbers : Step → List ℤ
 stepNumbers s = kindRow (s .kind) s

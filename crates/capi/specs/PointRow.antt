@@ -15,7 +15,7 @@ use Rattle.chain.specs.declared.Direction.the-variants.{Forward, Inverse}
 use Rattle.chain.specs.Faults.{chainTests}
 use Rattle.chain.specs.PointRow.{convertOf}
 use Rattle.capi.specs.Outcome.{CallOutcome, refused, gives as writes, ifSized}
-use Rattle.chain.specs.Numbers.{letter, chainFrom}
+use Rattle.chain.specs.Numbers.{isLetter, chainFrom}
 use Rattle.capi.specs.Chains.{pointFrom, pointNumbers}
 
 -- ---- the answers
@@ -31,10 +31,10 @@ answersOf f (suc n) ns = answerNumbers (f (pointFrom ns)) ++ answersOf f n (drop
 
 -- ---- which way: 0 along the chain, 1 back
 abbrev pub directionRange : ℤ → Bool
-directionRange d = letter d 0 || letter d 1
+directionRange d = isLetter d 0 || isLetter d 1
 
 unfoldable pub directionFrom : ℤ → Direction
-directionFrom d = pick (letter d 1) Inverse Forward
+directionFrom d = pick (isLetter d 1) Inverse Forward
 
 -- ---- the call
 -- whole steps, whole points, whole answers

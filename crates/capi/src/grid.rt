@@ -69,7 +69,7 @@ pub extern "C" fn swivelcrane_grid_velocity(
 }
 
 // What is wrong with a grid, all three zeros for nothing.
-fn fault_in(answer: GridAnswer) -> GridFault
+fn fault_of_grid(answer: GridAnswer) -> GridFault
     ensures { λ r. ⌜ r ≡ faultIn answer ⌝ }
 {
     match answer {
@@ -105,5 +105,5 @@ pub extern "C" fn swivelcrane_grid_fault(grid: &[u8], out: &mut [i64]) -> i64
     if out.len() != 3 {
         return WRONG_LENGTH;
     }
-    give_grid_fault(fault_in(velocity_grid::check_grid(grid)), out)
+    give_grid_fault(fault_of_grid(velocity_grid::check_grid(grid)), out)
 }

@@ -19,9 +19,9 @@ use Rattle.chain.specs.Faults.{realizationRange, agrees, sameRealization
 abbrev pub number : List ℤ → ℕ → ℤ
 number ns i = getD ns i (pos 0)
 
-abbrev pub letter : ℤ → ℕ → Bool
-letter (pos n) l = eqb n l
-letter (negsuc n) l = false
+abbrev pub isLetter : ℤ → ℕ → Bool
+isLetter (pos n) l = eqb n l
+isLetter (negsuc n) l = false
 
 -- the letters of the kinds, T, V, B and F, and of a Bursa-Wolf step's conventions, P and C
 abbrev pub shiftLetter : ℕ
@@ -71,16 +71,16 @@ bursaWolfFrom convention ns = BursaWolf (record {
 
 unfoldable pub turnedFrom : List ℤ → Kind
 turnedFrom ns =
-    pick (letter (number ns 1) positionVectorLetter) (bursaWolfFrom PositionVector ns)
-    (pick (letter (number ns 1) coordinateFrameLetter) (bursaWolfFrom CoordinateFrame ns)
+    pick (isLetter (number ns 1) positionVectorLetter) (bursaWolfFrom PositionVector ns)
+    (pick (isLetter (number ns 1) coordinateFrameLetter) (bursaWolfFrom CoordinateFrame ns)
     unknown)
 
 unfoldable pub kindFrom : List ℤ → Kind
 kindFrom ns =
-    pick (letter (number ns 0) shiftLetter) (shiftFrom ns)
-    (pick (letter (number ns 0) velocityLetter) (velocityFrom ns)
-    (pick (letter (number ns 0) bursaWolfLetter) (turnedFrom ns)
-    (pick (letter (number ns 0) frameLetter) Frame
+    pick (isLetter (number ns 0) shiftLetter) (shiftFrom ns)
+    (pick (isLetter (number ns 0) velocityLetter) (velocityFrom ns)
+    (pick (isLetter (number ns 0) bursaWolfLetter) (turnedFrom ns)
+    (pick (isLetter (number ns 0) frameLetter) Frame
     unknown)))
 
 unfoldable pub stepFrom : List ℤ → Step

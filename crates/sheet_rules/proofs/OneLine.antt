@@ -44,7 +44,7 @@ use Rattle.sheet_rules.specs.declared.Response.the-variants as response
 use Rattle.sheet_rules.specs.Sheet.{Sheet, refuse, malformed, stepLineTests, stepReply, pointReply, editionReply, afterStep, afterPoint, withStep, withoutStep, withEdition, editionTests, afterEdition, passed, replyOf, nextOf}
 use Rattle.sheet_rules.specs.State.{Holds, Gave}
 use Rattle.sheet_rules.proofs.Laws.{next-line, no-steps}
-use Rattle.sheet_rules.specs.OneLine.{mostLines, sheetAt, chainWith, standingAt, freshAt, counted, soundStanding, past, replyTo, afterLine, answered, lineAnswered, answeredTo, stepsAfter}
+use Rattle.sheet_rules.specs.OneLine.{mostLines, sheetAt, chainWith, standingAt, freshAt, counted, soundStanding, pastLines, replyTo, afterLine, answered, lineAnswered, answeredTo, stepsAfter}
 
 -- ---- the steps after a line
 steps-by : (s : Sheet) (l : List ℕ) → nextOf s l .steps ≡ stepsAfter (s .steps) (eqb (getD l 0 0) letterS) (replyOf s l) (readStep (s .profile) l)
@@ -130,11 +130,11 @@ module _ (st : Standing) (l : List ℕ) where
 
   -- ---- the answer
   pub within-answered : st .line ≤ mostLines → (n : ℕ) (c : Chain) (a b : Bool) (r : Reply) → n ≡ nextOf (sheetAt st) l .line → c ≡ chainWith (st .chain) (nextOf (sheetAt st) l .profile) (nextOf (sheetAt st) l .steps) → a ≡ nextOf (sheetAt st) l .refused → b ≡ nextOf (sheetAt st) l .closed → r ≡ replyOf (sheetAt st) l → answered (record { line = n; chain = c; refused = a; closed = b }) (response.Replied r) ≡ lineAnswered st l
-  unfolding lineAnswered afterLine replyTo past
+  unfolding lineAnswered afterLine replyTo pastLines
   within-answered h n c a b r e f g i j = rw (le-ltb mostLines (st .line) h, e, f, g, i, j)
 
   pub past-answered : mostLines < st .line → answered st (response.Replied (reply.Refused (suc mostLines) refusal.limit 0)) ≡ lineAnswered st l
-  unfolding lineAnswered afterLine replyTo past
+  unfolding lineAnswered afterLine replyTo pastLines
   past-answered h = rw (lt-ltb mostLines (st .line) h)
 
   pub unsound-answered : soundStanding st ≡ false → answered st response.Unsound ≡ answeredTo st l
@@ -164,19 +164,19 @@ sheet-at c s = rw (take-append-seam (s .steps) (drop (length (s .steps)) (c .ste
 
 module _ (st : Standing) (l : List ℕ) where
   pub reply-past : mostLines < st .line → replyTo st l ≡ reply.Refused (suc mostLines) refusal.limit 0
-  unfolding replyTo past
+  unfolding replyTo pastLines
   reply-past h = rw (lt-ltb mostLines (st .line) h)
 
   pub after-past : mostLines < st .line → afterLine st l ≡ st
-  unfolding afterLine past
+  unfolding afterLine pastLines
   after-past h = rw (lt-ltb mostLines (st .line) h)
 
   pub reply-rules : st .line ≤ mostLines → replyTo st l ≡ replyOf (sheetAt st) l
-  unfolding replyTo past
+  unfolding replyTo pastLines
   reply-rules h = rw (le-ltb mostLines (st .line) h)
 
   pub after-at : st .line ≤ mostLines → afterLine st l ≡ standingAt (st .chain) (nextOf (sheetAt st) l)
-  unfolding afterLine past
+  unfolding afterLine pastLines
   after-at h = rw (le-ltb mostLines (st .line) h)
 
   pub after-rules : st .line ≤ mostLines → sheetAt (afterLine st l) ≡ nextOf (sheetAt st) l
@@ -311,7 +311,7 @@ kept-next s l g = by-letters Kept letterS letterP letterE l _ _ _ _ step same (e
         go (suc n) k = same
 
 pub sound-after : (st : Standing) (l : List ℕ) → Sound st → Sound (afterLine st l)
-unfolding afterLine past
+unfolding afterLine pastLines
 sound-after st l p = go (ltb mostLines (st .line)) refl
   where
     go : (b : Bool) → ltb mostLines (st .line) ≡ b → Sound (pick b st (standingAt (st .chain) (nextOf (sheetAt st) l)))

@@ -34,7 +34,7 @@ use Rattle.sheet_rules.specs.declared.Reply.{Reply}
 use Rattle.sheet_rules.specs.declared.Reply.the-variants as reply
 use Rattle.sheet_rules.specs.Sheet.{Sheet, fresh, rules, replyText, refuse, malformed, stepLineTests, stepReply, conversionReply, pointReply, editionTests, editionReply, replyOf, sheetOf}
 use Rattle.sheet_rules.specs.declared.Standing.{Standing}
-use Rattle.sheet_rules.specs.OneLine.{mostLines, sheetAt, past, replyTo}
+use Rattle.sheet_rules.specs.OneLine.{mostLines, sheetAt, pastLines, replyTo}
 use Rattle.sheet_rules.proofs.Laws.{next-line}
 
 -- a reply has at most n bytes
@@ -90,7 +90,7 @@ reply-short s l h =
 
 pub answer-short : (st : Standing) (l : List ℕ) → st .line ≤ suc mostLines → length (replyText (replyTo st l)) ≤ 100
 unfolding replyTo
-answer-short st l h = go (past st)
+answer-short st l h = go (pastLines st)
   where
     go : (b : Bool) → length (replyText (pick b (reply.Refused (suc mostLines) refusal.limit 0) (replyOf (sheetAt st) l))) ≤ 100
     go true = refusal-short (suc mostLines) refusal.limit 0 (omega arith) (omega arith) (omega arith)

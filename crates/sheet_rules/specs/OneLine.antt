@@ -53,14 +53,14 @@ unfoldable pub soundStanding : Standing → Bool
 soundStanding s = counted (s .line) (s .chain .length) && eqb (first (chainTests (s .chain))) 0
 
 -- ---- one line: 28 past the limit, before all others, which is not read and moves nothing; else as the sheet's rules say
-unfoldable pub past : Standing → Bool
-past s = ltb mostLines (s .line)
+unfoldable pub pastLines : Standing → Bool
+pastLines s = ltb mostLines (s .line)
 
 unfoldable pub replyTo : Standing → List ℕ → Reply
-replyTo s l = pick (past s) (reply.Refused (suc mostLines) refusal.limit 0) (replyOf (sheetAt s) l)
+replyTo s l = pick (pastLines s) (reply.Refused (suc mostLines) refusal.limit 0) (replyOf (sheetAt s) l)
 
 unfoldable pub afterLine : Standing → List ℕ → Standing
-afterLine s l = pick (past s) s (standingAt (s .chain) (nextOf (sheetAt s) l))
+afterLine s l = pick (pastLines s) s (standingAt (s .chain) (nextOf (sheetAt s) l))
 
 abbrev pub answered : Standing → Response → Answered
 answered s r = record { standing = s; response = r }

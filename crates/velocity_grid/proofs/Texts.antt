@@ -22,7 +22,7 @@ use Rattle.line.specs.declared.GridLine.the-variants as header
 use Rattle.line.proofs.Lines.{at-end, Piece, piece, lines-none}
 use Rattle.velocity_grid.specs.OnGrid.{gridRange, nodesOf}
 use Rattle.velocity_grid.proofs.OnGrid as on-grid
-use Rattle.velocity_grid.specs.Text.{onLine, miscounted, faultless, orElse, nodeFault, nodesFault, unlessFault, headed, gridIn, gridOf, valuesOf, threeNumbers, nodesIn, afterFirst, gridNumbers}
+use Rattle.velocity_grid.specs.Text.{onLine, miscounted, faultless, orElse, nodeFault, nodesFault, unlessGridFault, headed, gridIn, gridOf, valuesOf, threeNumbers, nodesIn, afterFirst, gridNumbers}
 use Rattle.velocity_grid.specs.Reading.{awaitedFault}
 use Rattle.velocity_grid.specs.declared.GridFault.{GridFault}
 use Rattle.velocity_grid.specs.declared.GridAnswer.the-variants.{Grid, Refused}
@@ -157,7 +157,7 @@ some-line : (s l : List ℕ) (ls : List (List ℕ)) → lines s ≡ l ∷ ls →
 some-line [] l ls e = absurd (omega (arith, ap length (sym (lines-none [] 0 (omega arith)) ∙ e)))
 some-line (x ∷ s) l ls e = omega arith
 
-by-fault : (f : GridFault) (a g : GridHeader) → unlessFault f a ≡ Grid g → (f .number ≡ 0) × (a ≡ g)
+by-fault : (f : GridFault) (a g : GridHeader) → unlessGridFault f a ≡ Grid g → (f .number ≡ 0) × (a ≡ g)
 by-fault f a g = go (eqb (f .number) 0) refl
   where
     go : (b : Bool) → eqb (f .number) 0 ≡ b → pick b (Grid a) (Refused f) ≡ Grid g → (f .number ≡ 0) × (a ≡ g)
@@ -169,7 +169,7 @@ unfolding headed
 by-header (header.Malformed f) ls g h = absurd (no-grid (onLine 1 f) g h)
 by-header (header.Header a) ls g h = go (gridRange a) refl h
   where
-    go : (b : Bool) → gridRange a ≡ b → pick b (unlessFault (nodesFault (nodesOf a) 2 ls) a) (Refused (onLine 1 (fault refusal.range 0))) ≡ Grid g → (gridRange g ≡ true) × (length ls ≡ nodesOf g)
+    go : (b : Bool) → gridRange a ≡ b → pick b (unlessGridFault (nodesFault (nodesOf a) 2 ls) a) (Refused (onLine 1 (fault refusal.range 0))) ≡ Grid g → (gridRange g ≡ true) × (length ls ≡ nodesOf g)
     go true q h =
         let p = by-fault (nodesFault (nodesOf a) 2 ls) a g h in
         (ap gridRange (sym (p .1)) ∙ q, as-many (nodesOf a) 2 ls (p .0) ∙ ap nodesOf (p .1))

@@ -56,12 +56,12 @@ nodesFault (suc k) n [] = miscounted
 nodesFault (suc k) n (l ∷ ls) = orElse (nodeFault n (readNode l)) (nodesFault k (suc n) ls)
 
 -- ---- a text
-abbrev pub unlessFault : GridFault → GridHeader → GridAnswer
-unlessFault f g = pick (eqb (f .number) 0) (Grid g) (Refused f)
+abbrev pub unlessGridFault : GridFault → GridHeader → GridAnswer
+unlessGridFault f g = pick (eqb (f .number) 0) (Grid g) (Refused f)
 
 unfoldable pub headed : GridLine → List (List ℕ) → GridAnswer
 headed (header.Malformed f) ls = Refused (onLine 1 f)
-headed (header.Header g) ls = pick (gridRange g) (unlessFault (nodesFault (nodesOf g) 2 ls) g) (Refused (onLine 1 (fault refusal.range 0)))
+headed (header.Header g) ls = pick (gridRange g) (unlessGridFault (nodesFault (nodesOf g) 2 ls) g) (Refused (onLine 1 (fault refusal.range 0)))
 
 unfoldable pub gridIn : List (List ℕ) → GridAnswer
 gridIn [] = Refused miscounted

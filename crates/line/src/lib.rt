@@ -24,6 +24,7 @@ pub use compare::later_of_two;
 pub use compare::later_verdict;
 pub use edition_line::read_edition;
 pub use ends::line_end;
+pub use field::LINE_FEED;
 pub use geodetic_line::read_geodetic;
 pub use grid_line::read_grid_header;
 pub use node_line::read_node;

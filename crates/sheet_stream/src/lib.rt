@@ -9,11 +9,10 @@ use chain::Chain;
 use chain::Kind;
 use chain::Realization;
 use chain::Step;
+use line::LINE_FEED;
 use sheet_rules::Reply;
 use sheet_rules::Response;
 use sheet_rules::Standing;
-
-const LINE_FEED: u8 = 10;
 
 // The longest line, in bytes, with its line feed.
 const ROOM: usize = 200;

@@ -18,7 +18,7 @@ use Rattle.chain.specs.declared.Answer.{Answer}
 use Rattle.chain.specs.declared.Answer.the-variants.{Converted, Refused}
 use Rattle.chain.specs.declared.Direction.{Direction}
 use Rattle.chain.specs.Faults.{chainTests}
-use Rattle.chain.specs.PointRow.{convertOf, readyOf, convertReady}
+use Rattle.chain.specs.PointRow.{convertOf, readyChainOf, convertReady}
 use Rattle.chain.proofs.Readying.{ready-converts}
 use Rattle.capi.specs.Outcome.{CallOutcome, refused, gives as writes, Returns}
 use Rattle.chain.specs.Numbers.{chainFrom}
@@ -109,7 +109,7 @@ module _ (y d : ℤ) (chain points out : List ℤ) where
       unfolding rowCall
       given e = rw sized (unless-none _ refused all (chain-decides ∙ e))
 
-      pub answered : first (chainTests c) ≡ 0 → {w : ReadyChain} {b : Direction} → w ≡ readyOf c → b ≡ directionFrom d → {after : List ℤ} → after ≡ sets out 0 (answersOf (convertReady w b) (length points / 7) points)
+      pub answered : first (chainTests c) ≡ 0 → {w : ReadyChain} {b : Direction} → w ≡ readyChainOf c → b ≡ directionFrom d → {after : List ℤ} → after ≡ sets out 0 (answersOf (convertReady w b) (length points / 7) points)
           → Returns (rowCall y chain d points out) out after (pos 0)
       answered e f g a =
           rw (given e) (record {
@@ -117,6 +117,6 @@ module _ (y d : ℤ) (chain points out : List ℤ) where
             out =
                 a
                 ∙ ap₂ (λ (w : ReadyChain) (b : Direction). sets out 0 (answersOf (convertReady w b) (length points / 7) points)) f g
-                ∙ ap (sets out 0) (same-answers (convertReady (readyOf c) (directionFrom d)) (convertOf c (directionFrom d)) (ready-converts c (directionFrom d)) (length points / 7) points)
+                ∙ ap (sets out 0) (same-answers (convertReady (readyChainOf c) (directionFrom d)) (convertOf c (directionFrom d)) (ready-converts c (directionFrom d)) (length points / 7) points)
                 ∙ all-answers (convertOf c (directionFrom d)) points out (length points / 7) room;
           })

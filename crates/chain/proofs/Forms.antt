@@ -6,23 +6,23 @@ use Rattle.chain.specs.declared.Position.{Position}
 use Rattle.chain.specs.declared.steps.Ready.{Ready}
 use Rattle.chain.specs.declared.steps.kept.rows.Moved.{Moved}
 use Rattle.chain.specs.Ready.{readyParts}
-use Rattle.chain.specs.Prepared.{formRange, readyFrom, readyRange, Stepped}
+use Rattle.chain.specs.Prepared.{formRange, readyOf, readyRange, Stepped}
 use Rattle.chain.proofs.KeptTurns.{no-both}
 
 module _ (form a b c d e f g : ℤ) (p : Position) (m : Moved) where
   abbrev pub Leads : Type 0
-  Leads = Stepped (formRange form && readyRange (readyFrom form a b c d e f g)) (readyParts (readyFrom form a b c d e f g)) p m
+  Leads = Stepped (formRange form && readyRange (readyOf form a b c d e f g)) (readyParts (readyOf form a b c d e f g)) p m
 
   -- a form that no step has
   pub no-form : formRange form ≡ false → m .good ≡ false → Leads
   no-form h n =
-      let bad : (formRange form && readyRange (readyFrom form a b c d e f g)) ≡ false = ap (λ (x : Bool). x && readyRange (readyFrom form a b c d e f g)) h in
+      let bad : (formRange form && readyRange (readyOf form a b c d e f g)) ≡ false = ap (λ (x : Bool). x && readyRange (readyOf form a b c d e f g)) h in
       (n ∙ sym bad, λ z. no-both bad z)
 
   -- a form that a step has, and what is ready by it
-  pub by-form : (r : Ready) → r ≡ readyFrom form a b c d e f g → formRange form ≡ true → Stepped (readyRange r) (readyParts r) p m → Leads
+  pub by-form : (r : Ready) → r ≡ readyOf form a b c d e f g → formRange form ≡ true → Stepped (readyRange r) (readyParts r) p m → Leads
   by-form r w h s =
-      subst⁻¹ (λ (x : Bool). Stepped (x && readyRange (readyFrom form a b c d e f g)) (readyParts (readyFrom form a b c d e f g)) p m) h
+      subst⁻¹ (λ (x : Bool). Stepped (x && readyRange (readyOf form a b c d e f g)) (readyParts (readyOf form a b c d e f g)) p m) h
       (subst (λ (t : Ready). Stepped (readyRange t) (readyParts t) p m) w s)
 
 -- numbers that are the same lead to the same

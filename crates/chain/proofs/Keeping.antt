@@ -23,7 +23,7 @@ use Rattle.chain.specs.Faults.{StepOk, latest, stepFault, pointFault, pr
 use Rattle.chain.specs.Parts.{forwardBy, inverseBy}
 use Rattle.chain.specs.Convert.{forwardStep, inverseStep, startOf, endOf, joins, moreTests, realizationAndAreaTests, convert, forwardOf, inverseOf}
 use Rattle.chain.specs.Ready.{readyFor}
-use Rattle.chain.specs.Prepared.{rowNumber, lengthIn, startIn, endIn, numbersOf, rowsOf, extendFault, firstRow, startWith, keptOf, extendedBy, preparedTests, reachedWith, forwardPrepared, inversePrepared, chainOf, Readied, ChainEnds, Holds}
+use Rattle.chain.specs.Prepared.{number, lengthIn, startIn, endIn, numbersOf, rowsOf, extendFault, firstRow, startWith, keptOf, extendedBy, preparedTests, reachedWith, forwardPrepared, inversePrepared, chainOf, Readied, ChainEnds, Holds}
 use Rattle.chain.proofs.Sizes.{step-ok}
 use Rattle.chain.proofs.Prepared.{prepares, forward-same, inverse-same}
 use Rattle.chain.proofs.Accepted.{numbered-steps}
@@ -202,7 +202,7 @@ module _ (y : ℤ) (l : List ℤ) (ss : List Step) (s : Step) (holds : Holds y l
   mid-room : length mid ≡ 72
   mid-room = length-sets l (8 * (length ss + 1)) (numbersOf (readyFor s)) ∙ holds .room
 
-  at-first : (j : ℕ) → j < 5 → rowNumber more-numbers 0 j ≡ getD (firstRow (pos (length ss) +ℤ pos 1) start (s .after)) j (pos 0)
+  at-first : (j : ℕ) → j < 5 → number more-numbers 0 j ≡ getD (firstRow (pos (length ss) +ℤ pos 1) start (s .after)) j (pos 0)
   at-first j h = first-at mid (pos (length ss) +ℤ pos 1) start (s .after) j h mid-room
 
   rows : Readied (ss ++ (s ∷ [])) (rowsOf more-numbers 1 (length ss + 1))

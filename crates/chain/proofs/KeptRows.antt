@@ -19,7 +19,7 @@ use Rattle.chain.specs.declared.steps.Ready.the-variants.{Fixed, Turned,
 use Rattle.chain.specs.declared.steps.kept.rows.Row.{Row}
 use Rattle.chain.specs.Axes.{Axis, onX, onY, onZ, coordinate}
 use Rattle.chain.specs.Ready.{ReadyOk, Prepares}
-use Rattle.chain.specs.Prepared.{rowNumber, formRange, numbersOf, readyFrom, readyAt, readyRange, rowAt, rowsOf, firstRow, Readied}
+use Rattle.chain.specs.Prepared.{number, formRange, numbersOf, readyOf, readyAt, readyRange, rowAt, rowsOf, firstRow, Readied}
 
 -- ---- numbers written in a list
 below : (vs l : List ℤ) (i k : ℕ) (d : ℤ) → k < i → getD (sets l i vs) k d ≡ getD l k d
@@ -39,17 +39,17 @@ inside (v ∷ vs) l i (suc j) d h g =
     rw e (inside vs (set l i v) (suc i) j d (omega arith) (omega arith))
 
 -- what eight numbers say, number by number
-pub eight : {a b c d e f g h a' b' c' d' e' f' g' h' : ℤ} → a ≡ a' → b ≡ b' → c ≡ c' → d ≡ d' → e ≡ e' → f ≡ f' → g ≡ g' → h ≡ h' → readyFrom a b c d e f g h ≡ readyFrom a' b' c' d' e' f' g' h'
+pub eight : {a b c d e f g h a' b' c' d' e' f' g' h' : ℤ} → a ≡ a' → b ≡ b' → c ≡ c' → d ≡ d' → e ≡ e' → f ≡ f' → g ≡ g' → h ≡ h' → readyOf a b c d e f g h ≡ readyOf a' b' c' d' e' f' g' h'
 eight p q r s t u v w = rw (p, q, r, s, t, u, v, w)
 
-same-ready : (l : List ℤ) (i : ℕ) (m : List ℤ) (j : ℕ) → ((k : ℕ) → k < 8 → rowNumber l i k ≡ rowNumber m j k) → readyAt l i ≡ readyAt m j
+same-ready : (l : List ℤ) (i : ℕ) (m : List ℤ) (j : ℕ) → ((k : ℕ) → k < 8 → number l i k ≡ number m j k) → readyAt l i ≡ readyAt m j
 unfolding readyAt
 same-ready l i m j h = eight (h 0 (omega arith)) (h 1 (omega arith)) (h 2 (omega arith)) (h 3 (omega arith)) (h 4 (omega arith)) (h 5 (omega arith)) (h 6 (omega arith)) (h 7 (omega arith))
 
 abbrev row : ℤ → Ready → Row
 row form r = record { good = formRange form && readyRange r; ready = r }
 
-same-row : (l : List ℤ) (i : ℕ) (m : List ℤ) (j : ℕ) → ((k : ℕ) → k < 8 → rowNumber l i k ≡ rowNumber m j k) → rowAt l i ≡ rowAt m j
+same-row : (l : List ℤ) (i : ℕ) (m : List ℤ) (j : ℕ) → ((k : ℕ) → k < 8 → number l i k ≡ number m j k) → rowAt l i ≡ rowAt m j
 unfolding rowAt
 same-row l i m j h = ap₂ row (h 0 (omega arith)) (same-ready l i m j h)
 
@@ -69,7 +69,7 @@ says (Fixed g) = rw (equal-self (pos 0))
 says (Turned t) = rw (other-form 0 1 (omega arith), equal-self (pos 1))
 says (Scaled t) = rw (other-form 0 2 (omega arith), other-form 1 2 (omega arith))
 
-known : (r : Ready) → formRange (rowNumber (numbersOf r) 0 0) ≡ true
+known : (r : Ready) → formRange (number (numbersOf r) 0 0) ≡ true
 known (Fixed g) = natural-holds 0 0 2 (omega arith) (omega arith)
 known (Turned t) = natural-holds 0 1 2 (omega arith) (omega arith)
 known (Scaled t) = natural-holds 0 2 2 (omega arith) (omega arith)
@@ -105,7 +105,7 @@ pub after-first : (l : List ℤ) (n : ℤ) (start end : Realization) (i : ℕ) �
 after-first l n start end i h = same-row _ i l i (λ j g. beyond (firstRow n start end) l 0 (8 * i + j) (pos 0) (omega arith))
 
 -- and says what was written there
-pub first-at : (l : List ℤ) (n : ℤ) (start end : Realization) (j : ℕ) → j < 5 → length l ≡ 72 → rowNumber (sets l 0 (firstRow n start end)) 0 j ≡ getD (firstRow n start end) j (pos 0)
+pub first-at : (l : List ℤ) (n : ℤ) (start end : Realization) (j : ℕ) → j < 5 → length l ≡ 72 → number (sets l 0 (firstRow n start end)) 0 j ≡ getD (firstRow n start end) j (pos 0)
 first-at l n start end j h e =
     let z : 8 * 0 + j ≡ 0 + j = omega arith in
     rw z (inside (firstRow n start end) l 0 j (pos 0) (omega arith) (omega arith))
@@ -173,4 +173,4 @@ range-ok (Scaled t) e =
 -- a good row's figures are no larger than a step's
 pub row-ok : (l : List ℤ) (i : ℕ) → rowAt l i .good ≡ true → ReadyOk (rowAt l i .ready)
 unfolding rowAt
-row-ok l i e = range-ok (readyAt l i) (both (formRange (rowNumber l i 0)) (readyRange (readyAt l i)) e .1)
+row-ok l i e = range-ok (readyAt l i) (both (formRange (number l i 0)) (readyRange (readyAt l i)) e .1)

@@ -49,8 +49,8 @@ extendedAll y l [] = l
 extendedAll y l (s ∷ ss) = extendedAll y (extendedBy y l s) ss
 
 -- its own fault, and with none its steps
-unfoldable pub readyOf : Chain → ReadyChain
-readyOf c = record {
+unfoldable pub readyChainOf : Chain → ReadyChain
+readyChainOf c = record {
   refusal = first (chainTests c);
   profile = c .profile;
   numbers = unless (first (chainTests c)) (λ n. noNumbers) (extendedAll (c .profile) noNumbers (stepsOf c));

@@ -29,18 +29,18 @@ use Rattle.chain.specs.Convert.{movedTo, startOf, endOf}
 use Rattle.chain.specs.Ready.{readyParts, readyFor, Prepares}
 
 -- the j-th number of the i-th row
-abbrev pub rowNumber : List ℤ → ℕ → ℕ → ℤ
-rowNumber l i j = getD l (8 * i + j) (pos 0)
+abbrev pub number : List ℤ → ℕ → ℕ → ℤ
+number l i j = getD l (8 * i + j) (pos 0)
 
 -- ---- the first row: the length, and datum and epoch of the start and of the end
 abbrev pub lengthIn : List ℤ → ℤ
-lengthIn l = rowNumber l 0 0
+lengthIn l = number l 0 0
 
 abbrev pub startIn : List ℤ → Realization
-startIn l = record { datum = rowNumber l 0 1; epoch = rowNumber l 0 2 }
+startIn l = record { datum = number l 0 1; epoch = number l 0 2 }
 
 abbrev pub endIn : List ℤ → Realization
-endIn l = record { datum = rowNumber l 0 3; epoch = rowNumber l 0 4 }
+endIn l = record { datum = number l 0 3; epoch = number l 0 4 }
 
 -- ---- a step's row: its form, and its figures
 -- the forms: the same gain everywhere, Bursa-Wolf, a frame
@@ -62,13 +62,13 @@ numbersOf (Turned t) = turnedForm ∷ t .dx ∷ t .dy ∷ t .dz ∷ t .rx ∷ t 
 numbersOf (Scaled t) = scaledForm ∷ t .kx ∷ t .ky ∷ t .kz ∷ t .slope ∷ pos 0 ∷ pos 0 ∷ pos 0 ∷ []
 
 -- what eight numbers say, where their form is one of the three
-abbrev pub readyFrom : ℤ → ℤ → ℤ → ℤ → ℤ → ℤ → ℤ → ℤ → Ready
-readyFrom form a b c d e f g =
+abbrev pub readyOf : ℤ → ℤ → ℤ → ℤ → ℤ → ℤ → ℤ → ℤ → Ready
+readyOf form a b c d e f g =
     pick (equal fixedForm form) (Fixed (record { x = a; y = b; z = c }))
     (pick (equal turnedForm form) (Turned (record { dx = a; dy = b; dz = c; rx = d; ry = e; rz = f; s = g })) (Scaled (record { kx = a; ky = b; kz = c; slope = d })))
 
 unfoldable pub readyAt : List ℤ → ℕ → Ready
-readyAt l i = readyFrom (rowNumber l i 0) (rowNumber l i 1) (rowNumber l i 2) (rowNumber l i 3) (rowNumber l i 4) (rowNumber l i 5) (rowNumber l i 6) (rowNumber l i 7)
+readyAt l i = readyOf (number l i 0) (number l i 1) (number l i 2) (number l i 3) (number l i 4) (number l i 5) (number l i 6) (number l i 7)
 
 -- whether no figure is larger than any step gives: rotations reach 1,000,000 times 4.84813681110; a frame's shift 2,610,000 + 190·90,000 thousandths over
 -- 10^14, its scale 212,000 + 11·90,000
@@ -81,7 +81,7 @@ readyRange (Scaled t) =
 
 -- a row is good where a step can have given its form and its figures
 unfoldable pub rowAt : List ℤ → ℕ → Row
-rowAt l i = record { good = formRange (rowNumber l i 0) && readyRange (readyAt l i); ready = readyAt l i }
+rowAt l i = record { good = formRange (number l i 0) && readyRange (readyAt l i); ready = readyAt l i }
 
 -- where a row leads from q, if it is good
 abbrev pub Stepped : Bool → Parts → Position → Moved → Type 0

@@ -2,7 +2,7 @@
 ghost use mathlib.Core.Path.{_≡_};
 ghost use Rattle.refusal.specs.Order.{first};
 ghost use Rattle.chain.specs.Faults.{chainTests, stepsOf};
-ghost use Rattle.chain.specs.PointRow.{noNumbers, extendedAll, readyOf, convertReady, rowFault, rowFaultOf, rowAnswers};
+ghost use Rattle.chain.specs.PointRow.{noNumbers, extendedAll, readyChainOf, convertReady, rowFault, rowFaultOf, rowAnswers};
 use crate::Answer;
 use crate::Chain;
 use crate::Direction;
@@ -32,7 +32,7 @@ fn prepare_steps(chain: Chain) -> Prepared
 
 // A chain made ready for many points. A bad chain has its own refusal number in it (RANGE for its profile, NINTH, then each step's), and no steps.
 pub fn ready_chain(chain: Chain) -> ReadyChain
-    ensures { λ r. ⌜ r ≡ readyOf chain ⌝ }
+    ensures { λ r. ⌜ r ≡ readyChainOf chain ⌝ }
 {
     let fault = checks::chain_fault(chain);
     let profile = chain.profile;

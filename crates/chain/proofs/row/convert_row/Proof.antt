@@ -51,7 +51,7 @@ use Rattle.chain.specs.declared.Point.{Point}
 use Rattle.chain.specs.declared.Chain.{Chain}
 use Rattle.chain.specs.declared.Answer.{Answer}
 use Rattle.chain.specs.declared.Direction.{Direction}
-use Rattle.chain.specs.PointRow.{convertOf, readyOf, convertReady, rowFault, rowFaultOf, rowAnswers}
+use Rattle.chain.specs.PointRow.{convertOf, readyChainOf, convertReady, rowFault, rowFaultOf, rowAnswers}
 use Rattle.frames.proofs.Walks.{Slot, empty, full, slots, from-on, Says, told, leaves, var, sets, sets-again, asks, fetches, stores, counts}
 use Rattle.chain.proofs.RowLaws as L
 use Rattle.chain.proofs.Readying.{ready-converts}
@@ -167,9 +167,9 @@ module _ {M : Type 1} (𝓤 : URA M) (H : Heap 𝓤) (A : Atoms 𝓤) (mem : Mem
     goes-make : ent 𝓤 (emp 𝓤) (Make .pre to-make)
     goes-make = qed W [] ∵ nothing ! $ owned ! Ch.the-row (Is Ch.the-row) (LL.makes Ch.the-type Ch′.the-plain 𝓤 H A) c _ ci $ join ! $ nothing ! $ join ! $ frame ! $ done !
 
-    says-make : (u : Val) → ent 𝓤 (Make .post to-make u) (Says 𝓤 H A Rd.the-row (λ w. w ≡ readyOf c) u)
-    says-make = told W Rd.the-row (λ w. w ≡ readyOf c) (sem 𝓤 H A ftrue) (ensured 𝓤 H A make.ended (make.clauses 𝓤 H A mem run) tt (c, tt) tt)
-        (λ w. exE 𝓤 _ (λ ws. snd∗ 𝓤 (sem 𝓤 H A (lasts make.ended tt (c, tt) ws)) (fact 𝓤 (w ≡ readyOf c))))
+    says-make : (u : Val) → ent 𝓤 (Make .post to-make u) (Says 𝓤 H A Rd.the-row (λ w. w ≡ readyChainOf c) u)
+    says-make = told W Rd.the-row (λ w. w ≡ readyChainOf c) (sem 𝓤 H A ftrue) (ensured 𝓤 H A make.ended (make.clauses 𝓤 H A mem run) tt (c, tt) tt)
+        (λ w. exE 𝓤 _ (λ ws. snd∗ 𝓤 (sem 𝓤 H A (lasts make.ended tt (c, tt) ws)) (fact 𝓤 (w ≡ readyChainOf c))))
 
   module _ (W : Given 𝓤 H A) (w : ReadyChain) (vw : Val) (wi : Is Rd.the-row w (vw ∷ [])) where
     module _ (d : Direction) (vd : Val) (di : Is Dr.the-row d (vd ∷ [])) where
@@ -352,7 +352,7 @@ module _ {M : Type 1} (𝓤 : URA M) (H : Heap 𝓤) (A : Atoms 𝓤) (W : Given
         land ! (from ! (stop !)) (init ! (loc 5) refl (tt, record { fits = ir .1 })) $
         sets ! (loc 10) refl (bin ! (var ! (loc 5) refl) (lit ! tt) tt) (tt, tt) $
         first ! $ branches ! (var ! (loc 10) refl)
-        (λ h. asks ! fm Rd.the-row valr (LL.tells Rd.the-type Rd′.the-laws) (λ w. w ≡ readyOf c) (Make 𝓤 H A mem run) known-make (to-make 𝓤 H A mem run W c vc ci)
+        (λ h. asks ! fm Rd.the-row valr (LL.tells Rd.the-type Rd′.the-laws) (λ w. w ≡ readyChainOf c) (Make 𝓤 H A mem run) known-make (to-make 𝓤 H A mem run W c vc ci)
         (goes-make 𝓤 H A mem run W c vc ci) (says-make 𝓤 H A mem run W c vc ci) (and-then ! (var ! (arg 1) refl) (no-more !)) (λ w wi ew.
         land ! (from ! (stop !)) (init ! (loc 6) refl (typedR 𝓤 H A W w wi)) $
         sets ! (loc 7) refl (of-opd ! (lit ! tt)) (tt, record { fits = lit< tt }) $ blocks ! $

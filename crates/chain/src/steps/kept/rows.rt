@@ -6,7 +6,7 @@ ghost use Prim.Native.Nat.{_*_, _<_};
 ghost use lib.Seq.{sets};
 ghost use Rattle.chain.specs.Axes.{Small};
 ghost use Rattle.chain.specs.Ready.{readyParts};
-ghost use Rattle.chain.specs.Prepared.{numbersOf, formRange, readyFrom, readyAt, readyRange, rowAt, Stepped};
+ghost use Rattle.chain.specs.Prepared.{numbersOf, formRange, readyOf, readyAt, readyRange, rowAt, Stepped};
 use crate::Position;
 use crate::Prepared;
 use crate::steps;
@@ -35,7 +35,7 @@ pub(crate) struct Moved {
 
 // What eight numbers say.
 fn ready_of(form: i64, a: i64, b: i64, c: i64, d: i64, e: i64, f: i64, g: i64) -> Ready
-    ensures { λ r. ⌜ r ≡ readyFrom form a b c d e f g ⌝ }
+    ensures { λ r. ⌜ r ≡ readyOf form a b c d e f g ⌝ }
 {
     if ranges::equal(FIXED, form) {
         return Ready::Fixed(Position { x: a, y: b, z: c });
@@ -177,7 +177,7 @@ fn scale_moved(t: Scale, p: Position) -> Moved
 // Where eight numbers lead. The form is asked for once, and not by the ranges and by the gain again.
 fn moved_by(form: i64, a: i64, b: i64, c: i64, d: i64, e: i64, f: i64, g: i64, p: Position) -> Moved
     requires { ⌜ Small 640000000000 p ⌝ }
-    ensures { λ m. ⌜ Stepped (formRange form && readyRange (readyFrom form a b c d e f g)) (readyParts (readyFrom form a b c d e f g)) p m ⌝ }
+    ensures { λ m. ⌜ Stepped (formRange form && readyRange (readyOf form a b c d e f g)) (readyParts (readyOf form a b c d e f g)) p m ⌝ }
 {
     if !ranges::within(FIXED, form, SCALED) {
         return nowhere(p);

@@ -12,7 +12,7 @@ use Rattle.chain.specs.declared.steps.Ready.{Ready}
 use Rattle.chain.specs.declared.steps.Ready.the-variants.{Fixed, Turned, Scaled}
 use Rattle.chain.specs.declared.steps.kept.rows.Moved.{Moved}
 use Rattle.chain.specs.Ready.{position, readyParts}
-use Rattle.chain.specs.Prepared.{formRange, readyFrom, readyRange, Stepped}
+use Rattle.chain.specs.Prepared.{formRange, readyOf, readyRange, Stepped}
 use Rattle.chain.proofs.Forms.{Leads, no-form, by-form}
 use Rattle.chain.proofs.steps.kept.rows.moved_by.Statement.{statement}
 use Rattle.chain.proofs.steps.kept.rows.moved_by.Tie as tie
@@ -35,7 +35,7 @@ module _ (s : tie.Start) where
   is n b r e h = sym (e ∙ ap (equal n) (rd (s .fits .form))) ∙ h
 
   -- what the figures say, by a form that was found
-  lead : (m : Moved) (r : Ready) → r ≡ readyFrom (s .args .form) (s .args .a) (s .args .b) (s .args .c) (s .args .d) (s .args .e) (s .args .f) (s .args .g) → formRange (s .args .form) ≡ true → Stepped (readyRange r) (readyParts r) (s .args .p) m → Leads (s .args .form) (s .args .a) (s .args .b) (s .args .c) (s .args .d) (s .args .e) (s .args .f) (s .args .g) (s .args .p) m
+  lead : (m : Moved) (r : Ready) → r ≡ readyOf (s .args .form) (s .args .a) (s .args .b) (s .args .c) (s .args .d) (s .args .e) (s .args .f) (s .args .g) → formRange (s .args .form) ≡ true → Stepped (readyRange r) (readyParts r) (s .args .p) m → Leads (s .args .form) (s .args .a) (s .args .b) (s .args .c) (s .args .d) (s .args .e) (s .args .f) (s .args .g) (s .args .p) m
   lead m r w h t = by-form (s .args .form) (s .args .a) (s .args .b) (s .args .c) (s .args .d) (s .args .e) (s .args .f) (s .args .g) (s .args .p) m r w h t
 
 returns-2 : tie.Need-returns-2

@@ -14,12 +14,12 @@ use lib.Ieee.Fits.{div-fits}
 use lib.Ieee.Scale.{finite}
 use lib.Ieee.Positive.{num}
 use Rattle.bounds.proofs.Size.{sign, sign-round, div-sign}
-use Rattle.bounds.proofs.Among.{Ends, Among, point, is-finite, num-above, closed, within}
+use Rattle.bounds.proofs.Among.{Ends, Among, exactEnds, is-finite, num-above, closed, within}
 use Rattle.bounds.proofs.Formula.{var, over, All, none, also, value, tested, proved}
 use Rattle.bounds.proofs.Zero.{wholes, whole-among, nought, Upto, sub-self, add-zero-is}
 use Rattle.elementary.specs.Floats.{near, #}
 use Rattle.angle.specs.Units.{k, radians, metres}
-use Rattle.angle.specs.Ranges.{nearby, originTests, pointTests, cassiniTests, originFault}
+use Rattle.angle.specs.Ranges.{nearby, originTests, anglesAndMeridianTests, cassiniTests, originFault}
 use Rattle.elementary.specs.Series.{sineOf, cosineOf}
 use Rattle.angle.specs.Ellipsoids.{ellipsoidOf, primeVertical, meridianArc}
 use Rattle.angle.specs.Cassini.{originMade, cassiniWith, cassiniAt, cassiniOf}
@@ -29,14 +29,14 @@ use Rattle.refusal.proofs.Orders as orders
 use Rattle.refusal.proofs.Orders.{Passed, passed, both, unless-none}
 use Rattle.elementary.proofs.Formulas.{n}
 use Rattle.angle.proofs.Formulas.{eastF, northF}
-use Rattle.angle.proofs.Sizes.{from, most, eccentricity, Shaped, shaped, sine-latitude, cosine-latitude, radius-among, arc-among, metres-among}
+use Rattle.angle.proofs.Sizes.{from, sizeUpTo, eccentricity, Shaped, shaped, sine-latitude, cosine-latitude, radius-among, arc-among, metres-among}
 use Rattle.ranges.specs.Ranges.{upTo}
 use Rattle.ranges.proofs.Ranges.{natural, up-to-holds}
 use Rattle.angle.proofs.Wholes.{natural-upto, upto}
 
 -- ---- what is added is a zero
 abbrev ends : List Ends
-ends = eccentricity ∷ most 3 20 ∷ from 98 100 102 100 ∷ most 6379000 1 ∷ nought ∷ nought ∷ []
+ends = eccentricity ∷ sizeUpTo 3 20 ∷ from 98 100 102 100 ∷ sizeUpTo 6379000 1 ∷ nought ∷ nought ∷ []
 
 east-test : T (tested ends eastF nought)
 unfolding tested
@@ -46,7 +46,7 @@ north-test : T (tested ends northF nought)
 unfolding tested
 north-test = tt
 
-zero-test : T (within (point (radians (pos 0))) nought)
+zero-test : T (within (exactEnds (radians (pos 0))) nought)
 unfolding within radians k mul ofInt round
 zero-test = tt
 
@@ -145,6 +145,6 @@ pub at-origin : (o : OriginNumbers) → originFault o ≡ 0 → cassiniOf o (o .
 unfolding originFault cassiniOf
 at-origin o h =
     let p : Passed (originTests o) = passed (originTests o) tt h in
-    let q : Passed (pointTests (o .longitude) (o .latitude) (o .longitude)) = (p .1 .1 .1 .0, (p .1 .1 .1 .1 .0, (ap not (near-itself (o .longitude)), tt))) in
-    unless-none _ Refused (cassiniAt (originMade o) (o .latitude) (o .longitude)) (orders.none (cassiniTests o (o .latitude) (o .longitude)) (both (originTests o) (pointTests (o .longitude) (o .latitude) (o .longitude)) p q))
+    let q : Passed (anglesAndMeridianTests (o .longitude) (o .latitude) (o .longitude)) = (p .1 .1 .1 .0, (p .1 .1 .1 .1 .0, (ap not (near-itself (o .longitude)), tt))) in
+    unless-none _ Refused (cassiniAt (originMade o) (o .latitude) (o .longitude)) (orders.none (cassiniTests o (o .latitude) (o .longitude)) (both (originTests o) (anglesAndMeridianTests (o .longitude) (o .latitude) (o .longitude)) p q))
     ∙ at o p

@@ -17,7 +17,7 @@ use Rattle.bounds.proofs.Formula.{var, lit, plus, minus, times, over, All, none
 use Rattle.bounds.proofs.Zero.{wholes, Upto}
 use Rattle.elementary.specs.Floats.{#, whole}
 use Rattle.angle.specs.Units.{k, radians, metres}
-use Rattle.angle.specs.Ranges.{cartesianTests, originTests, pointTests, cassiniTests}
+use Rattle.angle.specs.Ranges.{cartesianTests, originTests, anglesAndMeridianTests, cassiniTests}
 use Rattle.elementary.specs.Series.{sineOf, cosineOf}
 use Rattle.angle.specs.Ellipsoids.{ellipsoidOf, primeVertical, meridianArc}
 use Rattle.angle.specs.Cartesian.{cartesianAt, cartesianOf, inUnits, cartesianUnitsOf}
@@ -33,9 +33,9 @@ use Rattle.angle.specs.declared.ProjectedMillimetres.the-variants.{Milli
 use Rattle.refusal.proofs.Orders.{Passed, passed}
 use Rattle.elementary.proofs.Formulas.{sineF, cosineF, sine-among, cosine-among}
 use Rattle.angle.proofs.Formulas.{eastF, northF, axisF, polarF}
-use Rattle.angle.proofs.Sizes.{from, most, eccentricity, Shaped, shaped, radians-among, parts-among, sine-latitude, cosine-latitude, radius-among, arc-among, metres-among}
+use Rattle.angle.proofs.Sizes.{from, sizeUpTo, eccentricity, Shaped, shaped, radians-among, parts-among, sine-latitude, cosine-latitude, radius-among, arc-among, metres-among}
 use Rattle.ranges.proofs.Ranges.{natural}
-use Rattle.angle.proofs.Answered.{Bound, whole-answer}
+use Rattle.angle.proofs.WholeAnswers.{Bound, whole-answer}
 use Rattle.angle.proofs.Wholes.{natural-upto, upto, sub-pos}
 
 -- what is not refused passed every test
@@ -45,7 +45,7 @@ given (suc f) r a P R A = R (suc f)
 
 -- ---- geodetic to Cartesian: |X| at most 3,700,000 m, |Y| at most 7,500,000 m, |Z| at most 1,000,000 m
 abbrev pub CartesianBounded : Cartesian → Type 0
-CartesianBounded (cartesian.Metres x y z) = Among x (most 3700000 1) × Among y (most 7500000 1) × Among z (most 1000000 1)
+CartesianBounded (cartesian.Metres x y z) = Among x (sizeUpTo 3700000 1) × Among y (sizeUpTo 7500000 1) × Among z (sizeUpTo 1000000 1)
 CartesianBounded (cartesian.Refused i) = Unit {0}
 
 -- a longitude past 90 degrees: up to 0.53
@@ -53,15 +53,15 @@ past-finite : T (finite (round binary64 false 10800000000 1))
 unfolding round
 past-finite = tt
 
-past-test : T (tested (wholes 0 10800000000 ∷ []) (times (var 0) (lit k)) (most 53 100))
+past-test : T (tested (wholes 0 10800000000 ∷ []) (times (var 0) (lit k)) (sizeUpTo 53 100))
 unfolding tested k
 past-test = tt
 
-sine-test : T (tested (most 53 100 ∷ []) sineF (most 56 100))
+sine-test : T (tested (sizeUpTo 53 100 ∷ []) sineF (sizeUpTo 56 100))
 unfolding tested neg div
 sine-test = tt
 
-cosine-test : T (tested (most 53 100 ∷ []) cosineF (most 115 100))
+cosine-test : T (tested (sizeUpTo 53 100 ∷ []) cosineF (sizeUpTo 115 100))
 unfolding tested neg div
 cosine-test = tt
 
@@ -69,23 +69,23 @@ height-finite : T (finite (round binary64 false 900000000 1))
 unfolding round
 height-finite = tt
 
-height-test : T (tested (wholes 0 900000000 ∷ []) (over (var 0) (lit (# 100000))) (most 9000 1))
+height-test : T (tested (wholes 0 900000000 ∷ []) (over (var 0) (lit (# 100000))) (sizeUpTo 9000 1))
 unfolding tested
 height-test = tt
 
 -- e2, the radius, the height, the latitude's sine and cosine, the longitude's cosine and sine
 abbrev space : List Ends
-space = eccentricity ∷ most 6379000 1 ∷ most 9000 1 ∷ most 3 20 ∷ from 98 100 102 100 ∷ most 56 100 ∷ most 115 100 ∷ []
+space = eccentricity ∷ sizeUpTo 6379000 1 ∷ sizeUpTo 9000 1 ∷ sizeUpTo 3 20 ∷ from 98 100 102 100 ∷ sizeUpTo 56 100 ∷ sizeUpTo 115 100 ∷ []
 
-x-test : T (tested space (axisF (var 5)) (most 3700000 1))
+x-test : T (tested space (axisF (var 5)) (sizeUpTo 3700000 1))
 unfolding tested
 x-test = tt
 
-y-test : T (tested space (axisF (var 6)) (most 7500000 1))
+y-test : T (tested space (axisF (var 6)) (sizeUpTo 7500000 1))
 unfolding tested
 y-test = tt
 
-z-test : T (tested space polarF (most 1000000 1))
+z-test : T (tested space polarF (sizeUpTo 1000000 1))
 unfolding tested
 z-test = tt
 
@@ -102,16 +102,16 @@ module _ (code lat lon h : ℤ) (p : Passed (cartesianTests code lat lon h)) whe
   abbrev w : Float
   w = radians (lon -ℤ pos 32400000000)
 
-  past : Among w (most 53 100)
+  past : Among w (sizeUpTo 53 100)
   past =
       let l = natural 35640000000 lon 43200000000 (not-false _ (p .1 .1 .0)) in
       let a = l .low in
       let b = l .high in
       let d : lon -ℤ pos 32400000000 ≡ pos (l .n - 32400000000) = ap (λ (z : ℤ). z -ℤ pos 32400000000) (l .is) ∙ sub-pos (l .n) 32400000000 (omega arith) in
-      radians-among 10800000000 (most 53 100) (lon -ℤ pos 32400000000) past-finite past-test (subst (λ (z : ℤ). Upto 10800000000 z) (sym d) (omega arith))
+      radians-among 10800000000 (sizeUpTo 53 100) (lon -ℤ pos 32400000000) past-finite past-test (subst (λ (z : ℤ). Upto 10800000000 z) (sym d) (omega arith))
 
-  height : Among (div binary64 (whole h) (# 100000)) (most 9000 1)
-  height = parts-among 900000000 100000 (most 9000 1) h height-finite height-test (upto 900000000 49999999 h 900000000 (lit≤ tt) (lit≤ tt) (not-false _ (p .1 .1 .1 .0)))
+  height : Among (div binary64 (whole h) (# 100000)) (sizeUpTo 9000 1)
+  height = parts-among 900000000 100000 (sizeUpTo 9000 1) h height-finite height-test (upto 900000000 49999999 h 900000000 (lit≤ tt) (lit≤ tt) (not-false _ (p .1 .1 .1 .0)))
 
   all : All (e .e2 ∷ primeVertical e (sineOf (radians lat)) ∷ div binary64 (whole h) (# 100000) ∷ sineOf (radians lat) ∷ cosineOf (radians lat) ∷ neg (sineOf w) ∷ cosineOf w ∷ []) space
   all =
@@ -120,11 +120,11 @@ module _ (code lat lon h : ℤ) (p : Passed (cartesianTests code lat lon h)) whe
       (also height
       (also (sine-latitude e lat E latitude)
       (also (cosine-latitude e lat E latitude)
-      (also (neg-among (sine-among (most 53 100) (most 56 100) sine-test past)) (also (cosine-among (most 53 100) (most 115 100) cosine-test past) none))))))
+      (also (neg-among (sine-among (sizeUpTo 53 100) (sizeUpTo 56 100) sine-test past)) (also (cosine-among (sizeUpTo 53 100) (sizeUpTo 115 100) cosine-test past) none))))))
 
   position-bounded : CartesianBounded (cartesianAt e lat lon h)
   unfolding value cartesianAt
-  position-bounded = (proved all (axisF (var 5)) (most 3700000 1) x-test, proved all (axisF (var 6)) (most 7500000 1) y-test, proved all polarF (most 1000000 1) z-test)
+  position-bounded = (proved all (axisF (var 5)) (sizeUpTo 3700000 1) x-test, proved all (axisF (var 6)) (sizeUpTo 7500000 1) y-test, proved all polarF (sizeUpTo 1000000 1) z-test)
 
 pub cartesian-bounded : (code lat lon h : ℤ) → CartesianBounded (cartesianOf code lat lon h)
 unfolding cartesianOf
@@ -134,34 +134,34 @@ cartesian-bounded code lat lon h =
 
 -- ---- Cassini: |E| at most 2,500,000 m, |N| at most 3,900,000 m
 abbrev pub ProjectedBounded : Projected → Type 0
-ProjectedBounded (projected.Metres x y) = Among x (most 2500000 1) × Among y (most 3900000 1)
+ProjectedBounded (projected.Metres x y) = Among x (sizeUpTo 2500000 1) × Among y (sizeUpTo 3900000 1)
 ProjectedBounded (projected.Refused i) = Unit {0}
 
 difference-finite : T (finite (round binary64 false 1440000000 1))
 unfolding round
 difference-finite = tt
 
-difference-test : T (tested (wholes 0 1440000000 ∷ []) (times (var 0) (lit k)) (most 7 100))
+difference-test : T (tested (wholes 0 1440000000 ∷ []) (times (var 0) (lit k)) (sizeUpTo 7 100))
 unfolding tested k
 difference-test = tt
 
-arcs-test : T (tested (most 910000 1 ∷ most 910000 1 ∷ []) (minus (var 0) (var 1)) (most 1820000 1))
+arcs-test : T (tested (sizeUpTo 910000 1 ∷ sizeUpTo 910000 1 ∷ []) (minus (var 0) (var 1)) (sizeUpTo 1820000 1))
 unfolding tested
 arcs-test = tt
 
 -- e2, the latitude's sine and cosine, the radius, the difference of longitudes, that of the arcs, and the false easting or northing
 abbrev plane : List Ends
-plane = eccentricity ∷ most 3 20 ∷ from 98 100 102 100 ∷ most 6379000 1 ∷ most 7 100 ∷ most 1820000 1 ∷ most 2000000 1 ∷ []
+plane = eccentricity ∷ sizeUpTo 3 20 ∷ from 98 100 102 100 ∷ sizeUpTo 6379000 1 ∷ sizeUpTo 7 100 ∷ sizeUpTo 1820000 1 ∷ sizeUpTo 2000000 1 ∷ []
 
-east-test : T (tested plane (plus (var 6) eastF) (most 2500000 1))
+east-test : T (tested plane (plus (var 6) eastF) (sizeUpTo 2500000 1))
 unfolding tested
 east-test = tt
 
-north-test : T (tested plane (plus (var 6) northF) (most 3900000 1))
+north-test : T (tested plane (plus (var 6) northF) (sizeUpTo 3900000 1))
 unfolding tested
 north-test = tt
 
-module _ (o : OriginNumbers) (lat lon : ℤ) (p : Passed (originTests o)) (q : Passed (pointTests (o .longitude) lat lon)) where
+module _ (o : OriginNumbers) (lat lon : ℤ) (p : Passed (originTests o)) (q : Passed (anglesAndMeridianTests (o .longitude) lat lon)) where
   abbrev g : Ellipsoid
   g = ellipsoidOf (o .ellipsoid)
 
@@ -174,17 +174,17 @@ module _ (o : OriginNumbers) (lat lon : ℤ) (p : Passed (originTests o)) (q : P
   latitude′ : Upto 2880000000 lat
   latitude′ = natural-upto (natural 0 lat 2880000000 (not-false _ (q .0)))
 
-  difference : Among (radians (lon -ℤ o .longitude)) (most 7 100)
+  difference : Among (radians (lon -ℤ o .longitude)) (sizeUpTo 7 100)
   difference =
-      radians-among 1440000000 (most 7 100) (lon -ℤ o .longitude) difference-finite difference-test (upto 1440000000 1439999999 (lon -ℤ o .longitude) 1440000000 (lit≤ tt) (lit≤ tt) (not-false _ (q .1 .1 .0)))
+      radians-among 1440000000 (sizeUpTo 7 100) (lon -ℤ o .longitude) difference-finite difference-test (upto 1440000000 1439999999 (lon -ℤ o .longitude) 1440000000 (lit≤ tt) (lit≤ tt) (not-false _ (q .1 .1 .0)))
 
   abbrev arcs : Float
   arcs = sub binary64 (meridianArc g φ) (meridianArc g (radians (o .latitude)))
 
-  arcs-among : Among arcs (most 1820000 1)
+  arcs-among : Among arcs (sizeUpTo 1820000 1)
   unfolding value
   arcs-among =
-      proved (also (arc-among g lat G latitude′) (also (arc-among g (o .latitude) G (natural-upto (natural 0 (o .latitude) 2880000000 (not-false _ (p .1 .1 .1 .0))))) none)) (minus (var 0) (var 1)) (most 1820000 1) arcs-test
+      proved (also (arc-among g lat G latitude′) (also (arc-among g (o .latitude) G (natural-upto (natural 0 (o .latitude) 2880000000 (not-false _ (p .1 .1 .1 .0))))) none)) (minus (var 0) (var 1)) (sizeUpTo 1820000 1) arcs-test
 
   -- with a false easting or northing
   laid : (z : ℤ) → Upto 2000000000 z → All (g .e2 ∷ sineOf φ ∷ cosineOf φ ∷ primeVertical g (sineOf φ) ∷ radians (lon -ℤ o .longitude) ∷ arcs ∷ metres z ∷ []) plane
@@ -194,11 +194,11 @@ module _ (o : OriginNumbers) (lat lon : ℤ) (p : Passed (originTests o)) (q : P
       (also (cosine-latitude g lat G latitude′)
       (also (radius-among g lat G latitude′) (also difference (also arcs-among (also (metres-among z h) none))))))
 
-  place-bounded : ProjectedBounded (cassiniAt (originMade o) lat lon)
+  cassini-bounded : ProjectedBounded (cassiniAt (originMade o) lat lon)
   unfolding value cassiniAt cassiniWith originMade
-  place-bounded = (
-    proved (laid (o .«false_easting») (upto 2000000000 1999999999 (o .«false_easting») 2000000000 (lit≤ tt) (lit≤ tt) (not-false _ (p .1 .0)))) (plus (var 6) eastF) (most 2500000 1) east-test,
-    proved (laid (o .«false_northing») (upto 2000000000 1999999999 (o .«false_northing») 2000000000 (lit≤ tt) (lit≤ tt) (not-false _ (p .1 .1 .0)))) (plus (var 6) northF) (most 3900000 1) north-test,
+  cassini-bounded = (
+    proved (laid (o .«false_easting») (upto 2000000000 1999999999 (o .«false_easting») 2000000000 (lit≤ tt) (lit≤ tt) (not-false _ (p .1 .0)))) (plus (var 6) eastF) (sizeUpTo 2500000 1) east-test,
+    proved (laid (o .«false_northing») (upto 2000000000 1999999999 (o .«false_northing») 2000000000 (lit≤ tt) (lit≤ tt) (not-false _ (p .1 .1 .0)))) (plus (var 6) northF) (sizeUpTo 3900000 1) north-test,
   )
 
 pub projected-bounded : (o : OriginNumbers) (lat lon : ℤ) → ProjectedBounded (cassiniOf o lat lon)
@@ -207,7 +207,7 @@ projected-bounded o lat lon =
     given (first (cassiniTests o lat lon)) projected.Refused (cassiniAt (originMade o) lat lon) ProjectedBounded (λ i. tt)
     (λ (z : first (cassiniTests o lat lon) ≡ 0).
     let p : Passed (cassiniTests o lat lon) = passed (cassiniTests o lat lon) tt z in
-    place-bounded o lat lon (p .0, (p .1 .0, (p .1 .1 .0, (p .1 .1 .1 .0, (p .1 .1 .1 .1 .0, tt))))) (p .1 .1 .1 .1 .1))
+    cassini-bounded o lat lon (p .0, (p .1 .0, (p .1 .1 .0, (p .1 .1 .1 .0, (p .1 .1 .1 .1 .0, tt))))) (p .1 .1 .1 .1 .1))
 
 -- ---- no rounding refuses
 bound-x : Bound 3700000

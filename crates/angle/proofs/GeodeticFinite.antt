@@ -21,12 +21,12 @@ use Rattle.elementary.specs.Floats.{whole}
 use Rattle.angle.specs.Units.{seconds}
 use Rattle.angle.specs.Ranges.{positionTests}
 use Rattle.angle.specs.Ellipsoids.{ellipsoidOf}
-use Rattle.angle.specs.Geodetic.{foundAt, inRanges, placed, inAngles, geodeticUnitsOf}
+use Rattle.angle.specs.Geodetic.{foundAt, inRanges, fromRounded, inAngles, geodeticUnitsOf}
 use Rattle.angle.specs.declared.Found.{Found}
 use Rattle.angle.specs.declared.GeodeticUnits.the-variants.{Refused}
-use Rattle.angle.proofs.Answered.{Bound, whole-answer}
+use Rattle.angle.proofs.WholeAnswers.{Bound, whole-answer}
 use Rattle.angle.proofs.GeodeticFormulas.{latitudeF, longitudeF, heightF, given, found-is}
-use Rattle.angle.proofs.Sizes.{above, most, axis, flattening, eccentricity, shaped}
+use Rattle.angle.proofs.Sizes.{above, sizeUpTo, axis, flattening, eccentricity, shaped}
 use Rattle.angle.proofs.Wholes.{negative}
 
 -- ---- X, Y and Z of the area as f64s
@@ -76,7 +76,7 @@ abbrev longitudeB : Ends
 longitudeB = above 22000 1 140000 1
 
 abbrev heightB : Ends
-heightB = most 3300000 1
+heightB = sizeUpTo 3300000 1
 
 latitude-test : T (tested area latitudeF latitudeB)
 unfolding tested round neg div seconds
@@ -91,7 +91,7 @@ unfolding tested round neg div
 height-test = tt
 
 -- what is rounded
-pub record Placed (f : Found) : Type 0 where
+pub record FoundIn (f : Found) : Type 0 where
   pub latitude : Among (f .latitude) latitudeB
   pub longitude : Among (f .longitude) longitudeB
   pub height : Among (f .height) heightB
@@ -100,9 +100,9 @@ module _ (code X Y Z : ℤ) (h : first (positionTests code X Y Z) ≡ 0) where
   accepted : All (given (ellipsoidOf code) X Y Z) area
   accepted = in-area code X Y Z (passed (positionTests code X Y Z) tt h)
 
-  pub found-bounded : Placed (foundAt (ellipsoidOf code) X Y Z)
+  pub found-bounded : FoundIn (foundAt (ellipsoidOf code) X Y Z)
   found-bounded =
-      subst Placed (sym (found-is (ellipsoidOf code) X Y Z))
+      subst FoundIn (sym (found-is (ellipsoidOf code) X Y Z))
       (record {
         latitude = proved accepted latitudeF latitudeB latitude-test;
         longitude = proved accepted longitudeF longitudeB longitude-test;
@@ -129,7 +129,7 @@ bound-height = record { is = refl; unit = refl; low = lit< tt }
 pub none-refused : (code X Y Z : ℤ) → first (positionTests code X Y Z) ≡ 0
     → let f = foundAt (ellipsoidOf code) X Y Z in
     geodeticUnitsOf code X Y Z ≡ inRanges (wholeOf (f .latitude) 5) (wholeOf (f .longitude) 5 +ℤ pos 32400000000) (wholeOf (f .height) 5)
-unfolding geodeticUnitsOf inAngles placed
+unfolding geodeticUnitsOf inAngles fromRounded
 none-refused code X Y Z h =
     let f = foundAt (ellipsoidOf code) X Y Z in
     let b = found-bounded code X Y Z h in

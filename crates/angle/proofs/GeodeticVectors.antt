@@ -13,7 +13,7 @@ use Rattle.refusal.specs.Numbers as numbers
 use Rattle.angle.specs.Worked.{openAngles}
 use Rattle.angle.specs.Units.{seconds}
 use Rattle.angle.specs.Ellipsoids.{ellipsoidOf}
-use Rattle.angle.specs.Geodetic.{tangentOf, heightOf, inRanges, placed, inAngles, geodeticUnitsOf}
+use Rattle.angle.specs.Geodetic.{tangentOf, heightOf, inRanges, fromRounded, inAngles, geodeticUnitsOf}
 use Rattle.angle.specs.declared.GeodeticUnits.{GeodeticUnits}
 use Rattle.angle.specs.declared.GeodeticUnits.the-variants.{Units, Refused}
 
@@ -52,5 +52,5 @@ answers =
     ∷ []
 
 answered : answers ≡ (Units (pos 2322056909) (pos 36100705076) (pos 1807805) ∷ Refused range ∷ Refused numbers.area ∷ Refused geodetic ∷ [])
-unfolding answers geodeticUnitsOf inAngles placed inRanges openAngles round ofBits
+unfolding answers geodeticUnitsOf inAngles fromRounded inRanges openAngles round ofBits
 answered = refl

@@ -1,4 +1,4 @@
-pub mod Answered
+pub mod WholeAnswers
 pub mod Arcs
 pub mod AtOrigin
 pub mod Codes

@@ -4,7 +4,7 @@ use Prim.Native.Nat.{ℕ, zero, suc}
 use native.Mathlib.Omega.{arith}
 use lib.IntN.{ℤ}
 use Rattle.refusal.specs.Order.{first, unless}
-use Rattle.angle.specs.Ranges.{originTests, pointTests, originFault}
+use Rattle.angle.specs.Ranges.{originTests, anglesAndMeridianTests, originFault}
 use Rattle.angle.specs.Cassini.{originMade, originOf, cassiniAt, cassiniFromOf, cassiniOf, inMillimetres, cassiniMillimetresFromOf, cassiniMillimetresOf}
 use Rattle.angle.specs.declared.Origin.{Origin}
 use Rattle.angle.specs.declared.OriginNumbers.{OriginNumbers}
@@ -30,14 +30,14 @@ module _ (o : OriginNumbers) (lat lon : ℤ) where
       let p = refused (first (originTests o)) n (originMade o) h in
       ap Refused (sym (p .0))
       ∙ sym (unless-some (first (originTests o)) Refused (cassiniAt (originMade o) lat lon) (p .1))
-      ∙ ap (λ (f : ℕ). unless f Refused (cassiniAt (originMade o) lat lon)) (sym (stop (originTests o) (pointTests (o .longitude) lat lon) (p .1)))
+      ∙ ap (λ (f : ℕ). unless f Refused (cassiniAt (originMade o) lat lon)) (sym (stop (originTests o) (anglesAndMeridianTests (o .longitude) lat lon) (p .1)))
 
   pub by-origin : (x : Origin) → originOf o ≡ Made x → cassiniFromOf x lat lon ≡ cassiniOf o lat lon
   unfolding originOf originFault originMade cassiniFromOf cassiniOf
   by-origin x h =
       let p = answered (first (originTests o)) (originMade o) x h in
       ap (λ (y : Origin). cassiniFromOf y lat lon) (sym (p .1))
-      ∙ ap (λ (f : ℕ). unless f Refused (cassiniAt (originMade o) lat lon)) (sym (on (originTests o) (pointTests (o .longitude) lat lon) (passed (originTests o) tt (p .0))))
+      ∙ ap (λ (f : ℕ). unless f Refused (cassiniAt (originMade o) lat lon)) (sym (on (originTests o) (anglesAndMeridianTests (o .longitude) lat lon) (passed (originTests o) tt (p .0))))
 
   -- the same in whole millimetres
   pub by-refusal-millimetres : (n : ℕ) → originOf o ≡ answer.Refused n → millimetres.Refused n ≡ cassiniMillimetresOf o lat lon

@@ -5,7 +5,7 @@ use mathlib.Core.Bool.{true}
 use lib.IntN.{ℤ}
 use Rattle.refusal.specs.Order.{first}
 use Rattle.ranges.specs.Ranges.{latitudeRange}
-use Rattle.angle.specs.Ranges.{nearby, angleTests, originTests, pointTests, anglesFault, originFault}
+use Rattle.angle.specs.Ranges.{nearby, angleTests, originTests, anglesAndMeridianTests, anglesFault, originFault}
 use Rattle.angle.specs.declared.OriginNumbers.{OriginNumbers}
 use Rattle.refusal.proofs.Orders.{passed}
 
@@ -20,5 +20,5 @@ unfolding originFault
 origin-latitude o h = not-false _ (passed (originTests o) tt h .1 .1 .1 .0)
 
 -- a point's latitude is in its range, and its longitude not too far from the origin's
-pub point-near : (o lat lon : ℤ) → first (pointTests o lat lon) ≡ 0 → (latitudeRange lat ≡ true) × (nearby lon o ≡ true)
-point-near o lat lon h = let p = passed (pointTests o lat lon) tt h in (not-false _ (p .0), not-false _ (p .1 .1 .0))
+pub point-near : (o lat lon : ℤ) → first (anglesAndMeridianTests o lat lon) ≡ 0 → (latitudeRange lat ≡ true) × (nearby lon o ≡ true)
+point-near o lat lon h = let p = passed (anglesAndMeridianTests o lat lon) tt h in (not-false _ (p .0), not-false _ (p .1 .1 .0))

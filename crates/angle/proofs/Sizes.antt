@@ -9,7 +9,7 @@ use lib.Dec.{T}
 use lib.IntN.{ℤ, pos}
 use lib.Ieee.{Float, binary64, round, neg, div, mul, sub}
 use lib.Ieee.Scale.{finite}
-use Rattle.bounds.proofs.Among.{Ends, Among, untold, told, point, closed, within}
+use Rattle.bounds.proofs.Among.{Ends, Among, untold, told, exactEnds, closed, within}
 use Rattle.bounds.proofs.Formula.{var, lit, times, over, none, also, value, tested, proved}
 use Rattle.bounds.proofs.Zero.{wholes, Upto, ofInt-among}
 use Rattle.elementary.specs.Floats.{near, #, whole}
@@ -27,8 +27,8 @@ abbrev pub from : ℕ → ℕ → ℕ → ℕ → Ends
 from a b c d = record { lo = near a b; hi = near c d; side = untold }
 
 -- at most c / d in size
-abbrev pub most : ℕ → ℕ → Ends
-most c d = from 0 1 c d
+abbrev pub sizeUpTo : ℕ → ℕ → Ends
+sizeUpTo c d = from 0 1 c d
 
 -- from a / b to c / d, not negative
 abbrev pub above : ℕ → ℕ → ℕ → ℕ → Ends
@@ -51,7 +51,7 @@ pub record Shaped (e : Ellipsoid) : Type 0 where
 
 -- a closed value that lies in J
 abbrev Lies : Float → Ends → Type 0
-Lies x J = T (within (point x) J)
+Lies x J = T (within (exactEnds x) J)
 
 -- each of the four rows
 four : (P : ℕ → Type 0) → P 0 → P 1 → P 2 → P 3 → (i : ℕ) → i < 4 → P i
@@ -110,53 +110,53 @@ latitude-finite : T (finite (round binary64 false 2880000000 1))
 unfolding round
 latitude-finite = tt
 
-latitude-test : T (tested (wholes 0 2880000000 ∷ []) (times (var 0) (lit k)) (most 7 50))
+latitude-test : T (tested (wholes 0 2880000000 ∷ []) (times (var 0) (lit k)) (sizeUpTo 7 50))
 unfolding tested k
 latitude-test = tt
 
-sine-test : T (tested (most 7 50 ∷ []) sineF (most 3 20))
+sine-test : T (tested (sizeUpTo 7 50 ∷ []) sineF (sizeUpTo 3 20))
 unfolding tested neg div
 sine-test = tt
 
-cosine-test : T (tested (most 7 50 ∷ []) cosineF (from 98 100 102 100))
+cosine-test : T (tested (sizeUpTo 7 50 ∷ []) cosineF (from 98 100 102 100))
 unfolding tested neg div
 cosine-test = tt
 
-radius-test : T (tested (axis ∷ eccentricity ∷ most 3 20 ∷ []) (primeVerticalF (var 0) (var 1) (var 2)) (most 6379000 1))
+radius-test : T (tested (axis ∷ eccentricity ∷ sizeUpTo 3 20 ∷ []) (primeVerticalF (var 0) (var 1) (var 2)) (sizeUpTo 6379000 1))
 unfolding tested
 radius-test = tt
 
-arc-test : T (tested (axis ∷ eccentricity ∷ most 7 50 ∷ []) (meridianArcF (var 0) (var 1) (var 2)) (most 910000 1))
+arc-test : T (tested (axis ∷ eccentricity ∷ sizeUpTo 7 50 ∷ []) (meridianArcF (var 0) (var 1) (var 2)) (sizeUpTo 910000 1))
 unfolding tested neg div
 arc-test = tt
 
 module _ (e : Ellipsoid) (z : ℤ) (E : Shaped e) (Z : Upto 2880000000 z) where
-  pub latitude-among : Among (radians z) (most 7 50)
-  latitude-among = radians-among 2880000000 (most 7 50) z latitude-finite latitude-test Z
+  pub latitude-among : Among (radians z) (sizeUpTo 7 50)
+  latitude-among = radians-among 2880000000 (sizeUpTo 7 50) z latitude-finite latitude-test Z
 
-  pub sine-latitude : Among (sineOf (radians z)) (most 3 20)
-  sine-latitude = sine-among (most 7 50) (most 3 20) sine-test latitude-among
+  pub sine-latitude : Among (sineOf (radians z)) (sizeUpTo 3 20)
+  sine-latitude = sine-among (sizeUpTo 7 50) (sizeUpTo 3 20) sine-test latitude-among
 
   pub cosine-latitude : Among (cosineOf (radians z)) (from 98 100 102 100)
-  cosine-latitude = cosine-among (most 7 50) (from 98 100 102 100) cosine-test latitude-among
+  cosine-latitude = cosine-among (sizeUpTo 7 50) (from 98 100 102 100) cosine-test latitude-among
 
-  pub radius-among : Among (primeVertical e (sineOf (radians z))) (most 6379000 1)
+  pub radius-among : Among (primeVertical e (sineOf (radians z))) (sizeUpTo 6379000 1)
   unfolding value primeVertical
-  radius-among = proved (also (E .long) (also (E .squared) (also sine-latitude none))) (primeVerticalF (var 0) (var 1) (var 2)) (most 6379000 1) radius-test
+  radius-among = proved (also (E .long) (also (E .squared) (also sine-latitude none))) (primeVerticalF (var 0) (var 1) (var 2)) (sizeUpTo 6379000 1) radius-test
 
-  pub arc-among : Among (meridianArc e (radians z)) (most 910000 1)
+  pub arc-among : Among (meridianArc e (radians z)) (sizeUpTo 910000 1)
   unfolding value meridianArc arcWith
-  arc-among = simp sine-is (proved (also (E .long) (also (E .squared) (also latitude-among none))) (meridianArcF (var 0) (var 1) (var 2)) (most 910000 1) arc-test)
+  arc-among = simp sine-is (proved (also (E .long) (also (E .squared) (also latitude-among none))) (meridianArcF (var 0) (var 1) (var 2)) (sizeUpTo 910000 1) arc-test)
 
 -- ---- a false easting or northing: within 2,000,000 m
 offset-finite : T (finite (round binary64 false 2000000000 1))
 unfolding round
 offset-finite = tt
 
-offset-test : T (tested (wholes 0 2000000000 ∷ []) (over (var 0) (n 1000)) (most 2000000 1))
+offset-test : T (tested (wholes 0 2000000000 ∷ []) (over (var 0) (n 1000)) (sizeUpTo 2000000 1))
 unfolding tested
 offset-test = tt
 
-pub metres-among : (z : ℤ) → Upto 2000000000 z → Among (metres z) (most 2000000 1)
+pub metres-among : (z : ℤ) → Upto 2000000000 z → Among (metres z) (sizeUpTo 2000000 1)
 unfolding metres
-metres-among z h = parts-among 2000000000 1000 (most 2000000 1) z offset-finite offset-test h
+metres-among z h = parts-among 2000000000 1000 (sizeUpTo 2000000 1) z offset-finite offset-test h

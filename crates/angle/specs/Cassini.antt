@@ -8,7 +8,7 @@ use Rattle.rounding.specs.declared.decimals.Rounded.the-variants.{Whole}
 use Rattle.rounding.specs.declared.decimals.Rounded.the-variants as rounded
 use Rattle.elementary.specs.Floats.{_⊗_, _⊘_, _⊕_, _⊖_, #}
 use Rattle.angle.specs.Units.{radians, metres}
-use Rattle.angle.specs.Ranges.{originFault, pointTests, cassiniTests}
+use Rattle.angle.specs.Ranges.{originFault, anglesAndMeridianTests, cassiniTests}
 use Rattle.elementary.specs.Series.{sineOf, cosineOf}
 use Rattle.angle.specs.Ellipsoids.{ellipsoidOf, primeVertical, meridianArc}
 use Rattle.angle.specs.declared.OriginNumbers.{OriginNumbers}
@@ -72,7 +72,7 @@ cassiniAt o latitude longitude =
 -- a point on a made origin, refused: 12, 13
 unfoldable pub cassiniFromOf : Origin → ℤ → ℤ → Projected
 unfolding cassiniAt
-cassiniFromOf o latitude longitude = unless (first (pointTests (o .longitude) latitude longitude)) Refused (cassiniAt o latitude longitude)
+cassiniFromOf o latitude longitude = unless (first (anglesAndMeridianTests (o .longitude) latitude longitude)) Refused (cassiniAt o latitude longitude)
 
 -- refused: 2, 12, 13
 unfoldable pub cassiniOf : OriginNumbers → ℤ → ℤ → Projected

@@ -54,17 +54,17 @@ unfoldable pub inRanges : ℤ → ℤ → ℤ → GeodeticUnits
 inRanges lat lon h = unless (first (geodeticTests lat lon h)) Refused (Units lat lon h)
 
 -- all three rounded, 90 degrees added to the longitude in whole units; what a rounding refuses is 12
-unfoldable pub placed : Rounded → Rounded → Rounded → GeodeticUnits
+unfoldable pub fromRounded : Rounded → Rounded → Rounded → GeodeticUnits
 unfolding inRanges
-placed (rounded.Refused n) w h = Refused geodetic
-placed (Whole lat) (rounded.Refused n) h = Refused geodetic
-placed (Whole lat) (Whole w) (rounded.Refused n) = Refused geodetic
-placed (Whole lat) (Whole w) (Whole h) = inRanges lat (w +ℤ pos 32400000000) h
+fromRounded (rounded.Refused n) w h = Refused geodetic
+fromRounded (Whole lat) (rounded.Refused n) h = Refused geodetic
+fromRounded (Whole lat) (Whole w) (rounded.Refused n) = Refused geodetic
+fromRounded (Whole lat) (Whole w) (Whole h) = inRanges lat (w +ℤ pos 32400000000) h
 
 -- each at 5 places
 unfoldable pub inAngles : Found → GeodeticUnits
-unfolding placed
-inAngles p = placed (roundedOf (p .latitude) 5) (roundedOf (p .longitude) 5) (roundedOf (p .height) 5)
+unfolding fromRounded
+inAngles p = fromRounded (roundedOf (p .latitude) 5) (roundedOf (p .longitude) 5) (roundedOf (p .height) 5)
 
 -- refused: 2, 10, 12
 unfoldable pub geodeticUnitsOf : ℤ → ℤ → ℤ → ℤ → GeodeticUnits

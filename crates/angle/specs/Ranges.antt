@@ -37,12 +37,12 @@ abbrev pub positionTests : ℤ → ℤ → ℤ → ℤ → List Test
 positionTests code x y z = (not (ellipsoidRange code) gives range) ∷ (not (area x y z) gives numbers.area) ∷ []
 
 -- a point on an origin of longitude lon₀: 12, 13
-abbrev pub pointTests : ℤ → ℤ → ℤ → List Test
-pointTests lon₀ lat lon = angleTests lat lon ++ ((not (nearby lon lon₀) gives numbers.apart) ∷ [])
+abbrev pub anglesAndMeridianTests : ℤ → ℤ → ℤ → List Test
+anglesAndMeridianTests lon₀ lat lon = angleTests lat lon ++ ((not (nearby lon lon₀) gives numbers.apart) ∷ [])
 
 -- Cassini: 2, 12, 13
 abbrev pub cassiniTests : OriginNumbers → ℤ → ℤ → List Test
-cassiniTests o lat lon = originTests o ++ pointTests (o .longitude) lat lon
+cassiniTests o lat lon = originTests o ++ anglesAndMeridianTests (o .longitude) lat lon
 
 -- ---- what a caller that reads angles and origins from lines asks: the number, or 0
 unfoldable pub anglesFault : ℤ → ℤ → ℕ

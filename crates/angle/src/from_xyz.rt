@@ -3,7 +3,7 @@ ghost use mathlib.Core.Path.{_≡_};
 ghost use mathlib.Core.Bool.{true};
 ghost use lib.IntN.{pos, _+ℤ_};
 ghost use Rattle.ranges.specs.Ranges.{area};
-ghost use Rattle.angle.specs.Geodetic.{tangentOf, heightOf, foundAt, inRanges, placed as Geodetic·placed, inAngles, geodeticUnitsOf};
+ghost use Rattle.angle.specs.Geodetic.{tangentOf, heightOf, foundAt, inRanges, fromRounded, inAngles, geodeticUnitsOf};
 use crate::Ellipsoid;
 use crate::Found;
 use crate::GeodeticUnits;
@@ -90,8 +90,8 @@ fn in_ranges(latitude: i64, past: i64, height: i64) -> GeodeticUnits
 }
 
 // The same of what the roundings answered. What they refuse is GEODETIC.
-fn placed(latitude: Rounded, past: Rounded, height: Rounded) -> GeodeticUnits
-    ensures { λ r. ⌜ r ≡ Geodetic·placed latitude past height ⌝ }
+fn from_rounded(latitude: Rounded, past: Rounded, height: Rounded) -> GeodeticUnits
+    ensures { λ r. ⌜ r ≡ fromRounded latitude past height ⌝ }
 {
     match latitude {
         Rounded::Refused(_) => GeodeticUnits::Refused(refusal::GEODETIC),
@@ -112,7 +112,7 @@ fn in_angles(f: Found) -> GeodeticUnits
     let latitude = round_places(f.latitude, 5);
     let past = round_places(f.longitude, 5);
     let height = round_places(f.height, 5);
-    placed(latitude, past, height)
+    from_rounded(latitude, past, height)
 }
 
 // Latitude and longitude in units of 0.00001" and height in units of 0.00001 m, of X, Y and Z in units of 0.00001 m on the ellipsoid of a code (1 to 4). Refused: RANGE for

@@ -14,7 +14,6 @@ pub use from_xyz::geodetic_units;
 pub use geodetic::cartesian_metres;
 pub use geodetic::cartesian_units;
 pub use projection::cassini;
-pub use projection::cassini_from;
 pub use projection::cassini_millimetres;
 pub use projection::cassini_millimetres_from;
 pub use projection::make_origin;

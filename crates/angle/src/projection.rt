@@ -4,7 +4,7 @@ ghost use mathlib.Core.Bool.{true};
 ghost use lib.IntN.{_-ℤ_};
 ghost use Rattle.refusal.specs.Order.{first};
 ghost use Rattle.ranges.specs.Ranges.{latitudeRange, offsetRange};
-ghost use Rattle.angle.specs.Ranges.{nearby, pointTests, originFault};
+ghost use Rattle.angle.specs.Ranges.{nearby, anglesAndMeridianTests, originFault};
 ghost use Rattle.angle.specs.Units.{metres as Units·metres, radians as Units·radians};
 ghost use Rattle.angle.specs.Ellipsoids.{ellipsoidOf, meridianArc};
 ghost use Rattle.angle.specs.Terms.{termsOf, parallelOf};
@@ -99,8 +99,8 @@ pub fn make_origin(o: OriginNumbers) -> OriginAnswer
 
 // 0, or GEODETIC for the point's angles, then APART where the longitudes are over 4 degrees apart. The longitudes are compared as whole
 // numbers, and no sum passes an i64: the point's longitude is in its range by then.
-fn point_fault(origin: i64, latitude: i64, longitude: i64) -> u8
-    ensures { λ r. ⌜ r ≡ first (pointTests origin latitude longitude) ⌝ }
+fn meridian_fault(origin: i64, latitude: i64, longitude: i64) -> u8
+    ensures { λ r. ⌜ r ≡ first (anglesAndMeridianTests origin latitude longitude) ⌝ }
 {
     let fault = angles_fault(latitude, longitude);
     if fault != 0 {
@@ -152,7 +152,7 @@ fn lay(o: Origin, terms: Terms, p: Parallel, m: f64, difference: f64) -> Project
 }
 
 // The same on a made origin, for a latitude in its range and longitudes that are not too far apart.
-fn place(o: Origin, latitude: i64, longitude: i64) -> Projected
+fn project(o: Origin, latitude: i64, longitude: i64) -> Projected
     requires { ⌜ (latitudeRange latitude ≡ true) × (nearby longitude (o .longitude) ≡ true) ⌝ }
     ensures { λ r. ⌜ r ≡ cassiniAt o latitude longitude ⌝ }
 {
@@ -164,8 +164,8 @@ fn place(o: Origin, latitude: i64, longitude: i64) -> Projected
     lay(o, terms, p, m, difference)
 }
 
-// The same on an origin as it is written, where its ellipsoid's terms are constants: `place` works them out.
-fn place_once(o: OriginNumbers, latitude: i64, longitude: i64) -> Projected
+// The same on an origin as it is written, where its ellipsoid's terms are constants: `project` works them out.
+fn project_once(o: OriginNumbers, latitude: i64, longitude: i64) -> Projected
     requires { ⌜ (originFault o ≡ 0) × (latitudeRange latitude ≡ true) × (nearby longitude (o .longitude) ≡ true) ⌝ }
     ensures { λ r. ⌜ r ≡ cassiniAt (originMade o) latitude longitude ⌝ }
 {
@@ -181,14 +181,14 @@ fn place_once(o: OriginNumbers, latitude: i64, longitude: i64) -> Projected
 
 // A point on a made origin, whatever the origin holds: easting and northing in metres. Refused: GEODETIC for the point's angles, then
 // APART where the longitudes are over 4 degrees apart.
-pub fn cassini_from(origin: Origin, latitude: i64, longitude: i64) -> Projected
+fn cassini_from(origin: Origin, latitude: i64, longitude: i64) -> Projected
     ensures { λ r. ⌜ r ≡ cassiniFromOf origin latitude longitude ⌝ }
 {
-    let fault = point_fault(origin.longitude, latitude, longitude);
+    let fault = meridian_fault(origin.longitude, latitude, longitude);
     if fault != 0 {
         return Projected::Refused(fault);
     }
-    place(origin, latitude, longitude)
+    project(origin, latitude, longitude)
 }
 
 // A point on an origin as it is written, in metres. Refused: RANGE, then GEODETIC, of the origin or the point, then APART.
@@ -199,11 +199,11 @@ pub fn cassini(o: OriginNumbers, latitude: i64, longitude: i64) -> Projected
     if fault != 0 {
         return Projected::Refused(fault);
     }
-    let point = point_fault(o.longitude, latitude, longitude);
+    let point = meridian_fault(o.longitude, latitude, longitude);
     if point != 0 {
         return Projected::Refused(point);
     }
-    place_once(o, latitude, longitude)
+    project_once(o, latitude, longitude)
 }
 
 // Both, or the first refusal.

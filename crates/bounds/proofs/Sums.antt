@@ -69,16 +69,16 @@ apart s t I J =
       side = stronger (exceeds (I .lo) (J .hi)) (exceeds (J .lo) (I .hi)) s t;
     }
 
-unfoldable pub signed : Bool → Bool → Bool → Ends → Ends → Ends
+unfoldable pub sumBySigns : Bool → Bool → Bool → Ends → Ends → Ends
 unfolding alike apart
-signed true s t I J = alike s I J
-signed false s t I J = apart s t I J
+sumBySigns true s t I J = alike s I J
+sumBySigns false s t I J = apart s t I J
 
 unfoldable pub summed : Side → Side → Ends → Ends → Ends
-unfolding loose signed
+unfolding loose sumBySigns
 summed untold b I J = loose I J
 summed (told s) untold I J = loose I J
-summed (told s) (told t) I J = signed (Bool·beq s t) s t I J
+summed (told s) (told t) I J = sumBySigns (Bool·beq s t) s t I J
 
 unfoldable pub addE : Ends → Ends → Ends
 unfolding summed
@@ -255,8 +255,8 @@ module _ {x y : Float} {I J : Ends} (p : Among x I) (q : Among y J) where
           side false true h k = absurd (k tt l)
           side false false h k = tt
 
-  by-signs : (t : Bool) → Bool·beq (sign x) (sign y) ≡ t → T (finite (signed t (sign x) (sign y) I J .hi)) → Among (add binary64 x y) (signed t (sign x) (sign y) I J)
-  unfolding signed
+  by-signs : (t : Bool) → Bool·beq (sign x) (sign y) ≡ t → T (finite (sumBySigns t (sign x) (sign y) I J .hi)) → Among (add binary64 x y) (sumBySigns t (sign x) (sign y) I J)
+  unfolding sumBySigns
   by-signs true e f = add-alike e f
   by-signs false e f = add-apart e f
 
@@ -265,8 +265,8 @@ module _ {x y : Float} {I J : Ends} (p : Among x I) (q : Among y J) where
   by-sides untold b h k f = add-loose f
   by-sides (told s) untold h k f = add-loose f
   by-sides (told s) (told t) h k f =
-      subst (λ (u : Bool). T (finite (signed (Bool·beq u t) u t I J .hi)) → Among (add binary64 x y) (signed (Bool·beq u t) u t I J)) h
-      (subst (λ (u : Bool). T (finite (signed (Bool·beq (sign x) u) (sign x) u I J .hi)) → Among (add binary64 x y) (signed (Bool·beq (sign x) u) (sign x) u I J)) k (by-signs (Bool·beq (sign x) (sign y)) refl)) f
+      subst (λ (u : Bool). T (finite (sumBySigns (Bool·beq u t) u t I J .hi)) → Among (add binary64 x y) (sumBySigns (Bool·beq u t) u t I J)) h
+      (subst (λ (u : Bool). T (finite (sumBySigns (Bool·beq (sign x) u) (sign x) u I J .hi)) → Among (add binary64 x y) (sumBySigns (Bool·beq (sign x) u) (sign x) u I J)) k (by-signs (Bool·beq (sign x) (sign y)) refl)) f
 
 pub add-among : {x y : Float} {I J : Ends} → Among x I → Among y J → T (finite (addE I J .hi)) → Among (add binary64 x y) (addE I J)
 unfolding addE

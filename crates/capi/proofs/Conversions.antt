@@ -11,7 +11,7 @@ use lib.ListN.{length}
 use Rattle.chain.specs.declared.Point.{Point}
 use Rattle.chain.specs.declared.Chain.{Chain}
 use Rattle.chain.specs.declared.Answer.{Answer}
-use Rattle.capi.specs.Outcome.{Answered}
+use Rattle.capi.specs.Outcome.{Returns}
 use Rattle.chain.specs.Numbers.{chainFrom}
 use Rattle.capi.specs.Chains.{pointFrom, wholeSteps}
 use Rattle.capi.specs.Calls.{ofAnswer, conversionCall}
@@ -33,12 +33,12 @@ module _ (chain point out : ℕ) (sized : wholeSteps chain point out ≡ true) w
       (eqb-true point 7 (both (eqb (chain % 13) 0) (eqb point 7) (all .0) .1), eqb-true out 7 (all .1))
 
 module _ (convert : Chain → Point → Answer) (profile : ℤ) (chain point out : List ℤ) where
-  pub unsized : wholeSteps (length chain) (length point) (length out) ≡ false → Answered (conversionCall convert profile chain point out) out out (pos 255)
+  pub unsized : wholeSteps (length chain) (length point) (length out) ≡ false → Returns (conversionCall convert profile chain point out) out out (pos 255)
   unfolding conversionCall
   unsized e = wrong (rw e)
 
   pub converted : {y : ℤ} {p : Point} {a : Answer} {after : List ℤ} {r s : ℤ}
       → wholeSteps (length chain) (length point) (length out) ≡ true → y ≡ profile → p ≡ pointFrom point → a ≡ convert (chainFrom y chain) p
-      → Answered (ofAnswer a) out after r → s ≡ r → Answered (conversionCall convert profile chain point out) out after s
+      → Returns (ofAnswer a) out after r → s ≡ r → Returns (conversionCall convert profile chain point out) out after s
   unfolding conversionCall
   converted e f g h answered t = by answered (rw e (ap ofAnswer (sym (h ∙ ap₂ convert (ap (λ (y : ℤ). chainFrom y chain) f) g)))) t

@@ -13,8 +13,8 @@ use lib.Seq.{sets, sets-eq}
 use Rattle.chain.specs.declared.Joined.{Joined}
 use Rattle.chain.specs.Join.{joinOf}
 use Rattle.chain.proofs.Joins.{accepted-lengths}
-use Rattle.chain.specs.Numbers.{placesFrom, chainFrom}
-use Rattle.chain.proofs.LentSteps.{eight-places}
+use Rattle.chain.specs.Numbers.{eightFrom, chainFrom}
+use Rattle.chain.proofs.LentSteps.{eight-steps}
 use Rattle.capi.specs.Joining.{roomForEight, joinCall, Counted}
 
 pub sets-append : (l a b : List ℤ) (i : ℕ) → sets (sets l i a) (i + length a) b ≡ sets l i (a ++ b)
@@ -44,7 +44,7 @@ module _ (first second out : ℕ) (sized : roomForEight first second out ≡ tru
 pub few : (y z : ℤ) (first second : List ℤ) → length first % 13 ≡ 0 → length second % 13 ≡ 0 → joinOf (chainFrom y first) (chainFrom z second) .refusal ≡ 0 → length first + length second ≤ 104
 few y z first second hf hs e =
     let a = accepted-lengths (chainFrom y first) (chainFrom z second) e in
-    omega (arith, a .0, a .1, a .2, length-take (length first / 13) (placesFrom first), length-take (length second / 13) (placesFrom second), eight-places first, eight-places second)
+    omega (arith, a .0, a .1, a .2, length-take (length first / 13) (eightFrom first), length-take (length second / 13) (eightFrom second), eight-steps first, eight-steps second)
 
 module _ (y z : ℤ) (first second out : List ℤ) where
   pub unsized : roomForEight (length first) (length second) (length out) ≡ false → Counted (joinCall y first z second out) out out (negℤ (pos 255))

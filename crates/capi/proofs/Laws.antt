@@ -10,7 +10,7 @@ use lib.Signed.{mag}
 use mir.Syntax.{w64}
 use mir.Val.{toZ, ofZ}
 use Rattle.rounding.proofs.Machine.{told}
-use Rattle.capi.specs.Outcome.{Outcome, wrongLength, refused, gives, Answered}
+use Rattle.capi.specs.Outcome.{CallOutcome, wrongLength, refused, gives, Returns}
 
 -- all elements of an array are stored, from the first on
 filled : {A : Type 0} (l vs : List A) → length l ≡ length vs → sets l 0 vs ≡ vs
@@ -18,20 +18,20 @@ filled {A = A} l vs e =
     let short : length l ≤ 0 + length vs = omega arith in
     sets-eq vs l 0 (omega arith) ∙ ap (λ (t : List A). vs ++ t) (drop-of-length-le l short) ∙ append-nil vs
 
-module _ {A : Type 0} {o : Outcome A} {before : List A} where
+module _ {A : Type 0} {o : CallOutcome A} {before : List A} where
   -- what a function that it hands on to answers
-  pub by : {p : Outcome A} {after : List A} {r s : ℤ} → Answered p before after r → o ≡ p → s ≡ r → Answered o before after s
+  pub by : {p : CallOutcome A} {after : List A} {r s : ℤ} → Returns p before after r → o ≡ p → s ≡ r → Returns o before after s
   by a e f = rw (e, f) a
 
-  pub wrong : o ≡ wrongLength → Answered o before before (pos 255)
+  pub wrong : o ≡ wrongLength → Returns o before before (pos 255)
   wrong e = rw e (record { status = refl; out = refl })
 
   -- a refusal writes nothing
-  pub declined : {n : ℕ} {r : ℤ} → o ≡ refused n → r ≡ pos n → Answered o before before r
+  pub declined : {n : ℕ} {r : ℤ} → o ≡ refused n → r ≡ pos n → Returns o before before r
   declined e f = rw e (record { status = f; out = refl })
 
   -- numbers are given, and stored one after the other
-  pub given : {vs : List A} → o ≡ gives vs → length before ≡ length vs → Answered o before (sets before 0 vs) (pos 0)
+  pub given : {vs : List A} → o ≡ gives vs → length before ≡ length vs → Returns o before (sets before 0 vs) (pos 0)
   given {vs} e f = rw e (record { status = refl; out = filled before vs f })
 
 -- ---- whole numbers: an array holds what the machine stores of each
@@ -46,5 +46,5 @@ all-stored : (zs : List ℤ) → Fit zs → zs ≡ map stored zs
 all-stored [] f = refl
 all-stored (z ∷ zs) f = ap₂ _∷_ (sym (told (f .0))) (all-stored zs (f .1))
 
-pub numbers : {o : Outcome ℤ} {before vs : List ℤ} → o ≡ gives vs → Fit vs → length before ≡ length vs → Answered o before (sets before 0 (map stored vs)) (pos 0)
+pub numbers : {o : CallOutcome ℤ} {before vs : List ℤ} → o ≡ gives vs → Fit vs → length before ≡ length vs → Returns o before (sets before 0 (map stored vs)) (pos 0)
 numbers {vs = vs} e f l = given (e ∙ ap gives (all-stored vs f)) (l ∙ ap length (all-stored vs f))

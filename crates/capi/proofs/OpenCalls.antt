@@ -16,7 +16,7 @@ use Rattle.sheet_stream.specs.declared.Fed.{Fed}
 use Rattle.sheet_stream.specs.declared.Stream.{Stream}
 use Rattle.sheet_stream.specs.declared.Outcome.the-variants.{Open}
 use Rattle.sheet_stream.specs.Fragments.{sound, stateOf, fed, fedAt, feedOf}
-use Rattle.sheet_stream.proofs.Laws.{sound-parts, sound-is, feed-29}
+use Rattle.sheet_stream.proofs.Laws.{sound-parts, sound-is, feed-state}
 use Rattle.sheet_stream.proofs.Scanning.{Going, fed-open}
 use Rattle.chain.specs.Numbers.{number, chainFrom}
 use Rattle.capi.specs.Fragments.{stateRange, isFlag, flag, bit, chainIn, standingIn, streamFrom, headOf, numbersWith, OpenCall}
@@ -77,8 +77,8 @@ module _ (ns : List ℤ) (bytes : List ℕ) (long : length ns ≡ 111) (ranged :
   answered-as b e = sound-is here (countable ns bytes long ranged .count) ∙ sym e
 
   module _ (f : List ℕ) (told : List ℤ) where
-    pub open-29 : sound here ≡ false → {r : ℤ} → r ≡ negℤ (pos refusal.state) → OpenCall f ns ns bytes bytes told told r
-    open-29 e q = record { state = λ out. rw (feed-29 here f e) (record { status = q; state = refl; line = refl; written = refl }); tells = rw (feed-29 here f e) }
+    pub open-state : sound here ≡ false → {r : ℤ} → r ≡ negℤ (pos refusal.state) → OpenCall f ns ns bytes bytes told told r
+    open-state e q = record { state = λ out. rw (feed-state here f e) (record { status = q; state = refl; line = refl; written = refl }); tells = rw (feed-state here f e) }
 
     pub open-kept : length bytes ≡ 200 → length told ≡ 2 → (n : ℕ) → n ≡ lineEnd f 0 → fedAt f n ≡ false → sound here ≡ true → (c : ℕ) (kept : List ℕ) → c ≡ min (natAbs (number ns 1) + length f) (length bytes) → kept ≡ sets bytes (natAbs (number ns 1)) (take (length bytes - natAbs (number ns 1)) f) → OpenCall f ns (set ns 1 (pos c)) bytes kept told (set (set told 0 (pos n)) 1 (pos 0)) (pos 0)
     unfolding streamFrom

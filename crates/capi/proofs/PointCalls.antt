@@ -16,7 +16,7 @@ use Rattle.refusal.specs.Order.{pick}
 use Rattle.ranges.proofs.Ranges.{both, all}
 use Rattle.chain.specs.declared.Chain.{Chain}
 use Rattle.chain.specs.Numbers.{number, chainFrom}
-use Rattle.chain.proofs.LentSteps.{eight-places}
+use Rattle.chain.proofs.LentSteps.{eight-steps}
 use Rattle.line.specs.Bytes.{letterP, lineFeed}
 use Rattle.line.specs.Lines.{lineEnd}
 use Rattle.line.specs.Text.{Wrote}
@@ -103,7 +103,7 @@ module _ (ns : List ℤ) (bytes : List ℕ) (long : length ns ≡ 111) (ranged :
 
     eight : length (chainIn ns .steps) ≡ 8
     unfolding chainIn
-    eight = eight-places _
+    eight = eight-steps _
 
     bad : x .response ≡ response.Unsound → unsound here ≡ endsWith here text end false
     unfolding streamFrom
@@ -122,8 +122,8 @@ module _ (ns : List ℤ) (bytes : List ℕ) (long : length ns ≡ 111) (ranged :
         go false = tt
 
     module _ (out : List ℕ) (told : List ℤ) where
-      pub point-29 : x .response ≡ response.Unsound → {r : ℤ} → r ≡ negℤ (pos refusal.state) → FedCall (endsWith here text end false) ns ns bytes bytes out out told told r
-      point-29 e f = rw (← bad e) (record { state = declined here (Refused refusal.state) ns bytes out refusal.state refl f; tells = refl })
+      pub point-state : x .response ≡ response.Unsound → {r : ℤ} → r ≡ negℤ (pos refusal.state) → FedCall (endsWith here text end false) ns ns bytes bytes out out told told r
+      point-state e f = rw (← bad e) (record { state = declined here (Refused refusal.state) ns bytes out refusal.state refl f; tells = refl })
 
       pub point-told :
           (r : Reply) → x .response ≡ response.Replied r → 200 ≤ length out → length told ≡ 2 → {ns' : List ℤ} {bytes' out' : List ℕ} {told' : List ℤ} {k : ℕ} →

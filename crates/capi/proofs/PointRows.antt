@@ -18,44 +18,44 @@ use Rattle.chain.specs.declared.Answer.{Answer}
 use Rattle.chain.specs.declared.Answer.the-variants.{Converted, Refused}
 use Rattle.chain.specs.declared.Direction.{Direction}
 use Rattle.chain.specs.Faults.{chainTests}
-use Rattle.chain.specs.PointRow.{convertOf, readyOf, convertReady}
+use Rattle.chain.specs.PointRow.{convertOf, readyChainOf, convertReady}
 use Rattle.chain.proofs.Readying.{ready-converts}
-use Rattle.capi.specs.Outcome.{Outcome, refused, gives as writes, Answered}
+use Rattle.capi.specs.Outcome.{CallOutcome, refused, gives as writes, Returns}
 use Rattle.chain.specs.Numbers.{chainFrom}
 use Rattle.capi.specs.Chains.{pointFrom, pointNumbers}
-use Rattle.capi.specs.PointRow.{placeOf, answersOf, directionFrom, wholeRows, lentTests, rowCall}
+use Rattle.capi.specs.PointRow.{answerNumbers, answersOf, directionFrom, wholeRows, lentTests, rowCall}
 use Rattle.capi.proofs.Laws.{wrong, declined}
 use Rattle.capi.proofs.Joinings.{sets-append}
 
-pub place-length : (a : Answer) → length (placeOf a) ≡ 8
+pub answer-length : (a : Answer) → length (answerNumbers a) ≡ 8
 unfolding pointNumbers
-place-length (Converted p) = refl
-place-length (Refused n) = refl
+answer-length (Converted p) = refl
+answer-length (Refused n) = refl
 
 module _ (f : Point → Answer) where
   pub answers-length : (n : ℕ) (ns : List ℤ) → length (answersOf f n ns) ≡ n * 8
   unfolding answersOf
   answers-length zero ns = omega arith
-  answers-length (suc n) ns = omega (arith, length-append (placeOf (f (pointFrom ns))) (answersOf f n (drop 7 ns)), place-length (f (pointFrom ns)), answers-length n (drop 7 ns))
+  answers-length (suc n) ns = omega (arith, length-append (answerNumbers (f (pointFrom ns))) (answersOf f n (drop 7 ns)), answer-length (f (pointFrom ns)), answers-length n (drop 7 ns))
 
   pub no-answers : (ns : List ℤ) → [] ≡ answersOf f 0 ns
   unfolding answersOf
   no-answers ns = refl
 
   -- the next answer, and then the rest
-  next : (n : ℕ) (ns : List ℤ) → answersOf f (suc n) ns ≡ placeOf (f (pointFrom ns)) ++ answersOf f n (drop 7 ns)
+  next : (n : ℕ) (ns : List ℤ) → answersOf f (suc n) ns ≡ answerNumbers (f (pointFrom ns)) ++ answersOf f n (drop 7 ns)
   unfolding answersOf
   next n ns = refl
 
   pub turn : (points out : List ℤ) (count i : ℕ) {a : Answer} → i < count → a ≡ f (pointFrom (drop (7 * i) points))
-      → sets (sets out (8 * i) (placeOf a)) (8 * (i + 1)) (answersOf f (count - (i + 1)) (drop (7 * (i + 1)) points)) ≡ sets out (8 * i) (answersOf f (count - i) (drop (7 * i) points))
+      → sets (sets out (8 * i) (answerNumbers a)) (8 * (i + 1)) (answersOf f (count - (i + 1)) (drop (7 * (i + 1)) points)) ≡ sets out (8 * i) (answersOf f (count - i) (drop (7 * i) points))
   turn points out count i {a} h e =
       let k : count - i ≡ suc (count - (i + 1)) = omega arith in
       let m : 7 * i + 7 ≡ 7 * (i + 1) = omega arith in
-      let z : 8 * (i + 1) ≡ 8 * i + length (placeOf (f (pointFrom (drop (7 * i) points)))) = omega (arith, place-length (f (pointFrom (drop (7 * i) points)))) in
+      let z : 8 * (i + 1) ≡ 8 * i + length (answerNumbers (f (pointFrom (drop (7 * i) points)))) = omega (arith, answer-length (f (pointFrom (drop (7 * i) points)))) in
       let t : drop (7 * (i + 1)) points ≡ drop 7 (drop (7 * i) points) = ap (λ (j : ℕ). drop j points) (sym m) ∙ sym (drop-drop 7 (7 * i) points) in
       rw (k, e, z, t, next (count - (i + 1)) (drop (7 * i) points))
-      (sets-append out (placeOf (f (pointFrom (drop (7 * i) points)))) (answersOf f (count - (i + 1)) (drop 7 (drop (7 * i) points))) (8 * i))
+      (sets-append out (answerNumbers (f (pointFrom (drop (7 * i) points)))) (answersOf f (count - (i + 1)) (drop 7 (drop (7 * i) points))) (8 * i))
 
   -- all of them, at the start of an array that has room
   pub all-answers : (points out : List ℤ) (n : ℕ) → n * 8 ≤ length out → sets out 0 (answersOf f n points) ≡ answersOf f n points ++ drop (n * 8) out
@@ -67,7 +67,7 @@ module _ (f : Point → Answer) where
 same-answers : (f g : Point → Answer) → ((p : Point) → f p ≡ g p) → (n : ℕ) (ns : List ℤ) → answersOf f n ns ≡ answersOf g n ns
 unfolding answersOf
 same-answers f g h zero ns = refl
-same-answers f g h (suc n) ns = ap₂ _++_ (ap placeOf (h (pointFrom ns))) (same-answers f g h n (drop 7 ns))
+same-answers f g h (suc n) ns = ap₂ _++_ (ap answerNumbers (h (pointFrom ns))) (same-answers f g h n (drop 7 ns))
 
 -- ---- how the call ends
 module _ (y d : ℤ) (chain points out : List ℤ) where
@@ -78,15 +78,15 @@ module _ (y d : ℤ) (chain points out : List ℤ) where
   lent = first (lentTests d (length points / 7) (length out / 8))
 
   -- what is written where nothing is refused
-  abbrev all : Outcome ℤ
+  abbrev all : CallOutcome ℤ
   all = writes (answersOf (convertOf c (directionFrom d)) (length points / 7) points ++ drop (length points / 7 * 8) out)
 
-  pub unsized : wholeRows (length chain) (length points) (length out) ≡ false → Answered (rowCall y chain d points out) out out (pos 255)
+  pub unsized : wholeRows (length chain) (length points) (length out) ≡ false → Returns (rowCall y chain d points out) out out (pos 255)
   unfolding rowCall
   unsized e = wrong (rw e)
 
   module _ (sized : wholeRows (length chain) (length points) (length out) ≡ true) where
-    pub refused-lent : (lent ≡ 0 → ⊥) → {r : ℤ} → r ≡ pos lent → Answered (rowCall y chain d points out) out out r
+    pub refused-lent : (lent ≡ 0 → ⊥) → {r : ℤ} → r ≡ pos lent → Returns (rowCall y chain d points out) out out r
     unfolding rowCall
     refused-lent h e =
         declined (rw sized
@@ -100,7 +100,7 @@ module _ (y d : ℤ) (chain points out : List ℤ) where
       pub room : length points / 7 * 8 ≤ length out
       room = let e = step-passed (ltb (length out / 8) (length points / 7)) _ _ tt good in omega (arith, ltb-false (length out / 8) (length points / 7) (e .0))
 
-      pub refused-chain : {n : ℕ} → n ≡ first (chainTests c) → (n ≡ 0 → ⊥) → {r : ℤ} → r ≡ pos n → Answered (rowCall y chain d points out) out out r
+      pub refused-chain : {n : ℕ} → n ≡ first (chainTests c) → (n ≡ 0 → ⊥) → {r : ℤ} → r ≡ pos n → Returns (rowCall y chain d points out) out out r
       unfolding rowCall
       refused-chain {n} f h e =
           declined (rw sized (ap (λ (n : ℕ). unless n refused all) chain-decides ∙ unless-some (first (chainTests c)) refused all (λ z. h (f ∙ z)))) (e ∙ ap pos f)
@@ -109,14 +109,14 @@ module _ (y d : ℤ) (chain points out : List ℤ) where
       unfolding rowCall
       given e = rw sized (unless-none _ refused all (chain-decides ∙ e))
 
-      pub answered : first (chainTests c) ≡ 0 → {w : ReadyChain} {b : Direction} → w ≡ readyOf c → b ≡ directionFrom d → {after : List ℤ} → after ≡ sets out 0 (answersOf (convertReady w b) (length points / 7) points)
-          → Answered (rowCall y chain d points out) out after (pos 0)
+      pub answered : first (chainTests c) ≡ 0 → {w : ReadyChain} {b : Direction} → w ≡ readyChainOf c → b ≡ directionFrom d → {after : List ℤ} → after ≡ sets out 0 (answersOf (convertReady w b) (length points / 7) points)
+          → Returns (rowCall y chain d points out) out after (pos 0)
       answered e f g a =
           rw (given e) (record {
             status = refl;
             out =
                 a
                 ∙ ap₂ (λ (w : ReadyChain) (b : Direction). sets out 0 (answersOf (convertReady w b) (length points / 7) points)) f g
-                ∙ ap (sets out 0) (same-answers (convertReady (readyOf c) (directionFrom d)) (convertOf c (directionFrom d)) (ready-converts c (directionFrom d)) (length points / 7) points)
+                ∙ ap (sets out 0) (same-answers (convertReady (readyChainOf c) (directionFrom d)) (convertOf c (directionFrom d)) (ready-converts c (directionFrom d)) (length points / 7) points)
                 ∙ all-answers (convertOf c (directionFrom d)) points out (length points / 7) room;
           })

@@ -23,7 +23,7 @@ use Rattle.chain.specs.declared.Shift.{Shift}
 use Rattle.chain.specs.declared.Velocity.{Velocity}
 use Rattle.chain.specs.declared.BursaWolf.{BursaWolf}
 use Rattle.chain.specs.declared.Kind.the-variants as kind
-use Rattle.chain.specs.Join.{noStep}
+use Rattle.chain.specs.Join.{pastSteps}
 use Rattle.line.specs.Bytes.{letterB, letterF, letterT, letterV}
 use Rattle.line.specs.Text.{Wrote}
 use Rattle.sheet_rules.specs.declared.Reply.{Reply}
@@ -37,8 +37,8 @@ use Rattle.sheet_stream.specs.declared.Outcome.{Outcome}
 use Rattle.sheet_stream.specs.declared.Outcome.the-variants.{Open, Line, Refused}
 use Rattle.sheet_stream.specs.Fragments.{Countable, Short}
 use Rattle.chain.specs.Numbers.{number, chainFrom}
-use Rattle.chain.proofs.LentSteps.{no-places}
-use Rattle.capi.specs.Fragments.{FreshFromC, sizedState, stateRange, isFlag, chainIn, standingIn, streamFrom, flag, bit, headOf, conventionNumber, rowOf, withNewStep, numbersWith, Called, ofOutcome, called, stateCall, toldOf, toldAfter, Stated}
+use Rattle.chain.proofs.LentSteps.{eight-none}
+use Rattle.capi.specs.Fragments.{FreshFromC, sizedState, stateRange, isFlag, chainIn, standingIn, streamFrom, flag, bit, headOf, conventionNumber, stepNumbers, withNewStep, numbersWith, Called, ofOutcome, called, stateCall, toldOf, toldAfter, Stated}
 
 -- ---- the lengths
 pub record Sized (numbers bytes out : ℕ) : Type 0 where
@@ -95,7 +95,7 @@ countable ns bytes l e =
 -- the state that C begins with
 pub fresh-from-c : FreshFromC
 unfolding streamFrom chainIn
-fresh-from-c = rw (equal-self (pos 0), no-places)
+fresh-from-c = rw (equal-self (pos 0), eight-none)
 
 -- ---- bytes copied one after the other
 pub one-more : (to from : List ℕ) (i : ℕ) → i < length to → i < length from → take i to ≡ take i from → take (i + 1) (set to i (getD from i 0)) ≡ take (i + 1) from
@@ -113,20 +113,20 @@ two (x ∷ y ∷ z ∷ l) a b e = absurd (omega arith)
 
 -- ---- a step's row, number by number
 module _ (s : Step) {p q r u : ℤ} (hp : p ≡ s .before .datum) (hq : q ≡ s .before .epoch) (hr : r ≡ s .after .datum) (hu : u ≡ s .after .epoch) where
-  pub shift-row : {t : Shift} → s .kind ≡ kind.Shift t → {a b c : ℤ} → a ≡ t .dx → b ≡ t .dy → c ≡ t .dz → (pos letterT ∷ pos 0 ∷ p ∷ q ∷ r ∷ u ∷ a ∷ b ∷ c ∷ pos 0 ∷ pos 0 ∷ pos 0 ∷ pos 0 ∷ []) ≡ rowOf s
-  unfolding rowOf
+  pub shift-row : {t : Shift} → s .kind ≡ kind.Shift t → {a b c : ℤ} → a ≡ t .dx → b ≡ t .dy → c ≡ t .dz → (pos letterT ∷ pos 0 ∷ p ∷ q ∷ r ∷ u ∷ a ∷ b ∷ c ∷ pos 0 ∷ pos 0 ∷ pos 0 ∷ pos 0 ∷ []) ≡ stepNumbers s
+  unfolding stepNumbers
   shift-row e ha hb hc = rw (e, hp, hq, hr, hu, ha, hb, hc)
 
-  pub velocity-row : {t : Velocity} → s .kind ≡ kind.Velocity t → {a b c : ℤ} → a ≡ t .vx → b ≡ t .vy → c ≡ t .vz → (pos letterV ∷ pos 0 ∷ p ∷ q ∷ r ∷ u ∷ a ∷ b ∷ c ∷ pos 0 ∷ pos 0 ∷ pos 0 ∷ pos 0 ∷ []) ≡ rowOf s
-  unfolding rowOf
+  pub velocity-row : {t : Velocity} → s .kind ≡ kind.Velocity t → {a b c : ℤ} → a ≡ t .vx → b ≡ t .vy → c ≡ t .vz → (pos letterV ∷ pos 0 ∷ p ∷ q ∷ r ∷ u ∷ a ∷ b ∷ c ∷ pos 0 ∷ pos 0 ∷ pos 0 ∷ pos 0 ∷ []) ≡ stepNumbers s
+  unfolding stepNumbers
   velocity-row e ha hb hc = rw (e, hp, hq, hr, hu, ha, hb, hc)
 
-  pub bursa-wolf-row : {t : BursaWolf} → s .kind ≡ kind.BursaWolf t → {w a b c d f g h : ℤ} → w ≡ conventionNumber (t .convention) → a ≡ t .dx → b ≡ t .dy → c ≡ t .dz → d ≡ t .rx → f ≡ t .ry → g ≡ t .rz → h ≡ t .s → (pos letterB ∷ w ∷ p ∷ q ∷ r ∷ u ∷ a ∷ b ∷ c ∷ d ∷ f ∷ g ∷ h ∷ []) ≡ rowOf s
-  unfolding rowOf
+  pub bursa-wolf-row : {t : BursaWolf} → s .kind ≡ kind.BursaWolf t → {w a b c d f g h : ℤ} → w ≡ conventionNumber (t .convention) → a ≡ t .dx → b ≡ t .dy → c ≡ t .dz → d ≡ t .rx → f ≡ t .ry → g ≡ t .rz → h ≡ t .s → (pos letterB ∷ w ∷ p ∷ q ∷ r ∷ u ∷ a ∷ b ∷ c ∷ d ∷ f ∷ g ∷ h ∷ []) ≡ stepNumbers s
+  unfolding stepNumbers
   bursa-wolf-row e hw ha hb hc hd hf hg hh = rw (e, hp, hq, hr, hu, hw, ha, hb, hc, hd, hf, hg, hh)
 
-  pub frame-row : s .kind ≡ kind.Frame → (pos letterF ∷ pos 0 ∷ p ∷ q ∷ r ∷ u ∷ pos 0 ∷ pos 0 ∷ pos 0 ∷ pos 0 ∷ pos 0 ∷ pos 0 ∷ pos 0 ∷ []) ≡ rowOf s
-  unfolding rowOf
+  pub frame-row : s .kind ≡ kind.Frame → (pos letterF ∷ pos 0 ∷ p ∷ q ∷ r ∷ u ∷ pos 0 ∷ pos 0 ∷ pos 0 ∷ pos 0 ∷ pos 0 ∷ pos 0 ∷ pos 0 ∷ []) ≡ stepNumbers s
+  unfolding stepNumbers
   frame-row e = rw (e, hp, hq, hr, hu)
 
 pub head : (s : Stream) {l k a b f y n : ℤ} → l ≡ pos (s .standing .line - 1) → k ≡ pos (s .count) → a ≡ bit (s .standing .refused) → b ≡ bit (s .standing .closed) → f ≡ bit (s .finished) → y ≡ s .standing .chain .profile → n ≡ pos (s .standing .chain .length) → (l ∷ k ∷ a ∷ b ∷ f ∷ y ∷ n ∷ []) ≡ headOf s
@@ -164,7 +164,7 @@ unfolding streamFrom
 from-parts ns bytes hst hk hf hs = rw (hst, hk, hf, hs)
 
 -- ---- a step taken in
-pub new-step : (ns : List ℤ) (c : Chain) {k : ℕ} → k ≡ natAbs (number ns 6) → k < c .length → sets ns (7 + 13 * k) (rowOf (getD (c .steps) k noStep)) ≡ withNewStep ns c
+pub new-step : (ns : List ℤ) (c : Chain) {k : ℕ} → k ≡ natAbs (number ns 6) → k < c .length → sets ns (7 + 13 * k) (stepNumbers (getD (c .steps) k pastSteps)) ≡ withNewStep ns c
 unfolding withNewStep
 new-step ns c {k} e h = rw (← e, lt-ltb k (c .length) h)
 

@@ -32,54 +32,54 @@ use Rattle.line.specs.declared.LaterFault.{LaterFault}
 use Rattle.line.specs.declared.Verdict.{Verdict}
 use Rattle.line.specs.declared.Verdict.the-variants as verdict
 use Rattle.line.specs.Later.{laterOf, laterFaultOf}
-use Rattle.capi.specs.Outcome.{Outcome, refused, gives, ifSized}
+use Rattle.capi.specs.Outcome.{CallOutcome, refused, gives, ifSized}
 use Rattle.chain.specs.Numbers.{chainFrom}
 use Rattle.capi.specs.Chains.{pointFrom, pointNumbers, wholeSteps}
 
 -- ---- conversions under a profile, forward and inverse: a point
-abbrev pub ofAnswer : Answer → Outcome ℤ
+abbrev pub ofAnswer : Answer → CallOutcome ℤ
 ofAnswer (answer.Converted p) = gives (pointNumbers p)
 ofAnswer (answer.Refused n) = refused n
 
-unfoldable pub conversionCall : (Chain → Point → Answer) → ℤ → List ℤ → List ℤ → List ℤ → Outcome ℤ
+unfoldable pub conversionCall : (Chain → Point → Answer) → ℤ → List ℤ → List ℤ → List ℤ → CallOutcome ℤ
 conversionCall convert profile chain point out =
     ifSized (wholeSteps (length chain) (length point) (length out)) (ofAnswer (convert (chainFrom profile chain) (pointFrom point)))
 
-abbrev pub forwardCall : ℤ → List ℤ → List ℤ → List ℤ → Outcome ℤ
+abbrev pub forwardCall : ℤ → List ℤ → List ℤ → List ℤ → CallOutcome ℤ
 forwardCall = conversionCall forwardOf
 
-abbrev pub inverseCall : ℤ → List ℤ → List ℤ → List ℤ → Outcome ℤ
+abbrev pub inverseCall : ℤ → List ℤ → List ℤ → List ℤ → CallOutcome ℤ
 inverseCall = conversionCall inverseOf
 
 -- ---- geodetic to Cartesian: X, Y, Z
-abbrev pub ofCartesian : Cartesian → Outcome Float
+abbrev pub ofCartesian : Cartesian → CallOutcome Float
 ofCartesian (cartesian.Metres x y z) = gives (x ∷ y ∷ z ∷ [])
 ofCartesian (cartesian.Refused n) = refused n
 
-abbrev pub ofUnits : CartesianUnits → Outcome ℤ
+abbrev pub ofUnits : CartesianUnits → CallOutcome ℤ
 ofUnits (units.Units x y z) = gives (x ∷ y ∷ z ∷ [])
 ofUnits (units.Refused n) = refused n
 
-unfoldable pub cartesianCall : ℤ → ℤ → ℤ → ℤ → List Float → Outcome Float
+unfoldable pub cartesianCall : ℤ → ℤ → ℤ → ℤ → List Float → CallOutcome Float
 cartesianCall code latitude longitude height out = ifSized (eqb (length out) 3) (ofCartesian (cartesianOf code latitude longitude height))
 
-unfoldable pub unitsCall : ℤ → ℤ → ℤ → ℤ → List ℤ → Outcome ℤ
+unfoldable pub unitsCall : ℤ → ℤ → ℤ → ℤ → List ℤ → CallOutcome ℤ
 unitsCall code latitude longitude height out = ifSized (eqb (length out) 3) (ofUnits (cartesianUnitsOf code latitude longitude height))
 
 -- ---- Cartesian to geodetic: latitude, longitude, height
-abbrev pub ofGeodetic : GeodeticUnits → Outcome ℤ
+abbrev pub ofGeodetic : GeodeticUnits → CallOutcome ℤ
 ofGeodetic (geodetic.Units latitude longitude height) = gives (latitude ∷ longitude ∷ height ∷ [])
 ofGeodetic (geodetic.Refused n) = refused n
 
-unfoldable pub geodeticCall : ℤ → ℤ → ℤ → ℤ → List ℤ → Outcome ℤ
+unfoldable pub geodeticCall : ℤ → ℤ → ℤ → ℤ → List ℤ → CallOutcome ℤ
 geodeticCall code x y z out = ifSized (eqb (length out) 3) (ofGeodetic (geodeticUnitsOf code x y z))
 
 -- ---- Cassini: easting, northing
-abbrev pub ofProjected : Projected → Outcome Float
+abbrev pub ofProjected : Projected → CallOutcome Float
 ofProjected (projected.Metres e n) = gives (e ∷ n ∷ [])
 ofProjected (projected.Refused n) = refused n
 
-abbrev pub ofMillimetres : ProjectedMillimetres → Outcome ℤ
+abbrev pub ofMillimetres : ProjectedMillimetres → CallOutcome ℤ
 ofMillimetres (millimetres.Millimetres e n) = gives (e ∷ n ∷ [])
 ofMillimetres (millimetres.Refused n) = refused n
 
@@ -93,32 +93,32 @@ originFrom code latitude longitude e n = record {
   «false_northing» = n;
 }
 
-unfoldable pub cassiniCall : OriginNumbers → ℤ → ℤ → List Float → Outcome Float
+unfoldable pub cassiniCall : OriginNumbers → ℤ → ℤ → List Float → CallOutcome Float
 cassiniCall o latitude longitude out = ifSized (eqb (length out) 2) (ofProjected (cassiniOf o latitude longitude))
 
-unfoldable pub millimetresCall : OriginNumbers → ℤ → ℤ → List ℤ → Outcome ℤ
+unfoldable pub millimetresCall : OriginNumbers → ℤ → ℤ → List ℤ → CallOutcome ℤ
 millimetresCall o latitude longitude out = ifSized (eqb (length out) 2) (ofMillimetres (cassiniMillimetresOf o latitude longitude))
 
 -- ---- rounding: one number
-abbrev pub ofRounded : Rounded → Outcome ℤ
+abbrev pub ofRounded : Rounded → CallOutcome ℤ
 ofRounded (rounded.Whole n) = gives (n ∷ [])
 ofRounded (rounded.Refused n) = refused n
 
-unfoldable pub roundCall : Float → ℕ → List ℤ → Outcome ℤ
+unfoldable pub roundCall : Float → ℕ → List ℤ → CallOutcome ℤ
 roundCall x places out = ifSized (eqb (length out) 1) (ofRounded (roundedOf x places))
 
 -- ---- the later of two point lines: 1 for the first, 2 for the second
-abbrev pub ofVerdict : Verdict → Outcome ℤ
+abbrev pub ofVerdict : Verdict → CallOutcome ℤ
 ofVerdict verdict.First = gives (pos 1 ∷ [])
 ofVerdict verdict.Second = gives (pos 2 ∷ [])
 ofVerdict (verdict.Refused f) = refused (f .number)
 
-unfoldable pub laterCall : List ℕ → List ℕ → List ℤ → Outcome ℤ
+unfoldable pub laterCall : List ℕ → List ℕ → List ℤ → CallOutcome ℤ
 laterCall one other which = ifSized (eqb (length which) 1) (ofVerdict (laterOf one other))
 
 -- and why neither is: refusal number, line, place; three zeros where one is
-abbrev pub ofLaterFault : LaterFault → Outcome ℤ
+abbrev pub ofLaterFault : LaterFault → CallOutcome ℤ
 ofLaterFault f = gives (pos (f .number) ∷ pos (f .line) ∷ pos (f .place) ∷ [])
 
-unfoldable pub laterFaultCall : List ℕ → List ℕ → List ℤ → Outcome ℤ
+unfoldable pub laterFaultCall : List ℕ → List ℕ → List ℤ → CallOutcome ℤ
 laterFaultCall one other out = ifSized (eqb (length out) 3) (ofLaterFault (laterFaultOf (laterOf one other)))

@@ -17,7 +17,7 @@ use Rattle.chain.specs.declared.Kind.the-variants.{Shift, Velocity, BursaWolf, 
 use Rattle.chain.specs.declared.Step.{Step}
 use Rattle.chain.specs.declared.Chain.{Chain}
 use Rattle.chain.specs.Faults.{latest}
-use Rattle.chain.specs.Join.{noStep}
+use Rattle.chain.specs.Join.{pastSteps}
 use Rattle.line.specs.Bytes.{letterB, letterC, letterF, letterP, letterT, letterV}
 use Rattle.sheet_rules.specs.declared.Standing.{Standing}
 use Rattle.sheet_rules.specs.Sheet.{replyText}
@@ -25,9 +25,9 @@ use Rattle.sheet_stream.specs.declared.Stream.{Stream}
 use Rattle.sheet_stream.specs.declared.Outcome.{Outcome}
 use Rattle.sheet_stream.specs.declared.Outcome.the-variants.{Open, Line, Refused}
 use Rattle.sheet_stream.specs.declared.Fed.{Fed}
-use Rattle.sheet_stream.specs.Fragments.{empty, fresh, feedOf, finishOf}
+use Rattle.sheet_stream.specs.Fragments.{noBytes, fresh, feedOf, finishOf}
 use Rattle.chain.specs.Numbers.{number, chainFrom}
-use Rattle.chain.specs.Numbers.{noStep as emptyPlace}
+use Rattle.chain.specs.Numbers.{noStep}
 
 -- ---- the lengths: seven numbers and 13 to each of eight steps; the open line's bytes; room for an answer
 unfoldable pub sizedState : ℕ → ℕ → ℕ → Bool
@@ -66,7 +66,7 @@ abbrev pub freshNumbers : List ℤ
 freshNumbers = replicate 5 (pos 0) ++ (latest ∷ replicate 105 (pos 0))
 
 abbrev pub FreshFromC : Type 0
-FreshFromC = streamFrom freshNumbers empty ≡ fresh (replicate 8 emptyPlace)
+FreshFromC = streamFrom freshNumbers noBytes ≡ fresh (replicate 8 noStep)
 
 -- ---- and back
 abbrev pub bit : Bool → ℤ
@@ -89,8 +89,8 @@ abbrev pub conventionNumber : Convention → ℤ
 conventionNumber PositionVector = pos letterP
 conventionNumber CoordinateFrame = pos letterC
 
-abbrev pub row : ℤ → ℤ → Step → ℤ → ℤ → ℤ → ℤ → ℤ → ℤ → ℤ → List ℤ
-row kind convention s a b c d e f g =
+abbrev pub stepRow : ℤ → ℤ → Step → ℤ → ℤ → ℤ → ℤ → ℤ → ℤ → ℤ → List ℤ
+stepRow kind convention s a b c d e f g =
     kind
     ∷ convention
     ∷ s .before .datum
@@ -101,18 +101,18 @@ row kind convention s a b c d e f g =
     ∷ []
 
 abbrev pub kindRow : Kind → Step → List ℤ
-kindRow (Shift t) s = row (pos letterT) (pos 0) s (t .dx) (t .dy) (t .dz) (pos 0) (pos 0) (pos 0) (pos 0)
-kindRow (Velocity t) s = row (pos letterV) (pos 0) s (t .vx) (t .vy) (t .vz) (pos 0) (pos 0) (pos 0) (pos 0)
-kindRow (BursaWolf t) s = row (pos letterB) (conventionNumber (t .convention)) s (t .dx) (t .dy) (t .dz) (t .rx) (t .ry) (t .rz) (t .s)
-kindRow Frame s = row (pos letterF) (pos 0) s (pos 0) (pos 0) (pos 0) (pos 0) (pos 0) (pos 0) (pos 0)
+kindRow (Shift t) s = stepRow (pos letterT) (pos 0) s (t .dx) (t .dy) (t .dz) (pos 0) (pos 0) (pos 0) (pos 0)
+kindRow (Velocity t) s = stepRow (pos letterV) (pos 0) s (t .vx) (t .vy) (t .vz) (pos 0) (pos 0) (pos 0) (pos 0)
+kindRow (BursaWolf t) s = stepRow (pos letterB) (conventionNumber (t .convention)) s (t .dx) (t .dy) (t .dz) (t .rx) (t .ry) (t .rz) (t .s)
+kindRow Frame s = stepRow (pos letterF) (pos 0) s (pos 0) (pos 0) (pos 0) (pos 0) (pos 0) (pos 0) (pos 0)
 
-unfoldable pub rowOf : Step → List ℤ
-rowOf s = kindRow (s .kind) s
+unfoldable pub stepNumbers : Step → List ℤ
+stepNumbers s = kindRow (s .kind) s
 
 -- a step that was taken in stands past those that were there
 unfoldable pub withNewStep : List ℤ → Chain → List ℤ
 withNewStep ns c =
-    pick (ltb (natAbs (number ns 6)) (c .length)) (sets ns (7 + 13 * natAbs (number ns 6)) (rowOf (getD (c .steps) (natAbs (number ns 6)) noStep))) ns
+    pick (ltb (natAbs (number ns 6)) (c .length)) (sets ns (7 + 13 * natAbs (number ns 6)) (stepNumbers (getD (c .steps) (natAbs (number ns 6)) pastSteps))) ns
 
 -- the state's numbers after a call, from those before it
 unfoldable pub numbersWith : List ℤ → Stream → List ℤ

@@ -12,10 +12,10 @@ use Rattle.velocity_grid.specs.declared.GridAnswer.{GridAnswer}
 use Rattle.velocity_grid.specs.declared.GridAnswer.the-variants as grid
 use Rattle.velocity_grid.specs.declared.MotionAnswer.{MotionAnswer}
 use Rattle.velocity_grid.specs.declared.MotionAnswer.the-variants as motion
-use Rattle.capi.specs.Outcome.{Outcome, refused, gives, ifSized}
+use Rattle.capi.specs.Outcome.{CallOutcome, refused, gives, ifSized}
 
 -- east, north, up; then V, no convention, the datum and both epochs, the velocity, and four numbers that no velocity step reads
-abbrev pub ofMotion : MotionAnswer → ℤ → ℤ → ℤ → Outcome ℤ
+abbrev pub ofMotion : MotionAnswer → ℤ → ℤ → ℤ → CallOutcome ℤ
 ofMotion (motion.Refused n) datum before after = refused n
 ofMotion (motion.Motion m) datum before after =
     gives
@@ -37,7 +37,7 @@ ofMotion (motion.Motion m) datum before after =
     ∷ pos 0
     ∷ [])
 
-unfoldable pub gridVelocityCall : List ℕ → ℤ → ℤ → ℤ → ℤ → ℤ → List ℤ → Outcome ℤ
+unfoldable pub gridVelocityCall : List ℕ → ℤ → ℤ → ℤ → ℤ → ℤ → List ℤ → CallOutcome ℤ
 gridVelocityCall text latitude longitude datum before after out =
     ifSized (eqb (length out) 16) (ofMotion (motionOf text latitude longitude datum before after) datum before after)
 
@@ -46,8 +46,8 @@ abbrev pub faultIn : GridAnswer → GridFault
 faultIn (grid.Refused f) = f
 faultIn (grid.Grid g) = faultless
 
-abbrev pub ofGridFault : GridFault → Outcome ℤ
+abbrev pub ofGridFault : GridFault → CallOutcome ℤ
 ofGridFault f = gives (pos (f .number) ∷ pos (f .line) ∷ pos (f .place) ∷ [])
 
-unfoldable pub gridFaultCall : List ℕ → List ℤ → Outcome ℤ
+unfoldable pub gridFaultCall : List ℕ → List ℤ → CallOutcome ℤ
 gridFaultCall text out = ifSized (eqb (length out) 3) (ofGridFault (faultIn (gridOf text)))

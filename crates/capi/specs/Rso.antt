@@ -10,7 +10,7 @@ use Rattle.oblique_mercator.specs.declared.Angles.{Angles}
 use Rattle.oblique_mercator.specs.declared.Angles.the-variants as angles
 use Rattle.oblique_mercator.specs.Forward.{forwardOf}
 use Rattle.oblique_mercator.specs.Reverse.{reverseOf}
-use Rattle.capi.specs.Outcome.{Outcome, refused, gives, ifSized}
+use Rattle.capi.specs.Outcome.{CallOutcome, refused, gives, ifSized}
 use Rattle.chain.specs.Numbers.{number}
 use Rattle.capi.specs.Calls.{ofProjected}
 
@@ -28,13 +28,13 @@ parametersFrom ns = record {
 }
 
 -- forward: easting, northing
-unfoldable pub rsoForwardCall : List ℤ → ℤ → ℤ → List Float → Outcome Float
+unfoldable pub rsoForwardCall : List ℤ → ℤ → ℤ → List Float → CallOutcome Float
 rsoForwardCall ns latitude longitude out = ifSized (eqb (length ns) 8 && eqb (length out) 2) (ofProjected (forwardOf (parametersFrom ns) latitude longitude))
 
 -- reverse: latitude, longitude
-abbrev pub ofAngles : Angles → Outcome ℤ
+abbrev pub ofAngles : Angles → CallOutcome ℤ
 ofAngles (angles.Units a o) = gives (a ∷ o ∷ [])
 ofAngles (angles.Refused n) = refused n
 
-unfoldable pub rsoReverseCall : List ℤ → Float → Float → List ℤ → Outcome ℤ
+unfoldable pub rsoReverseCall : List ℤ → Float → Float → List ℤ → CallOutcome ℤ
 rsoReverseCall ns e n out = ifSized (eqb (length ns) 8 && eqb (length out) 2) (ofAngles (reverseOf (parametersFrom ns) e n))

@@ -2,7 +2,7 @@
 ghost use mathlib.Core.Path.{_≡_};
 ghost use Prim.Native.Nat.{_≤_};
 ghost use lib.ListN.{length};
-ghost use Rattle.capi.specs.Outcome.{Answered};
+ghost use Rattle.capi.specs.Outcome.{Returns};
 ghost use Rattle.capi.specs.Chains.{wholeSteps, pointFrom};
 ghost use Rattle.capi.specs.Calls.{ofAnswer, forwardCall, inverseCall};
 use crate::WRONG_LENGTH;
@@ -47,7 +47,7 @@ pub(crate) fn point_from(n: &[i64]) -> Point
 // Writes a converted point, or answers the refusal.
 fn give(answer: Answer, out: &mut [i64]) -> i64
     requires { ⌜ length (now out) ≡ 7 ⌝ }
-    ensures { λ r. ⌜ Answered (ofAnswer answer) (now (out .entry)) (now (out .exit)) r ⌝ }
+    ensures { λ r. ⌜ Returns (ofAnswer answer) (now (out .entry)) (now (out .exit)) r ⌝ }
 {
     match answer {
         Answer::Refused(n) => status(n),
@@ -79,7 +79,7 @@ pub extern "C" fn swivelcrane_forward(
     point: &[i64],
     out: &mut [i64],
 ) -> i64
-    ensures { λ r. ⌜ Answered (forwardCall profile (now (chain .entry)) (now (point .entry)) (now (out .entry))) (now (out .entry)) (now (out .exit)) r ⌝ }
+    ensures { λ r. ⌜ Returns (forwardCall profile (now (chain .entry)) (now (point .entry)) (now (out .entry))) (now (out .entry)) (now (out .exit)) r ⌝ }
 {
     if !are_sized(chain.len(), point.len(), out.len()) {
         return WRONG_LENGTH;
@@ -95,7 +95,7 @@ pub extern "C" fn swivelcrane_inverse(
     point: &[i64],
     out: &mut [i64],
 ) -> i64
-    ensures { λ r. ⌜ Answered (inverseCall profile (now (chain .entry)) (now (point .entry)) (now (out .entry))) (now (out .entry)) (now (out .exit)) r ⌝ }
+    ensures { λ r. ⌜ Returns (inverseCall profile (now (chain .entry)) (now (point .entry)) (now (out .entry))) (now (out .entry)) (now (out .exit)) r ⌝ }
 {
     if !are_sized(chain.len(), point.len(), out.len()) {
         return WRONG_LENGTH;

@@ -9,13 +9,12 @@ ghost use Rattle.capi.specs.Fragments.{sizedState, stateRange, called, t
 use crate::joining::minus;
 use crate::point_line;
 use crate::state;
+use line::LINE_FEED;
 use sheet_stream::Fed;
 use sheet_stream::Outcome;
 
 // Minus the number of a wrong length: a length is never below 0.
 const NO_ROOM: i64 = -255;
-
-const LINE_FEED: u8 = 10;
 
 // Whether the state's arrays are as long as the calls ask, with room for an answer.
 fn are_sized(numbers: usize, bytes: usize, out: usize) -> bool

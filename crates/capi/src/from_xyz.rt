@@ -1,7 +1,7 @@
 // Cartesian to geodetic.
 ghost use mathlib.Core.Path.{_≡_};
 ghost use lib.ListN.{length};
-ghost use Rattle.capi.specs.Outcome.{Answered};
+ghost use Rattle.capi.specs.Outcome.{Returns};
 ghost use Rattle.capi.specs.Calls.{ofGeodetic, geodeticCall};
 use crate::WRONG_LENGTH;
 use crate::status::status;
@@ -10,7 +10,7 @@ use angle::GeodeticUnits;
 // Writes latitude, longitude and height, or answers the refusal.
 fn give_geodetic(answer: GeodeticUnits, out: &mut [i64]) -> i64
     requires { ⌜ length (now out) ≡ 3 ⌝ }
-    ensures { λ r. ⌜ Answered (ofGeodetic answer) (now (out .entry)) (now (out .exit)) r ⌝ }
+    ensures { λ r. ⌜ Returns (ofGeodetic answer) (now (out .entry)) (now (out .exit)) r ⌝ }
 {
     match answer {
         GeodeticUnits::Refused(n) => status(n),
@@ -32,7 +32,7 @@ pub extern "C" fn swivelcrane_geodetic(
     z: i64,
     out: &mut [i64],
 ) -> i64
-    ensures { λ r. ⌜ Answered (geodeticCall ellipsoid x y z (now (out .entry))) (now (out .entry)) (now (out .exit)) r ⌝ }
+    ensures { λ r. ⌜ Returns (geodeticCall ellipsoid x y z (now (out .entry))) (now (out .entry)) (now (out .exit)) r ⌝ }
 {
     if out.len() != 3 {
         return WRONG_LENGTH;

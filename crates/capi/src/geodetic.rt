@@ -1,7 +1,7 @@
 // Geodetic to Cartesian.
 ghost use mathlib.Core.Path.{_≡_};
 ghost use lib.ListN.{length};
-ghost use Rattle.capi.specs.Outcome.{Answered};
+ghost use Rattle.capi.specs.Outcome.{Returns};
 ghost use Rattle.capi.specs.Calls.{ofCartesian, ofUnits, cartesianCall, unitsCall};
 use crate::WRONG_LENGTH;
 use crate::status::status;
@@ -11,7 +11,7 @@ use angle::CartesianUnits;
 // Writes X, Y and Z, or answers the refusal.
 fn give_metres(answer: Cartesian, out: &mut [f64]) -> i64
     requires { ⌜ length (now out) ≡ 3 ⌝ }
-    ensures { λ r. ⌜ Answered (ofCartesian answer) (now (out .entry)) (now (out .exit)) r ⌝ }
+    ensures { λ r. ⌜ Returns (ofCartesian answer) (now (out .entry)) (now (out .exit)) r ⌝ }
 {
     match answer {
         Cartesian::Refused(n) => status(n),
@@ -27,7 +27,7 @@ fn give_metres(answer: Cartesian, out: &mut [f64]) -> i64
 // The same in whole units.
 fn give_units(answer: CartesianUnits, out: &mut [i64]) -> i64
     requires { ⌜ length (now out) ≡ 3 ⌝ }
-    ensures { λ r. ⌜ Answered (ofUnits answer) (now (out .entry)) (now (out .exit)) r ⌝ }
+    ensures { λ r. ⌜ Returns (ofUnits answer) (now (out .entry)) (now (out .exit)) r ⌝ }
 {
     match answer {
         CartesianUnits::Refused(n) => status(n),
@@ -49,7 +49,7 @@ pub extern "C" fn swivelcrane_cartesian(
     height: i64,
     out: &mut [f64],
 ) -> i64
-    ensures { λ r. ⌜ Answered (cartesianCall ellipsoid latitude longitude height (now (out .entry))) (now (out .entry)) (now (out .exit)) r ⌝ }
+    ensures { λ r. ⌜ Returns (cartesianCall ellipsoid latitude longitude height (now (out .entry))) (now (out .entry)) (now (out .exit)) r ⌝ }
 {
     if out.len() != 3 {
         return WRONG_LENGTH;
@@ -69,7 +69,7 @@ pub extern "C" fn swivelcrane_cartesian_units(
     height: i64,
     out: &mut [i64],
 ) -> i64
-    ensures { λ r. ⌜ Answered (unitsCall ellipsoid latitude longitude height (now (out .entry))) (now (out .entry)) (now (out .exit)) r ⌝ }
+    ensures { λ r. ⌜ Returns (unitsCall ellipsoid latitude longitude height (now (out .entry))) (now (out .entry)) (now (out .exit)) r ⌝ }
 {
     if out.len() != 3 {
         return WRONG_LENGTH;

@@ -1,7 +1,7 @@
 // Velocities from a grid in our own lines.
 ghost use mathlib.Core.Path.{_≡_};
 ghost use lib.ListN.{length};
-ghost use Rattle.capi.specs.Outcome.{Answered};
+ghost use Rattle.capi.specs.Outcome.{Returns};
 ghost use Rattle.capi.specs.Grids.{ofMotion, gridVelocityCall, faultIn, ofGridFault, gridFaultCall};
 use crate::WRONG_LENGTH;
 use crate::status::line_number;
@@ -16,7 +16,7 @@ const VELOCITY: i64 = 86;
 // Writes the three parts and the numbers of a velocity step, or answers the refusal.
 fn give_motion(answer: MotionAnswer, datum: i64, before: i64, after: i64, out: &mut [i64]) -> i64
     requires { ⌜ length (now out) ≡ 16 ⌝ }
-    ensures { λ r. ⌜ Answered (ofMotion answer datum before after) (now (out .entry)) (now (out .exit)) r ⌝ }
+    ensures { λ r. ⌜ Returns (ofMotion answer datum before after) (now (out .entry)) (now (out .exit)) r ⌝ }
 {
     match answer {
         MotionAnswer::Refused(n) => status(n),
@@ -59,7 +59,7 @@ pub extern "C" fn swivelcrane_grid_velocity(
     after: i64,
     out: &mut [i64],
 ) -> i64
-    ensures { λ r. ⌜ Answered (gridVelocityCall (now (grid .entry)) latitude longitude datum before after (now (out .entry))) (now (out .entry)) (now (out .exit)) r ⌝ }
+    ensures { λ r. ⌜ Returns (gridVelocityCall (now (grid .entry)) latitude longitude datum before after (now (out .entry))) (now (out .entry)) (now (out .exit)) r ⌝ }
 {
     if out.len() != 16 {
         return WRONG_LENGTH;
@@ -69,7 +69,7 @@ pub extern "C" fn swivelcrane_grid_velocity(
 }
 
 // What is wrong with a grid, all three zeros for nothing.
-fn fault_in(answer: GridAnswer) -> GridFault
+fn fault_of_grid(answer: GridAnswer) -> GridFault
     ensures { λ r. ⌜ r ≡ faultIn answer ⌝ }
 {
     match answer {
@@ -85,7 +85,7 @@ fn fault_in(answer: GridAnswer) -> GridFault
 // Writes the refusal number, the line and the place.
 fn give_grid_fault(fault: GridFault, out: &mut [i64]) -> i64
     requires { ⌜ length (now out) ≡ 3 ⌝ }
-    ensures { λ r. ⌜ Answered (ofGridFault fault) (now (out .entry)) (now (out .exit)) r ⌝ }
+    ensures { λ r. ⌜ Returns (ofGridFault fault) (now (out .entry)) (now (out .exit)) r ⌝ }
 {
     let number = status(fault.number);
     let line = line_number(fault.line);
@@ -100,10 +100,10 @@ fn give_grid_fault(fault: GridFault, out: &mut [i64]) -> i64
 // bad form). Three zeros where nothing is. Nothing is refused here.
 #[no_mangle]
 pub extern "C" fn swivelcrane_grid_fault(grid: &[u8], out: &mut [i64]) -> i64
-    ensures { λ r. ⌜ Answered (gridFaultCall (now (grid .entry)) (now (out .entry))) (now (out .entry)) (now (out .exit)) r ⌝ }
+    ensures { λ r. ⌜ Returns (gridFaultCall (now (grid .entry)) (now (out .entry))) (now (out .entry)) (now (out .exit)) r ⌝ }
 {
     if out.len() != 3 {
         return WRONG_LENGTH;
     }
-    give_grid_fault(fault_in(velocity_grid::check_grid(grid)), out)
+    give_grid_fault(fault_of_grid(velocity_grid::check_grid(grid)), out)
 }

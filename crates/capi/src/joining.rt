@@ -24,7 +24,7 @@ pub(crate) fn minus(number: u8) -> i64
     0 - (number as i64)
 }
 
-// All of a row into another, from a place on.
+// All of a row into another, from an index on.
 pub(crate) fn copy(from: &[i64], out: &mut [i64], at: usize)
     requires { ⌜ at + length (now from) ≤ length (now out) ⌝ }
     ensures { λ _. ⌜ now (out .exit) ≡ sets (now (out .entry)) at (now (from .entry)) ⌝ }

@@ -1,7 +1,7 @@
 // The later of two point lines: which of the two it is, and why neither is.
 ghost use mathlib.Core.Path.{_≡_};
 ghost use lib.ListN.{length};
-ghost use Rattle.capi.specs.Outcome.{Answered};
+ghost use Rattle.capi.specs.Outcome.{Returns};
 ghost use Rattle.capi.specs.Calls.{ofVerdict, laterCall, ofLaterFault, laterFaultCall};
 use crate::WRONG_LENGTH;
 use crate::status::status;
@@ -11,7 +11,7 @@ use line::Verdict;
 // Writes which line it is, or answers the refusal.
 fn give(verdict: Verdict, which: &mut [i64]) -> i64
     requires { ⌜ length (now which) ≡ 1 ⌝ }
-    ensures { λ r. ⌜ Answered (ofVerdict verdict) (now (which .entry)) (now (which .exit)) r ⌝ }
+    ensures { λ r. ⌜ Returns (ofVerdict verdict) (now (which .entry)) (now (which .exit)) r ⌝ }
 {
     match verdict {
         Verdict::Refused(fault) => status(fault.number),
@@ -29,7 +29,7 @@ fn give(verdict: Verdict, which: &mut [i64]) -> i64
 // 1 where the first of two lent point lines is the later one, 2 where the second is.
 #[no_mangle]
 pub extern "C" fn swivelcrane_later(first: &[u8], second: &[u8], which: &mut [i64]) -> i64
-    ensures { λ r. ⌜ Answered (laterCall (now (first .entry)) (now (second .entry)) (now (which .entry))) (now (which .entry)) (now (which .exit)) r ⌝ }
+    ensures { λ r. ⌜ Returns (laterCall (now (first .entry)) (now (second .entry)) (now (which .entry))) (now (which .entry)) (now (which .exit)) r ⌝ }
 {
     if which.len() != 1 {
         return WRONG_LENGTH;
@@ -40,7 +40,7 @@ pub extern "C" fn swivelcrane_later(first: &[u8], second: &[u8], which: &mut [i6
 // Writes the refusal number, the line and the place.
 fn give_fault(fault: LaterFault, out: &mut [i64]) -> i64
     requires { ⌜ length (now out) ≡ 3 ⌝ }
-    ensures { λ r. ⌜ Answered (ofLaterFault fault) (now (out .entry)) (now (out .exit)) r ⌝ }
+    ensures { λ r. ⌜ Returns (ofLaterFault fault) (now (out .entry)) (now (out .exit)) r ⌝ }
 {
     let number = status(fault.number);
     let line = status(fault.line);
@@ -55,7 +55,7 @@ fn give_fault(fault: LaterFault, out: &mut [i64]) -> i64
 // that line, from 0 (0 but for a line of bad form). Three zeros where one of them is the later. Nothing is refused here.
 #[no_mangle]
 pub extern "C" fn swivelcrane_later_fault(first: &[u8], second: &[u8], out: &mut [i64]) -> i64
-    ensures { λ r. ⌜ Answered (laterFaultCall (now (first .entry)) (now (second .entry)) (now (out .entry))) (now (out .entry)) (now (out .exit)) r ⌝ }
+    ensures { λ r. ⌜ Returns (laterFaultCall (now (first .entry)) (now (second .entry)) (now (out .entry))) (now (out .entry)) (now (out .exit)) r ⌝ }
 {
     if out.len() != 3 {
         return WRONG_LENGTH;

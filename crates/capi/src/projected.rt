@@ -1,7 +1,7 @@
 // Cassini-Soldner eastings and northings.
 ghost use mathlib.Core.Path.{_≡_};
 ghost use lib.ListN.{length};
-ghost use Rattle.capi.specs.Outcome.{Answered};
+ghost use Rattle.capi.specs.Outcome.{Returns};
 ghost use Rattle.capi.specs.Calls.{ofProjected, ofMillimetres, originFrom, cassiniCall, millimetresCall};
 use crate::WRONG_LENGTH;
 use crate::status::status;
@@ -12,7 +12,7 @@ use angle::ProjectedMillimetres;
 // Writes easting and northing, or answers the refusal.
 pub(crate) fn give_metres(answer: Projected, out: &mut [f64]) -> i64
     requires { ⌜ length (now out) ≡ 2 ⌝ }
-    ensures { λ r. ⌜ Answered (ofProjected answer) (now (out .entry)) (now (out .exit)) r ⌝ }
+    ensures { λ r. ⌜ Returns (ofProjected answer) (now (out .entry)) (now (out .exit)) r ⌝ }
 {
     match answer {
         Projected::Refused(n) => status(n),
@@ -27,7 +27,7 @@ pub(crate) fn give_metres(answer: Projected, out: &mut [f64]) -> i64
 // The same in whole millimetres.
 fn give_millimetres(answer: ProjectedMillimetres, out: &mut [i64]) -> i64
     requires { ⌜ length (now out) ≡ 2 ⌝ }
-    ensures { λ r. ⌜ Answered (ofMillimetres answer) (now (out .entry)) (now (out .exit)) r ⌝ }
+    ensures { λ r. ⌜ Returns (ofMillimetres answer) (now (out .entry)) (now (out .exit)) r ⌝ }
 {
     match answer {
         ProjectedMillimetres::Refused(n) => status(n),
@@ -69,7 +69,7 @@ pub extern "C" fn swivelcrane_cassini(
     longitude: i64,
     out: &mut [f64],
 ) -> i64
-    ensures { λ r. ⌜ Answered (cassiniCall (originFrom ellipsoid «origin_latitude» «origin_longitude» «false_easting» «false_northing») latitude longitude (now (out .entry))) (now (out .entry)) (now (out .exit)) r ⌝ }
+    ensures { λ r. ⌜ Returns (cassiniCall (originFrom ellipsoid «origin_latitude» «origin_longitude» «false_easting» «false_northing») latitude longitude (now (out .entry))) (now (out .entry)) (now (out .exit)) r ⌝ }
 {
     if out.len() != 2 {
         return WRONG_LENGTH;
@@ -96,7 +96,7 @@ pub extern "C" fn swivelcrane_cassini_millimetres(
     longitude: i64,
     out: &mut [i64],
 ) -> i64
-    ensures { λ r. ⌜ Answered (millimetresCall (originFrom ellipsoid «origin_latitude» «origin_longitude» «false_easting» «false_northing») latitude longitude (now (out .entry))) (now (out .entry)) (now (out .exit)) r ⌝ }
+    ensures { λ r. ⌜ Returns (millimetresCall (originFrom ellipsoid «origin_latitude» «origin_longitude» «false_easting» «false_northing») latitude longitude (now (out .entry))) (now (out .entry)) (now (out .exit)) r ⌝ }
 {
     if out.len() != 2 {
         return WRONG_LENGTH;

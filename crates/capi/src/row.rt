@@ -6,8 +6,8 @@ ghost use lib.ListN.{length};
 ghost use lib.Seq.{sets};
 ghost use Rattle.refusal.specs.Order.{first};
 ghost use Rattle.chain.specs.PointRow.{convertReady};
-ghost use Rattle.capi.specs.Outcome.{Answered};
-ghost use Rattle.capi.specs.PointRow.{placeOf, answersOf, directionFrom, wholeRows, lentTests, rowCall};
+ghost use Rattle.capi.specs.Outcome.{Returns};
+ghost use Rattle.capi.specs.PointRow.{answerNumbers, answersOf, directionFrom, wholeRows, lentTests, rowCall};
 use crate::WRONG_LENGTH;
 use crate::conversion::point_from;
 use crate::status::status;
@@ -57,7 +57,7 @@ fn direction_from(direction: i64) -> Direction
     Direction::Forward
 }
 
-// Eight numbers from a place on.
+// Eight numbers from an index on.
 fn put(
     out: &mut [i64],
     at: usize,
@@ -83,10 +83,10 @@ fn put(
     out[at + 7] = z;
 }
 
-// An answer from a place on: a refusal has zeros beside its number.
+// An answer from an index on: a refusal has zeros beside its number.
 fn put_answer(answer: Answer, out: &mut [i64], at: usize)
     requires { ⌜ at + 8 ≤ length (now out) ⌝ }
-    ensures { λ _. ⌜ now (out .exit) ≡ sets (now (out .entry)) at (placeOf answer) ⌝ }
+    ensures { λ _. ⌜ now (out .exit) ≡ sets (now (out .entry)) at (answerNumbers answer) ⌝ }
 {
     match answer {
         Answer::Refused(n) => put(out, at, status(n), 0, 0, 0, 0, 0, 0, 0),
@@ -105,7 +105,7 @@ fn put_answer(answer: Answer, out: &mut [i64], at: usize)
     }
 }
 
-// The answer of each point, in its place.
+// The answer of each point, in their order.
 fn put_answers(ready: ReadyChain, direction: Direction, points: &[i64], out: &mut [i64])
     requires { ⌜ length (now points) / 7 * 8 ≤ length (now out) ⌝ }
     ensures { λ _. ⌜ now (out .exit) ≡ sets (now (out .entry)) 0 (answersOf (convertReady ready direction) (length (now (points .entry)) / 7) (now (points .entry))) ⌝ }
@@ -134,7 +134,7 @@ pub extern "C" fn swivelcrane_row(
     points: &[i64],
     answers: &mut [i64],
 ) -> i64
-    ensures { λ r. ⌜ Answered (rowCall profile (now (chain .entry)) direction (now (points .entry)) (now (answers .entry))) (now (answers .entry)) (now (answers .exit)) r ⌝ }
+    ensures { λ r. ⌜ Returns (rowCall profile (now (chain .entry)) direction (now (points .entry)) (now (answers .entry))) (now (answers .entry)) (now (answers .exit)) r ⌝ }
 {
     if !are_whole(chain.len(), points.len(), answers.len()) {
         return WRONG_LENGTH;

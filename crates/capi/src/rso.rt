@@ -1,7 +1,7 @@
 // RSO: latitude and longitude to easting and northing, and back.
 ghost use mathlib.Core.Path.{_≡_};
 ghost use lib.ListN.{length};
-ghost use Rattle.capi.specs.Outcome.{Answered};
+ghost use Rattle.capi.specs.Outcome.{Returns};
 ghost use Rattle.capi.specs.Rso.{parametersFrom, ofAngles, rsoForwardCall, rsoReverseCall};
 use crate::WRONG_LENGTH;
 use crate::projected::give_metres;
@@ -29,7 +29,7 @@ fn parameters_from(n: &[i64]) -> Parameters
 // Writes latitude and longitude, or answers the refusal.
 fn give_angles(answer: Angles, out: &mut [i64]) -> i64
     requires { ⌜ length (now out) ≡ 2 ⌝ }
-    ensures { λ r. ⌜ Answered (ofAngles answer) (now (out .entry)) (now (out .exit)) r ⌝ }
+    ensures { λ r. ⌜ Returns (ofAngles answer) (now (out .entry)) (now (out .exit)) r ⌝ }
 {
     match answer {
         Angles::Refused(n) => status(n),
@@ -49,7 +49,7 @@ pub extern "C" fn swivelcrane_rso_forward(
     longitude: i64,
     out: &mut [f64],
 ) -> i64
-    ensures { λ r. ⌜ Answered (rsoForwardCall (now (parameters .entry)) latitude longitude (now (out .entry))) (now (out .entry)) (now (out .exit)) r ⌝ }
+    ensures { λ r. ⌜ Returns (rsoForwardCall (now (parameters .entry)) latitude longitude (now (out .entry))) (now (out .entry)) (now (out .exit)) r ⌝ }
 {
     if parameters.len() != 8 {
         return WRONG_LENGTH;
@@ -69,7 +69,7 @@ pub extern "C" fn swivelcrane_rso_reverse(
     northing: f64,
     out: &mut [i64],
 ) -> i64
-    ensures { λ r. ⌜ Answered (rsoReverseCall (now (parameters .entry)) easting northing (now (out .entry))) (now (out .entry)) (now (out .exit)) r ⌝ }
+    ensures { λ r. ⌜ Returns (rsoReverseCall (now (parameters .entry)) easting northing (now (out .entry))) (now (out .entry)) (now (out .exit)) r ⌝ }
 {
     if parameters.len() != 8 {
         return WRONG_LENGTH;

@@ -8,7 +8,7 @@ ghost use Rattle.ranges.specs.Ranges.{within};
 ghost use Rattle.sheet_rules.specs.OneLine.{soundStanding};
 ghost use Rattle.sheet_stream.specs.Fragments.{Countable};
 ghost use Rattle.chain.specs.Numbers.{number};
-ghost use Rattle.capi.specs.Fragments.{isFlag, stateRange, bit as Fragments·bit, flag as Fragments·flag, conventionNumber, chainIn, standingIn, streamFrom, headOf, rowOf, withNewStep, numbersWith};
+ghost use Rattle.capi.specs.Fragments.{isFlag, stateRange, bit as Fragments·bit, flag as Fragments·flag, conventionNumber, chainIn, standingIn, streamFrom, headOf, stepNumbers, withNewStep, numbersWith};
 use crate::joining::copy;
 use chain::Chain;
 use chain::Convention;
@@ -183,7 +183,7 @@ fn convention_number(convention: Convention) -> i64
 
 // A step's 13 numbers.
 fn row_of(step: Step) -> [i64; 13]
-    ensures { λ r. ⌜ r ≡ rowOf step ⌝ }
+    ensures { λ r. ⌜ r ≡ stepNumbers step ⌝ }
 {
     let p = step.before.datum;
     let q = step.before.epoch;

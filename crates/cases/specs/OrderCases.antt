@@ -1,4 +1,4 @@
--- The order of refusals by value: a case for each place in the order, in which that test fails and every later one that can; and what the edition of 2009 has.
+-- The order of refusals by value: a case for each test of the order, in which that one fails and every later one that can; and what the edition of 2009 has.
 use mathlib.Core.Path.{_≡_}
 use mathlib.Core.List.{List, [], _∷_, map}
 use Prim.Native.Nat.{ℕ}
@@ -47,21 +47,21 @@ abbrev away : Step
 away = step (shift (pos 100000) (pos 0) (pos 0)) (on 8 2010000) (on 8 2020000)
 
 -- ---- points, with ever fewer faults
-abbrev outside : Position
-outside = xyz (pos 0) (pos 0) (pos 0)
+abbrev earthsCentre : Position
+earthsCentre = xyz (pos 0) (pos 0) (pos 0)
 
 abbrev outOfRangeToo : Point
-outOfRangeToo = point (pos 0) (on 1 2010000) outside
+outOfRangeToo = point (pos 0) (on 1 2010000) earthsCentre
 
 abbrev wrongEpochToo : Point
-wrongEpochToo = point (pos 1) (on 1 2010000) outside
+wrongEpochToo = point (pos 1) (on 1 2010000) earthsCentre
 
 abbrev elsewhere : Point
-elsewhere = point (pos 1) (on 7 2010000) outside
+elsewhere = point (pos 1) (on 7 2010000) earthsCentre
 
 -- at datum 8 and epoch e
 abbrev far : ℤ → Point
-far e = point (pos 1) (record { datum = pos 8; epoch = e }) outside
+far e = point (pos 1) (record { datum = pos 8; epoch = e }) earthsCentre
 
 abbrev atEnd : ℤ → ℤ → Point
 atEnd e x = point (pos 1) (record { datum = pos 8; epoch = e }) (xyz x (pos 600000000000) (pos 50000000000))

@@ -15,11 +15,11 @@ use Rattle.chain.specs.Case.{less, on, xyz, point, shift, velocity}
 use Rattle.cases.specs.Cases.{a1}
 
 -- a fault, and the number that the table gives
-pub record Fault : Type 0 where
+pub record RangeCase : Type 0 where
   pub found : ℕ
   pub wanted : ℕ
 
-abbrev by : ℕ → ℕ → Fault
+abbrev by : ℕ → ℕ → RangeCase
 by f w = record { found = f; wanted = w }
 
 abbrev fine : ℕ
@@ -39,18 +39,18 @@ ordered n = labelled (pos 1) n
 abbrev alone : Point → ℕ
 alone p = pointFault (pos 2021) p
 
-abbrev at : Realization → ℕ → Fault
+abbrev at : Realization → ℕ → RangeCase
 at r w = by (alone (point r a1)) w
 
 -- the same bounds on X, Y and Z
-abbrev coordinates : ℤ → ℕ → List Fault
+abbrev coordinates : ℤ → ℕ → List RangeCase
 coordinates z w =
     by (alone (point (on 8 2010000) (xyz z (pos 0) (pos 0)))) w
     ∷ by (alone (point (on 8 2010000) (xyz (pos 0) z (pos 0)))) w
     ∷ by (alone (point (on 8 2010000) (xyz (pos 0) (pos 0) z))) w
     ∷ []
 
-abbrev pub pointCases : List Fault
+abbrev pub pointCases : List RangeCase
 pointCases =
     by (alone (issued (pos 0))) refusal.range
     ∷ by (alone (issued (pos 1))) fine
@@ -82,7 +82,7 @@ bursaWolf dx dy dz rx ry rz s = BursaWolf (record { convention = PositionVector;
 abbrev step : Kind → Realization → Realization → ℕ
 step kind r a = stepFault (pos 2021) (record { kind = kind; before = r; after = a })
 
-abbrev ends : (ℤ → Kind) → ℕ → List Fault
+abbrev ends : (ℤ → Kind) → ℕ → List RangeCase
 ends kind most =
     by (step (kind (less most)) (on 8 2010000) (on 8 2020000)) fine
     ∷ by (step (kind (less (suc most))) (on 8 2010000) (on 8 2020000)) refusal.range
@@ -93,7 +93,7 @@ ends kind most =
 abbrev o : ℤ
 o = pos 0
 
-abbrev pub numberCases : List Fault
+abbrev pub numberCases : List RangeCase
 numberCases =
     ends (λ n. shift n o o) 100000000
     ++ ends (λ n. shift o n o) 100000000
@@ -113,8 +113,8 @@ numberCases =
 abbrev still : Kind
 still = shift o o o
 
-abbrev pub placeCases : List Fault
-placeCases =
+abbrev pub realizationCases : List RangeCase
+realizationCases =
     by (step still (on 0 2010000) (on 8 2010000)) refusal.range
     ∷ by (step still (on 11 2010000) (on 8 2010000)) refusal.range
     ∷ by (step still (on 8 2010000) (on 0 2010000)) refusal.range
@@ -134,8 +134,8 @@ placeCases =
     ∷ by (step Frame (on 9 2010000) (on 10 2010001)) refusal.kind
     ∷ []
 
-abbrev pub rangeCases : List Fault
-rangeCases = pointCases ++ (numberCases ++ placeCases)
+abbrev pub rangeCases : List RangeCase
+rangeCases = pointCases ++ (numberCases ++ realizationCases)
 
 abbrev pub RangeCases : Type 0
-RangeCases = map (λ (f : Fault). f .found) rangeCases ≡ map (λ (f : Fault). f .wanted) rangeCases
+RangeCases = map (λ (f : RangeCase). f .found) rangeCases ≡ map (λ (f : RangeCase). f .wanted) rangeCases

@@ -17,7 +17,7 @@ use Rattle.chain.specs.declared.Answer.the-variants.{Converted, Refused}
 use Rattle.chain.specs.Faults.{sameRealization, inArea, hasStep, pointTests, stepTests, StepOk, stepFault, joinTest, laterTests, stepsTests, chainTests, stepsOf}
 use Rattle.ranges.specs.Ranges.{profileRange}
 use Rattle.chain.proofs.Sizes.{step-ok, step-had}
-use Rattle.chain.specs.Convert.{Walk, at, left, placeTests, conversionTests, movedTo, answerOf, convert}
+use Rattle.chain.specs.Convert.{Walk, at, left, realizationAndAreaTests, conversionTests, movedTo, answerOf, convert}
 
 -- something holds of each step
 abbrev pub Each : (Step → Type 0) → List Step → Type 0
@@ -80,19 +80,19 @@ pub record Accepted (c : Chain) (p : Point) (wanted : Realization) : Type 0 wher
 
 pub accepted : (c : Chain) (p : Point) (wanted : Realization) → first (conversionTests c p wanted) ≡ 0 → Accepted c p wanted
 accepted c p wanted e =
-    let f = both-pass (chainTests c) (pointTests (c .profile) p ++ placeTests p wanted) (numbered-steps (c .profile) (stepsOf c)) e in
+    let f = both-pass (chainTests c) (pointTests (c .profile) p ++ realizationAndAreaTests p wanted) (numbered-steps (c .profile) (stepsOf c)) e in
     let n = chain-passed c (f .0) in
-    let g = both-pass (pointTests (c .profile) p) (placeTests p wanted) tt (f .1) in
+    let g = both-pass (pointTests (c .profile) p) (realizationAndAreaTests p wanted) tt (f .1) in
     let h = head-holds (sameRealization (p .realization) wanted) _ _ (g .1) in
     record { short = n .0; sound = sound-steps (c .profile) (stepsOf c) (n .1); held = held-steps (c .profile) (stepsOf c) (n .1); here = h .0; area = head-holds (inArea (p .position)) _ 0 (h .1) .0 }
 
 -- ---- how the code answers: the chain decides first, then the point, then the walk
 abbrev pub entry : ℤ → Point → Realization → ℕ
-entry y p wanted = first (pointTests y p ++ placeTests p wanted)
+entry y p wanted = first (pointTests y p ++ realizationAndAreaTests p wanted)
 
 pub entry-area : (y : ℤ) (p : Point) (wanted : Realization) → entry y p wanted ≡ 0 → inArea (p .position) ≡ true
 entry-area y p wanted e =
-    let g = both-pass (pointTests y p) (placeTests p wanted) tt e in
+    let g = both-pass (pointTests y p) (realizationAndAreaTests p wanted) tt e in
     head-holds (inArea (p .position)) _ 0 (head-holds (sameRealization (p .realization) wanted) _ _ (g .1) .1) .0
 
 module _ (c : Chain) (p : Point) (wanted reached : Realization) (w : Walk) where
@@ -100,13 +100,13 @@ module _ (c : Chain) (p : Point) (wanted reached : Realization) (w : Walk) where
   all-numbered = numbered-steps (c .profile) (stepsOf c)
 
   chain-silent : first (chainTests c) ≡ 0 → first (conversionTests c p wanted) ≡ entry (c .profile) p wanted
-  chain-silent e = on (chainTests c) (pointTests (c .profile) p ++ placeTests p wanted) (passed (chainTests c) all-numbered e)
+  chain-silent e = on (chainTests c) (pointTests (c .profile) p ++ realizationAndAreaTests p wanted) (passed (chainTests c) all-numbered e)
 
   pub by-chain : (first (chainTests c) ≡ 0 → ⊥) → Refused (first (chainTests c)) ≡ convert c p wanted reached w
   unfolding convert
   by-chain h =
       sym (unless-some (first (chainTests c)) Refused (answerOf p reached w) h)
-      ∙ ap (λ (n : ℕ). unless n Refused (answerOf p reached w)) (sym (stop (chainTests c) (pointTests (c .profile) p ++ placeTests p wanted) h))
+      ∙ ap (λ (n : ℕ). unless n Refused (answerOf p reached w)) (sym (stop (chainTests c) (pointTests (c .profile) p ++ realizationAndAreaTests p wanted) h))
 
   pub by-point : first (chainTests c) ≡ 0 → (entry (c .profile) p wanted ≡ 0 → ⊥) → Refused (entry (c .profile) p wanted) ≡ convert c p wanted reached w
   unfolding convert

@@ -1,4 +1,4 @@
--- Two chains joined: what decides, and what stands at each place. Assumes nothing.
+-- Two chains joined: what decides, and what stands at each index. Assumes nothing.
 use mathlib.Core.Path.{_≡_, refl, sym, _∙_, ap}
 use mathlib.Core.Bool.{true}
 use mathlib.Core.List.{List, [], _∷_, _++_}
@@ -19,7 +19,7 @@ use Rattle.chain.specs.declared.Chain.{Chain}
 use Rattle.chain.specs.declared.Joined.{Joined}
 use Rattle.chain.specs.Faults.{sameRealization, chainTests, stepsOf}
 use Rattle.chain.specs.Convert.{startOf, endOf}
-use Rattle.chain.specs.Join.{noStep, meet, together, pairTests, joinTests, joinedSteps, joinedOf, noneOf, joinFault, joinOf}
+use Rattle.chain.specs.Join.{pastSteps, meet, together, pairTests, joinTests, joinedSteps, joinedOf, noneOf, joinFault, joinOf}
 use Rattle.chain.proofs.Within.{same-self}
 use Rattle.chain.proofs.Accepted.{numbered-steps, chain-passed}
 
@@ -112,7 +112,7 @@ module _ (c d : Chain) where
   is-joined p = ap (λ (j : Joined). j .chain) (accepted-is (unrefused p))
 
 -- ---- what stands where
-append-below : (xs ys : List Step) (i : ℕ) → i < length xs → getD (xs ++ ys) i noStep ≡ getD xs i noStep
+append-below : (xs ys : List Step) (i : ℕ) → i < length xs → getD (xs ++ ys) i pastSteps ≡ getD xs i pastSteps
 append-below [] ys i h = absurd (NatL.not-suc-le-zero h)
 append-below (x ∷ xs) ys zero h = refl
 append-below (x ∷ xs) ys (suc i) h = append-below xs ys i (NatL.le-of-suc-le-suc h)
@@ -130,37 +130,37 @@ module _ (c d : Chain) (lc : length (c .steps) ≡ 8) (ld : length (d .steps) �
   pub counted : c .length + d .length ≡ together c d
   counted = omega (arith, nc, nd)
 
-  pub eight-places : length (joinedSteps c d) ≡ 8
+  pub eight-steps : length (joinedSteps c d) ≡ 8
   unfolding joinedSteps
-  eight-places =
+  eight-steps =
       omega (arith, length-append (stepsOf c) (stepsOf d ++ drop (together c d) (c .steps)), length-append (stepsOf d) (drop (together c d) (c .steps)), length-drop (together c d) (c .steps), nc, nd)
 
   module _ (i : ℕ) where
-    pub in-first : i < c .length → getD (c .steps) i noStep ≡ getD (joinedSteps c d) i noStep
+    pub in-first : i < c .length → getD (c .steps) i pastSteps ≡ getD (joinedSteps c d) i pastSteps
     unfolding joinedSteps
-    in-first h = sym (append-below (stepsOf c) _ i (omega (arith, nc)) ∙ getD-take (c .length) (c .steps) i noStep h)
+    in-first h = sym (append-below (stepsOf c) _ i (omega (arith, nc)) ∙ getD-take (c .length) (c .steps) i pastSteps h)
 
     -- past the first chain's steps
-    beyond : c .length ≤ i → getD (joinedSteps c d) i noStep ≡ getD (stepsOf d ++ drop (together c d) (c .steps)) (i - c .length) noStep
+    beyond : c .length ≤ i → getD (joinedSteps c d) i pastSteps ≡ getD (stepsOf d ++ drop (together c d) (c .steps)) (i - c .length) pastSteps
     unfolding joinedSteps
     beyond h =
         let e : i ≡ length (stepsOf c) + (i - c .length) = omega (arith, nc) in
-        ap (λ (k : ℕ). getD (stepsOf c ++ (stepsOf d ++ drop (together c d) (c .steps))) k noStep) e ∙ getD-append-add (stepsOf c) _ (i - c .length) noStep
+        ap (λ (k : ℕ). getD (stepsOf c ++ (stepsOf d ++ drop (together c d) (c .steps))) k pastSteps) e ∙ getD-append-add (stepsOf c) _ (i - c .length) pastSteps
 
-    pub in-second : c .length ≤ i → i - c .length < d .length → getD (d .steps) (i - c .length) noStep ≡ getD (joinedSteps c d) i noStep
-    in-second h l = sym (beyond h ∙ append-below (stepsOf d) _ (i - c .length) (omega (arith, nd)) ∙ getD-take (d .length) (d .steps) (i - c .length) noStep l)
+    pub in-second : c .length ≤ i → i - c .length < d .length → getD (d .steps) (i - c .length) pastSteps ≡ getD (joinedSteps c d) i pastSteps
+    in-second h l = sym (beyond h ∙ append-below (stepsOf d) _ (i - c .length) (omega (arith, nd)) ∙ getD-take (d .length) (d .steps) (i - c .length) pastSteps l)
 
-    pub in-neither : c .length ≤ i → d .length ≤ i - c .length → getD (c .steps) i noStep ≡ getD (joinedSteps c d) i noStep
+    pub in-neither : c .length ≤ i → d .length ≤ i - c .length → getD (c .steps) i pastSteps ≡ getD (joinedSteps c d) i pastSteps
     in-neither h l =
         let e : i - c .length ≡ length (stepsOf d) + (i - c .length - d .length) = omega (arith, nd) in
         let f : together c d + (i - c .length - d .length) ≡ i = omega (arith, nc, nd) in
         sym (beyond h
-        ∙ ap (λ (k : ℕ). getD (stepsOf d ++ drop (together c d) (c .steps)) k noStep) e ∙ getD-append-add (stepsOf d) _ (i - c .length - d .length) noStep
-        ∙ getD-drop (together c d) (c .steps) (i - c .length - d .length) noStep ∙ ap (λ (k : ℕ). getD (c .steps) k noStep) f)
+        ∙ ap (λ (k : ℕ). getD (stepsOf d ++ drop (together c d) (c .steps)) k pastSteps) e ∙ getD-append-add (stepsOf d) _ (i - c .length - d .length) pastSteps
+        ∙ getD-drop (together c d) (c .steps) (i - c .length - d .length) pastSteps ∙ ap (λ (k : ℕ). getD (c .steps) k pastSteps) f)
 
--- eight places, one by one
+-- eight steps, one by one
 pub each : (l : List Step) → length l ≡ 8
-    → getD l 0 noStep ∷ getD l 1 noStep ∷ getD l 2 noStep ∷ getD l 3 noStep ∷ getD l 4 noStep ∷ getD l 5 noStep ∷ getD l 6 noStep ∷ getD l 7 noStep ∷ [] ≡ l
+    → getD l 0 pastSteps ∷ getD l 1 pastSteps ∷ getD l 2 pastSteps ∷ getD l 3 pastSteps ∷ getD l 4 pastSteps ∷ getD l 5 pastSteps ∷ getD l 6 pastSteps ∷ getD l 7 pastSteps ∷ [] ≡ l
 each [] e = absurd (omega arith)
 each (a ∷ []) e = absurd (omega arith)
 each (a ∷ b ∷ []) e = absurd (omega arith)

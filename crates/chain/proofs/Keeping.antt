@@ -21,9 +21,9 @@ use Rattle.chain.specs.declared.Answer.{Answer}
 use Rattle.chain.specs.declared.Answer.the-variants.{Refused}
 use Rattle.chain.specs.Faults.{StepOk, latest, stepFault, pointFault, profileFault, sameRealization, pointTests, stepTests, joinTest, laterTests, stepsTests, chainTests}
 use Rattle.chain.specs.Parts.{forwardBy, inverseBy}
-use Rattle.chain.specs.Convert.{forwardStep, inverseStep, startOf, endOf, joins, moreTests, placeTests, convert, forwardOf, inverseOf}
+use Rattle.chain.specs.Convert.{forwardStep, inverseStep, startOf, endOf, joins, moreTests, realizationAndAreaTests, convert, forwardOf, inverseOf}
 use Rattle.chain.specs.Ready.{readyFor}
-use Rattle.chain.specs.Prepared.{number, lengthIn, startIn, endIn, numbersOf, rowsOf, extendFault, firstRow, startWith, keptOf, extendedBy, preparedTests, reachedWith, forwardPrepared, inversePrepared, chainOf, Readied, Ends, Holds}
+use Rattle.chain.specs.Prepared.{number, lengthIn, startIn, endIn, numbersOf, rowsOf, extendFault, firstRow, startWith, keptOf, extendedBy, preparedTests, reachedWith, forwardPrepared, inversePrepared, chainOf, Readied, ChainEnds, Holds}
 use Rattle.chain.proofs.Sizes.{step-ok}
 use Rattle.chain.proofs.Prepared.{prepares, forward-same, inverse-same}
 use Rattle.chain.proofs.Accepted.{numbered-steps}
@@ -80,37 +80,37 @@ module _ (y : ℤ) (l : List ℤ) (ss : List Step) (holds : Holds y l ss) where
       ltb-false 8 (length ss) (step-passed (ltb 8 (length ss)) refusal.ninth (first (stepsTests y ss)) tt (f .1) .0)
 
   module _ (p : Point) where
-    tests : (n : ℕ) (given wanted : Realization) → n ≤ 8 → (equal (pos 0) (pos n) || sameRealization (p .realization) given) ≡ sameRealization (p .realization) wanted → first (preparedTests (pos n) given p) ≡ first (placeTests p wanted)
+    tests : (n : ℕ) (given wanted : Realization) → n ≤ 8 → (equal (pos 0) (pos n) || sameRealization (p .realization) given) ≡ sameRealization (p .realization) wanted → first (preparedTests (pos n) given p) ≡ first (realizationAndAreaTests p wanted)
     tests n given wanted h e = rw (few-steps n 8 h, e)
 
-    wanted-start : (ts : List Step) → Ends (startIn l) (endIn l) ts → (equal (pos 0) (pos (length ts)) || sameRealization (p .realization) (startIn l)) ≡ sameRealization (p .realization) (startOf (p .realization) ts)
+    wanted-start : (ts : List Step) → ChainEnds (startIn l) (endIn l) ts → (equal (pos 0) (pos (length ts)) || sameRealization (p .realization) (startIn l)) ≡ sameRealization (p .realization) (startOf (p .realization) ts)
     unfolding startOf
     wanted-start [] e = rw (no-steps, same-self (p .realization))
     wanted-start (s ∷ ts) e = rw (some-steps (length ts)) (ap (sameRealization (p .realization)) (e .starts))
 
-    wanted-end : (ts : List Step) → Ends (startIn l) (endIn l) ts → (equal (pos 0) (pos (length ts)) || sameRealization (p .realization) (endIn l)) ≡ sameRealization (p .realization) (endOf (p .realization) ts)
+    wanted-end : (ts : List Step) → ChainEnds (startIn l) (endIn l) ts → (equal (pos 0) (pos (length ts)) || sameRealization (p .realization) (endIn l)) ≡ sameRealization (p .realization) (endOf (p .realization) ts)
     unfolding endOf
     wanted-end [] e = rw (no-steps, same-self (p .realization))
     wanted-end (s ∷ ts) e = rw (some-steps (length ts)) (ap (sameRealization (p .realization)) (e .ends))
 
-    reached-end : (ts : List Step) → Ends (startIn l) (endIn l) ts → reachedWith (pos (length ts)) (p .realization) (endIn l) ≡ endOf (p .realization) ts
+    reached-end : (ts : List Step) → ChainEnds (startIn l) (endIn l) ts → reachedWith (pos (length ts)) (p .realization) (endIn l) ≡ endOf (p .realization) ts
     unfolding endOf
     reached-end [] e = rw no-steps
     reached-end (s ∷ ts) e = rw (some-steps (length ts)) (e .ends)
 
-    reached-start : (ts : List Step) → Ends (startIn l) (endIn l) ts → reachedWith (pos (length ts)) (p .realization) (startIn l) ≡ startOf (p .realization) ts
+    reached-start : (ts : List Step) → ChainEnds (startIn l) (endIn l) ts → reachedWith (pos (length ts)) (p .realization) (startIn l) ≡ startOf (p .realization) ts
     unfolding startOf
     reached-start [] e = rw no-steps
     reached-start (s ∷ ts) e = rw (some-steps (length ts)) (e .starts)
 
-    -- a sound chain and a point with no fault leave the tests of the place
-    placed : (n : ℕ) (wanted : Realization) → first (ownTests y n ss) ≡ 0 → pointFault y p ≡ 0 → first (ownTests y n ss ++ (pointTests y p ++ placeTests p wanted)) ≡ first (placeTests p wanted)
+    -- a sound chain and a point with no fault leave the tests of its realization and of the area
+    point-then : (n : ℕ) (wanted : Realization) → first (ownTests y n ss) ≡ 0 → pointFault y p ≡ 0 → first (ownTests y n ss ++ (pointTests y p ++ realizationAndAreaTests p wanted)) ≡ first (realizationAndAreaTests p wanted)
     unfolding pointFault
-    placed n wanted good fault =
-        first-append (ownTests y n ss) (pointTests y p ++ placeTests p wanted) (numbered-steps y ss)
-        ∙ ap (λ (m : ℕ). orElse m (first (pointTests y p ++ placeTests p wanted))) good
-        ∙ first-append (pointTests y p) (placeTests p wanted) tt
-        ∙ ap (λ (m : ℕ). orElse m (first (placeTests p wanted))) fault
+    point-then n wanted good fault =
+        first-append (ownTests y n ss) (pointTests y p ++ realizationAndAreaTests p wanted) (numbered-steps y ss)
+        ∙ ap (λ (m : ℕ). orElse m (first (pointTests y p ++ realizationAndAreaTests p wanted))) good
+        ∙ first-append (pointTests y p) (realizationAndAreaTests p wanted) tt
+        ∙ ap (λ (m : ℕ). orElse m (first (realizationAndAreaTests p wanted))) fault
 
     pub prepared-forward : pointFault y p ≡ 0 → forwardPrepared l p ≡ forwardOf (chainOf y ss) p
     unfolding forwardPrepared forwardOf convert
@@ -118,7 +118,7 @@ module _ (y : ℤ) (l : List ℤ) (ss : List Step) (holds : Holds y l ss) where
         let g = rw (take-length ss) at (holds .sound) in
         rw (take-length ss, holds .count, reached-end ss (holds .ends))
         (ap₂ (λ (m : ℕ) (a : Answer). unless m Refused a)
-        (tests (length ss) (startIn l) (startOf (p .realization) ss) short (wanted-start ss (holds .ends)) ∙ sym (placed (length ss) (startOf (p .realization) ss) g fault))
+        (tests (length ss) (startIn l) (startOf (p .realization) ss) short (wanted-start ss (holds .ends)) ∙ sym (point-then (length ss) (startOf (p .realization) ss) g fault))
         (carried-walk forwardBy forwardStep forward-same p (endOf (p .realization) ss) ss (rowsOf l 1 (length ss)) (p .position) (holds .rows)))
 
     pub prepared-inverse : pointFault y p ≡ 0 → inversePrepared l p ≡ inverseOf (chainOf y ss) p
@@ -127,7 +127,7 @@ module _ (y : ℤ) (l : List ℤ) (ss : List Step) (holds : Holds y l ss) where
         let g = rw (take-length ss) at (holds .sound) in
         rw (take-length ss, holds .count, reached-start ss (holds .ends))
         (ap₂ (λ (m : ℕ) (a : Answer). unless m Refused a)
-        (tests (length ss) (endIn l) (endOf (p .realization) ss) short (wanted-end ss (holds .ends)) ∙ sym (placed (length ss) (endOf (p .realization) ss) g fault))
+        (tests (length ss) (endIn l) (endOf (p .realization) ss) short (wanted-end ss (holds .ends)) ∙ sym (point-then (length ss) (endOf (p .realization) ss) g fault))
         (carried-walk inverseBy inverseStep inverse-same p (startOf (p .realization) ss) (reverse ss) (reverse (rowsOf l 1 (length ss))) (p .position) (readied-back ss (rowsOf l 1 (length ss)) (holds .rows))))
 
 -- ---- a sound chain with one sound step more that joins it
@@ -144,7 +144,7 @@ sound-more y ss t e h f j =
     rw (take-length (ss ++ (t ∷ [])), m .0, a) (steps-joined y ss (t ∷ []) (n .1) (alone-passes y t f) j)
 
 -- ---- a prepared chain with a step more
-joined : (ss : List Step) (l : List ℤ) (s : Step) → Ends (startIn l) (endIn l) ss → (equal (pos 0) (pos (length ss)) || sameRealization (endIn l) (s .before)) ≡ joins ss s
+joined : (ss : List Step) (l : List ℤ) (s : Step) → ChainEnds (startIn l) (endIn l) ss → (equal (pos 0) (pos (length ss)) || sameRealization (endIn l) (s .before)) ≡ joins ss s
 unfolding endOf
 joined [] l s e = rw (no-steps, same-self (s .before))
 joined (t ∷ ss) l s e = rw (some-steps (length ss)) (ap (λ (r : Realization). sameRealization r (s .before)) (e .ends))
@@ -177,14 +177,14 @@ module _ (y : ℤ) (l : List ℤ) (ss : List Step) (s : Step) (holds : Holds y l
   ok : StepOk s
   ok = step-ok y s alone
 
-  place : (joins ss s ≡ true) × (leb 8 (length ss) ≡ false)
-  place =
+  joins-and-fits : (joins ss s ≡ true) × (leb 8 (length ss) ≡ false)
+  joins-and-fits =
       let f = both-pass (stepTests y s) (moreTests ss s) tt passed .1 in
       let g = head-holds (joins ss s) _ _ f in
       (g .0, step-passed (leb 8 (length ss)) _ 0 tt (g .1) .0)
 
   few : length ss < 8
-  few = leb-false 8 (length ss) (place .1)
+  few = leb-false 8 (length ss) (joins-and-fits .1)
 
   abbrev mid : List ℤ
   mid = sets l (8 * (length ss + 1)) (numbersOf (readyFor s))
@@ -218,7 +218,7 @@ module _ (y : ℤ) (l : List ℤ) (ss : List Step) (s : Step) (holds : Holds y l
     count = at-first 0 (omega arith) ∙ ap pos (sym (length-append ss (s ∷ [])));
     ends = rw (at-first 1 (omega arith), at-first 2 (omega arith), at-first 3 (omega arith), at-first 4 (omega arith)) (record { starts = start-more ss (startIn l) s (holds .ends .starts); ends = end-more ss (s .after) s });
     rows = rw (length-append) rows;
-    sound = sound-more y ss s (holds .sound) few alone (place .0);
+    sound = sound-more y ss s (holds .sound) few alone (joins-and-fits .0);
   }
 
   -- the extended numbers hold the chain with the step

@@ -16,7 +16,7 @@ use Rattle.chain.specs.declared.Chain.{Chain}
 use Rattle.chain.specs.declared.Answer.{Answer}
 use Rattle.chain.specs.declared.Answer.the-variants.{Converted, Refused}
 use Rattle.chain.specs.Faults.{inArea, sameRealization, pointTests, pointFault, chainTests, stepsOf}
-use Rattle.chain.specs.Convert.{Walk, at, left, onward, walk, forwardStep, inverseStep, startOf, endOf, placeTests, movedTo, answerOf, convert, forwardOf, inverseOf}
+use Rattle.chain.specs.Convert.{Walk, at, left, onward, walk, forwardStep, inverseStep, startOf, endOf, realizationAndAreaTests, movedTo, answerOf, convert, forwardOf, inverseOf}
 use Rattle.chain.specs.Join.{joinedOf}
 use Rattle.chain.proofs.Within.{same-self}
 use Rattle.chain.proofs.Walk.{walk-append, walk-area}
@@ -50,7 +50,7 @@ module _ (c : Chain) (good : first (chainTests c) ≡ 0) (p : Point) (wanted rea
 -- what a point that is let in keeps
 let-in-ok : (y : ℤ) (p : Point) (wanted : Realization) → entry y p wanted ≡ 0 → PointOk y p
 unfolding pointFault
-let-in-ok y p wanted e = point-ok y p (both-pass (pointTests y p) (placeTests p wanted) tt e .0)
+let-in-ok y p wanted e = point-ok y p (both-pass (pointTests y p) (realizationAndAreaTests p wanted) tt e .0)
 
 -- ---- one leg after another: by j the way is that by c and then that by d
 moved-answer : (p : Point) (r r' : Realization) (x : Position) (w : Walk) → answerOf (movedTo p r x) r' w ≡ answerOf p r' w
@@ -65,7 +65,7 @@ module _ (f : Step → Position → Position) (c d j : Chain) (gc : first (chain
   let-in x e i =
       let g = faultless (j .profile) (movedTo p mid x) (record { label = let-in-ok (j .profile) p wanted e .label; dated = fit e; given = area-given x i }) in
       ap (λ (y : ℤ). entry y (movedTo p mid x) wanted') ld
-      ∙ first-append (pointTests (j .profile) (movedTo p mid x)) (placeTests (movedTo p mid x) wanted') tt
+      ∙ first-append (pointTests (j .profile) (movedTo p mid x)) (realizationAndAreaTests (movedTo p mid x) wanted') tt
       ∙ rw (g, there, i)
 
   -- and goes on from there

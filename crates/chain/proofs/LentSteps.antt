@@ -16,42 +16,42 @@ use Rattle.chain.specs.declared.Realization.{Realization}
 use Rattle.chain.specs.declared.Step.{Step}
 use Rattle.chain.specs.Faults.{realizationRange, agrees, sameRealization, hasDatum, hasKind, hasStep, kindRange, kindRule, stepRange, StepOk, stepTests, joinTest, laterTests, stepsTests, chainTests}
 use Rattle.chain.specs.Convert.{startOf, endOf}
-use Rattle.chain.specs.Numbers.{stepFrom, noStep, placeFrom, placesFrom, chainFrom, stepsIn, dated, goodKind, follows, allFollow, goodSteps}
+use Rattle.chain.specs.Numbers.{stepFrom, noStep, stepOrNone, eightFrom, chainFrom, stepsIn, dated, goodKind, follows, allFollow, goodSteps}
 use Rattle.chain.proofs.Within.{same-is}
-use Rattle.chain.proofs.Places.{no-step, from, sound-at, start-at, end-at}
+use Rattle.chain.proofs.AtIndex.{no-step, from, sound-at, start-at, end-at}
 use Rattle.chain.proofs.Accepted.{Sound, chain-holds}
 
--- the rest of a row from a place on, as a part of it
+-- the rest of a row from an index on, as a part of it
 pub rest-is : (ns : List ℤ) (at : ℕ) → take (length ns - at) (drop at ns) ≡ drop at ns
 rest-is ns at =
     let whole : length (drop at ns) ≤ length ns - at = simp length-drop (omega arith) in
     take-all _ _ whole
 
 -- no numbers say no step
-pub no-places : placesFrom [] ≡ replicate 8 noStep
-unfolding placesFrom placeFrom
-no-places = refl
+pub eight-none : eightFrom [] ≡ replicate 8 noStep
+unfolding eightFrom stepOrNone
+eight-none = refl
 
--- ---- the step at a place
+-- ---- the step at an index
 module _ (ns : List ℤ) where
-  pub eight-places : length (placesFrom ns) ≡ 8
-  unfolding placesFrom
-  eight-places = refl
+  pub eight-steps : length (eightFrom ns) ≡ 8
+  unfolding eightFrom
+  eight-steps = refl
 
-  place-at : (i : ℕ) → i < 8 → getD (placesFrom ns) i no-step ≡ placeFrom (drop (13 * i) ns)
-  unfolding placesFrom
-  place-at zero h = refl
-  place-at (suc zero) h = refl
-  place-at (suc (suc zero)) h = refl
-  place-at (suc (suc (suc zero))) h = refl
-  place-at (suc (suc (suc (suc zero)))) h = refl
-  place-at (suc (suc (suc (suc (suc zero))))) h = refl
-  place-at (suc (suc (suc (suc (suc (suc zero)))))) h = refl
-  place-at (suc (suc (suc (suc (suc (suc (suc zero))))))) h = refl
-  place-at (suc (suc (suc (suc (suc (suc (suc (suc i)))))))) h = absurd (omega arith)
+  step-or-none-at : (i : ℕ) → i < 8 → getD (eightFrom ns) i no-step ≡ stepOrNone (drop (13 * i) ns)
+  unfolding eightFrom
+  step-or-none-at zero h = refl
+  step-or-none-at (suc zero) h = refl
+  step-or-none-at (suc (suc zero)) h = refl
+  step-or-none-at (suc (suc (suc zero))) h = refl
+  step-or-none-at (suc (suc (suc (suc zero)))) h = refl
+  step-or-none-at (suc (suc (suc (suc (suc zero))))) h = refl
+  step-or-none-at (suc (suc (suc (suc (suc (suc zero)))))) h = refl
+  step-or-none-at (suc (suc (suc (suc (suc (suc (suc zero))))))) h = refl
+  step-or-none-at (suc (suc (suc (suc (suc (suc (suc (suc i)))))))) h = absurd (omega arith)
 
-  first-is : 13 ≤ length ns → getD (placesFrom ns) 0 no-step ≡ stepFrom ns
-  unfolding placesFrom placeFrom
+  first-is : 13 ≤ length ns → getD (eightFrom ns) 0 no-step ≡ stepFrom ns
+  unfolding eightFrom stepOrNone
   first-is h = rw (le-leb 13 (length ns) h)
 
   module _ (few : length ns / 13 ≤ 8) (i : ℕ) (below : i < length ns / 13) where
@@ -59,28 +59,28 @@ module _ (ns : List ℤ) where
     pub whole : 13 * i + 13 ≤ length ns
     whole = omega arith
 
-    pub step-is : getD (placesFrom ns) i no-step ≡ stepFrom (drop (13 * i) ns)
-    unfolding placeFrom
+    pub step-is : getD (eightFrom ns) i no-step ≡ stepFrom (drop (13 * i) ns)
+    unfolding stepOrNone
     step-is =
         let h : 13 ≤ length (drop (13 * i) ns) = simp length-drop (omega (arith, whole)) in
-        place-at i (omega arith) ∙ (rw (le-leb 13 (length (drop (13 * i) ns)) h))
+        step-or-none-at i (omega arith) ∙ (rw (le-leb 13 (length (drop (13 * i) ns)) h))
 
     pub steps-from : drop i (stepsIn ns) ≡ stepFrom (drop (13 * i) ns) ∷ drop (i + 1) (stepsIn ns)
     steps-from =
-        from (placesFrom ns) (length ns / 13) i below (omega (arith, eight-places))
+        from (eightFrom ns) (length ns / 13) i below (omega (arith, eight-steps))
         ∙ ap (λ (s : Step). s ∷ drop (i + 1) (stepsIn ns)) step-is
 
     pub sound-step : Sound (stepsIn ns) → StepOk (stepFrom (drop (13 * i) ns))
-    sound-step ok = subst StepOk step-is (sound-at (placesFrom ns) (length ns / 13) i below (omega (arith, eight-places)) ok)
+    sound-step ok = subst StepOk step-is (sound-at (eightFrom ns) (length ns / 13) i below (omega (arith, eight-steps)) ok)
 
   -- where they start, and where they end
   pub starts-at : (r : Realization) → 13 ≤ length ns → startOf r (stepsIn ns) ≡ stepFrom ns .before
-  starts-at r h = start-at (placesFrom ns) (length ns / 13) r (omega arith) (omega (arith, eight-places)) ∙ ap (λ (s : Step). s .before) (first-is h)
+  starts-at r h = start-at (eightFrom ns) (length ns / 13) r (omega arith) (omega (arith, eight-steps)) ∙ ap (λ (s : Step). s .before) (first-is h)
 
   pub ends-at : (r : Realization) (few : length ns / 13 ≤ 8) (i : ℕ) (last : length ns / 13 ≡ suc i) → endOf r (stepsIn ns) ≡ stepFrom (drop (13 * i) ns) .after
   ends-at r few i last =
-      ap (λ (n : ℕ). endOf r (take n (placesFrom ns))) last
-      ∙ end-at (placesFrom ns) i r (omega (arith, eight-places))
+      ap (λ (n : ℕ). endOf r (take n (eightFrom ns))) last
+      ∙ end-at (eightFrom ns) i r (omega (arith, eight-steps))
       ∙ ap (λ (s : Step). s .after) (step-is few i (omega arith))
 
 -- what a chain with no fault keeps
@@ -93,7 +93,7 @@ module _ (y : ℤ) (ns : List ℤ) (few : length ns / 13 ≤ 8) where
   unfolding goodSteps
   good-begins h = subst⁻¹ (λ (ss : List Step). goodSteps y ss ≡ (dated y (stepFrom ns .before) && allFollow y (stepFrom ns .before) ss)) (steps-from ns few 0 h) refl
 
-  -- a turn: the step at place i, then the rest
+  -- a turn: the step at index i, then the rest
   module _ (i : ℕ) (below : i < length ns / 13) (end : Realization) (b : Bool) (left : allFollow y end (drop i (stepsIn ns)) ≡ b) where
     turn : (follows y end (stepFrom (drop (13 * i) ns)) && allFollow y (stepFrom (drop (13 * i) ns) .after) (drop (i + 1) (stepsIn ns))) ≡ b
     unfolding allFollow

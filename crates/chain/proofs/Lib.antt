@@ -9,7 +9,7 @@ pub mod Ends
 pub mod PointLaws
 pub mod Outcomes
 pub mod Prepared
-pub mod Places
+pub mod AtIndex
 pub mod Meeting
 pub mod KeptRows
 pub mod KeptTurns

@@ -13,22 +13,22 @@ use Rattle.rounding.proofs.Zn.{v, k, k-, _⊕_, _⊖_, eq, uneq, abs, unabs, ab
 use Rattle.rounding.proofs.Machine.{fits}
 
 -- the most that a part's numerator is, in size
-abbrev pub most : ℕ
-most = 8000000000000000000
+abbrev pub largestNumerator : ℕ
+largestNumerator = 8000000000000000000
 
 -- ---- the lifted number, by the sign of n
-pub turned : (n : ℤ) → natAbs n ≤ most → SFits w64 (negℤ n)
-turned n h = fits most (rw (abs-neg n) h) (omega arith)
+pub turned : (n : ℤ) → natAbs n ≤ largestNumerator → SFits w64 (negℤ n)
+turned n h = fits largestNumerator (rw (abs-neg n) h) (omega arith)
 
-pub below-casts : (n : ℤ) → ltZ n (pos 0) ≡ true → natAbs n ≤ most → T (nonNeg (negℤ n)) × Fits w64 (natAbs (negℤ n))
+pub below-casts : (n : ℤ) → ltZ n (pos 0) ≡ true → natAbs n ≤ largestNumerator → T (nonNeg (negℤ n)) × Fits w64 (natAbs (negℤ n))
 below-casts (pos m) l h = absurd (omega (arith, ltb-true m 0 l))
 below-casts (negsuc m) l h = (tt, record { fits = omega arith })
 
-pub below-lift : (n : ℤ) (lift : ℕ) → ltZ n (pos 0) ≡ true → natAbs n ≤ most → most ≤ lift → pos (lift - natAbs (negℤ n)) ≡ n +ℤ pos lift
+pub below-lift : (n : ℤ) (lift : ℕ) → ltZ n (pos 0) ≡ true → natAbs n ≤ largestNumerator → largestNumerator ≤ lift → pos (lift - natAbs (negℤ n)) ≡ n +ℤ pos lift
 below-lift (pos m) lift l h g = absurd (omega (arith, ltb-true m 0 l))
 below-lift (negsuc m) lift l h g = eq (k (lift - suc m)) (k- m ⊕ k lift) (omega arith)
 
-pub above-casts : (n : ℤ) → ltZ n (pos 0) ≡ false → natAbs n ≤ most → T (nonNeg n) × Fits w64 (natAbs n)
+pub above-casts : (n : ℤ) → ltZ n (pos 0) ≡ false → natAbs n ≤ largestNumerator → T (nonNeg n) × Fits w64 (natAbs n)
 above-casts (pos m) l h = (tt, record { fits = omega arith })
 above-casts (negsuc m) l h = let w : _≡_ {A = ℕ} 0 1 = cc in absurd (omega arith)
 
@@ -36,8 +36,8 @@ pub above-lift : (n : ℤ) (lift : ℕ) → ltZ n (pos 0) ≡ false → pos (lif
 above-lift (pos m) lift l = eq (k (lift + m)) (k m ⊕ k lift) (omega arith)
 above-lift (negsuc m) lift l = let w : _≡_ {A = ℕ} 0 1 = cc in absurd (omega arith)
 
-pub at-most : (n : ℤ) (u lift : ℕ) → pos u ≡ n +ℤ pos lift → natAbs n ≤ most → u ≤ most + lift
-at-most n u lift e h = omega (arith, uneq e (k u) (v n ⊕ k lift), unabs most h (v n))
+pub at-most : (n : ℤ) (u lift : ℕ) → pos u ≡ n +ℤ pos lift → natAbs n ≤ largestNumerator → u ≤ largestNumerator + lift
+at-most n u lift e h = omega (arith, uneq e (k u) (v n ⊕ k lift), unabs largestNumerator h (v n))
 
 -- ---- where the lift is small, the sum by itself: it is never below 0
 module _ (n : ℤ) (h : natAbs n ≤ 2000000000) where

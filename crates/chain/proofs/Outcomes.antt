@@ -17,7 +17,7 @@ use Rattle.chain.specs.declared.Answer.{Answer}
 use Rattle.chain.specs.declared.Answer.the-variants.{Converted, Refused}
 use Rattle.chain.specs.Faults.{hasDatum, hasKind, hasStep, givenPosition, inArea, pointTests, pointFault, laterTests, stepsTests, chainTests, stepsOf}
 use Rattle.chain.specs.Axes.{onX, onY, onZ}
-use Rattle.chain.specs.Convert.{Walk, at, left, walk, forwardStep, startOf, endOf, placeTests, conversionTests, movedTo, answerOf, convert, forwardOf}
+use Rattle.chain.specs.Convert.{Walk, at, left, walk, forwardStep, startOf, endOf, realizationAndAreaTests, conversionTests, movedTo, answerOf, convert, forwardOf}
 use Rattle.ranges.proofs.Ranges.{all, up-to-holds}
 use Rattle.chain.proofs.Within.{area-small}
 use Rattle.chain.proofs.PointLaws.{Dated, point-ok, faultless}
@@ -61,7 +61,7 @@ module _ (c : Chain) (p : Point) where
   short-steps (s ∷ ss) = short-later s ss
 
   short-tests : (wanted : Realization) → T (short (conversionTests c p wanted))
-  short-tests wanted = short-append (chainTests c) (pointTests (c .profile) p ++ placeTests p wanted) (short-steps (stepsOf c)) tt
+  short-tests wanted = short-append (chainTests c) (pointTests (c .profile) p ++ realizationAndAreaTests p wanted) (short-steps (stepsOf c)) tt
 
   from-walk : (r : Realization) (w : Walk) (k n : ℕ) → k < 100 → unless k Refused (answerOf p r w) ≡ Refused n → n < 100
   unfolding answerOf

@@ -22,7 +22,7 @@ use Rattle.chain.specs.Faults.{KindOk, StepOk}
 use Rattle.chain.specs.Rows.{rowOf}
 use Rattle.chain.specs.Parts.{stepRound, Parts, linear, part, gain, fixed, shiftAt, scaleAt, shiftParts, velocityParts, bursaWolfParts, frameParts, kindParts, partsOf, plus, minus, forwardBy, again, inverseBy}
 use Rattle.chain.specs.Axes.{Axis, onX, onY, onZ, coordinate, partOn, Small}
-use Rattle.chain.specs.Ready.{position, moved, movedOf, turnOf, overOf, scaleOf, readyKind, readyFor, readyParts, slopeParts, ReadyOk, Prepares}
+use Rattle.chain.specs.Ready.{position, moved, movedOf, turnOf, overOf, frameScale, readyKind, readyFor, readyParts, slopeParts, ReadyOk, Prepares}
 use Rattle.chain.proofs.Rounding.{step-size, step-whole}
 use Rattle.chain.proofs.StepLaws.{Mild, Milds, nothing, part-small, small-le, again-small}
 use Rattle.chain.proofs.Sizes.{milds, fixed-mild, turned-mild, shift-ok, velocity-ok, velocity-years, moved-size, bursa-wolf-ok, turned-size, row-ok, frame-years, shift-at-size, scale-at-size}
@@ -158,7 +158,7 @@ module _ (s : Step) (ok : StepOk s) where
         };
       }
 
-  pub frame-prepares : s .kind ≡ Frame → Prepares s (Scaled (scaleOf (rowOf (s .before .datum)) (s .before .epoch -ℤ pos 2010000)))
+  pub frame-prepares : s .kind ≡ Frame → Prepares s (Scaled (frameScale (rowOf (s .before .datum)) (s .before .epoch -ℤ pos 2010000)))
   unfolding kindParts frameParts
   frame-prepares e =
       let row = rowOf (s .before .datum) in

@@ -20,9 +20,9 @@ use Rattle.chain.specs.declared.Answer.the-variants.{Converted, Refused}
 use Rattle.chain.specs.declared.Direction.{Direction}
 use Rattle.chain.specs.declared.Direction.the-variants.{Forward, Inverse}
 use Rattle.chain.specs.Faults.{stepFault, pointFault, pointTests, stepTests, stepsTests, chainTests, stepsOf}
-use Rattle.chain.specs.Convert.{Walk, walk, forwardStep, inverseStep, answerOf, startOf, endOf, moreTests, placeTests, convert, forwardOf, inverseOf}
+use Rattle.chain.specs.Convert.{Walk, walk, forwardStep, inverseStep, answerOf, startOf, endOf, moreTests, realizationAndAreaTests, convert, forwardOf, inverseOf}
 use Rattle.chain.specs.Prepared.{extendedBy, chainOf, Holds}
-use Rattle.chain.specs.PointRow.{convertOf, noNumbers, extendedAll, readyOf, convertPrepared, convertReady}
+use Rattle.chain.specs.PointRow.{convertOf, noNumbers, extendedAll, readyChainOf, convertPrepared, convertReady}
 use Rattle.chain.proofs.Accepted.{numbered-steps, chain-passed, entry, by-chain, by-point}
 use Rattle.chain.proofs.Keeping.{steps-at, extended-holds, holds-none, prepared-forward, prepared-inverse}
 
@@ -54,7 +54,7 @@ ready-holds c e =
 module _ (c : Chain) (good : first (chainTests c) ≡ 0) (p : Point) (wanted reached : Realization) (w : Walk) where
   silent : convert c p wanted reached w ≡ unless (entry (c .profile) p wanted) Refused (answerOf p reached w)
   unfolding convert
-  silent = ap (λ (n : ℕ). unless n Refused (answerOf p reached w)) (on (chainTests c) (pointTests (c .profile) p ++ placeTests p wanted) (passed (chainTests c) (numbered-steps (c .profile) (stepsOf c)) good))
+  silent = ap (λ (n : ℕ). unless n Refused (answerOf p reached w)) (on (chainTests c) (pointTests (c .profile) p ++ realizationAndAreaTests p wanted) (passed (chainTests c) (numbered-steps (c .profile) (stepsOf c)) good))
 
 module _ (c : Chain) (good : first (chainTests c) ≡ 0) (p : Point) where
   abbrev steps : Chain
@@ -93,7 +93,7 @@ module _ (c : Chain) (p : Point) where
   module _ (good : first (chainTests c) ≡ 0) where
     point-first : (pointFault (c .profile) p ≡ 0 → ⊥) → (wanted : Realization) → pointFault (c .profile) p ≡ entry (c .profile) p wanted
     unfolding pointFault
-    point-first h wanted = sym (stop (pointTests (c .profile) p) (placeTests p wanted) h)
+    point-first h wanted = sym (stop (pointTests (c .profile) p) (realizationAndAreaTests p wanted) h)
 
     refused-point : (pointFault (c .profile) p ≡ 0 → ⊥) → (wanted reached : Realization) (w : Walk) → Refused (pointFault (c .profile) p) ≡ convert c p wanted reached w
     refused-point h wanted reached w = let e = point-first h wanted in ap Refused e ∙ by-point c p wanted reached w good (λ f. h (e ∙ f))
@@ -114,8 +114,8 @@ either zero f g = f refl
 either (suc n) f g = g (λ e. absurd (omega arith))
 
 -- a point by a chain that is ready is the single conversion by the chain, for every chain and every point
-pub ready-converts : (c : Chain) (d : Direction) (p : Point) → convertReady (readyOf c) d p ≡ convertOf c d p
-unfolding convertReady readyOf
+pub ready-converts : (c : Chain) (d : Direction) (p : Point) → convertReady (readyChainOf c) d p ≡ convertOf c d p
+unfolding convertReady readyChainOf
 ready-converts c d p =
     either (first (chainTests c))
     (λ good. unless-none _ Refused _ good ∙ either (pointFault (c .profile) p)
@@ -124,16 +124,16 @@ ready-converts c d p =
     (λ h. unless-some _ Refused _ h ∙ chain-decides c p h d)
 
 -- ---- what the code makes ready, and how it answers
-pub ready-fault : (c : Chain) {w : ReadyChain} → w ≡ readyOf c → w .refusal ≡ first (chainTests c)
-unfolding readyOf
+pub ready-fault : (c : Chain) {w : ReadyChain} → w ≡ readyChainOf c → w .refusal ≡ first (chainTests c)
+unfolding readyChainOf
 ready-fault c e = ap (λ (w : ReadyChain). w .refusal) e
 
-pub ready-refused : (c : Chain) {n : ℕ} {y : ℤ} → n ≡ first (chainTests c) → y ≡ c .profile → (n ≡ 0 → ⊥) → record { refusal = n; profile = y; numbers = noNumbers } ≡ readyOf c
-unfolding readyOf
+pub ready-refused : (c : Chain) {n : ℕ} {y : ℤ} → n ≡ first (chainTests c) → y ≡ c .profile → (n ≡ 0 → ⊥) → record { refusal = n; profile = y; numbers = noNumbers } ≡ readyChainOf c
+unfolding readyChainOf
 ready-refused c e f h = rw (e, f, unless-some (first (chainTests c)) (λ (n : ℕ). noNumbers) (extendedAll (c .profile) noNumbers (stepsOf c)) (λ z. h (e ∙ z)))
 
-pub ready-steps : (c : Chain) {n : ℕ} {y : ℤ} {l : List ℤ} → n ≡ first (chainTests c) → y ≡ c .profile → n ≡ 0 → l ≡ extendedAll (c .profile) noNumbers (stepsOf c) → record { refusal = n; profile = y; numbers = l } ≡ readyOf c
-unfolding readyOf
+pub ready-steps : (c : Chain) {n : ℕ} {y : ℤ} {l : List ℤ} → n ≡ first (chainTests c) → y ≡ c .profile → n ≡ 0 → l ≡ extendedAll (c .profile) noNumbers (stepsOf c) → record { refusal = n; profile = y; numbers = l } ≡ readyChainOf c
+unfolding readyChainOf
 ready-steps c e f h g = rw (e, f, g, unless-none (first (chainTests c)) (λ (n : ℕ). noNumbers) (extendedAll (c .profile) noNumbers (stepsOf c)) (sym e ∙ h))
 
 module _ (w : ReadyChain) (d : Direction) (p : Point) where

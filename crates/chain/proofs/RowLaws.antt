@@ -14,7 +14,7 @@ use Rattle.chain.specs.declared.Chain.{Chain}
 use Rattle.chain.specs.declared.Answer.{Answer}
 use Rattle.chain.specs.declared.Direction.{Direction}
 use Rattle.chain.specs.Faults.{chainTests}
-use Rattle.chain.specs.PointRow.{convertOf, rowFault, faultOf, unlessFault, rowOf}
+use Rattle.chain.specs.PointRow.{convertOf, rowFault, rowFaultOf, unlessFault, rowAnswers}
 
 module _ {A B : Type 0} (f : A → B) where
   -- the first i are done, the others as they were
@@ -52,18 +52,18 @@ long false k m n l h e = nltb→le n m (rw h tt)
 
 module _ (c : Chain) (d : Direction) (xs : List Point) (ys : List Answer) where
   -- where there is a fault nothing is written
-  pub row-refused : (faultOf c xs ys ≡ 0 → ⊥) → ys ≡ rowOf c d xs ys
-  unfolding rowOf
-  row-refused h = kept (faultOf c xs ys) _ h
+  pub row-refused : (rowFaultOf c xs ys ≡ 0 → ⊥) → ys ≡ rowAnswers c d xs ys
+  unfolding rowAnswers
+  row-refused h = kept (rowFaultOf c xs ys) _ h
     where
       kept : (n : ℕ) (new : List Answer) → (n ≡ 0 → ⊥) → ys ≡ unlessFault n ys new
       kept zero new h = absurd (h refl)
       kept (suc n) new h = refl
 
-  pub row-done : faultOf c xs ys ≡ 0 → cur (convertOf c d) xs ys (length xs) ≡ rowOf c d xs ys
-  unfolding rowOf
+  pub row-done : rowFaultOf c xs ys ≡ 0 → cur (convertOf c d) xs ys (length xs) ≡ rowAnswers c d xs ys
+  unfolding rowAnswers
   row-done h = rw h (cur-all (convertOf c d) xs ys)
 
-  pub row-long : faultOf c xs ys ≡ 0 → length xs ≤ length ys
+  pub row-long : rowFaultOf c xs ys ≡ 0 → length xs ≤ length ys
   unfolding rowFault
   row-long h = long (ltb (length ys) (length xs)) _ (length xs) (length ys) (first (chainTests c)) refl h

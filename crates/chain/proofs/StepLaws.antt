@@ -238,7 +238,7 @@ module _ (t : Parts) (mild : Milds t) where
   home-off : (q : Position) → Small 650000000000 q → Off 180000000 (move t q q) q
   home-off q s = record { on = λ i. rw (move-on i t q q) (home (coordinate i q) (part (partOn i t) q) 180000000 (part-small (partOn i t) q (mild .on i) s)) }
 
-  -- from one place, by gains at positions e apart, L + 1 apart
+  -- from one position, by gains at positions e apart, L + 1 apart
   turn-off : (q c d : Position) (e L : ℕ) → Off e c d → e ≤ 8500 * (L + 1) → Off (L + 1) (move t q c) (move t q d)
   turn-off q c d e L h l = record {
     on = λ i. rw (move-on i t q c, move-on i t q d)

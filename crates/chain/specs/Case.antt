@@ -36,7 +36,7 @@ xyz x y z = record { x = x; y = y; z = z }
 abbrev pub point : Realization → Position → Point
 point r p = record { label = record { id = record { high = 0x4131_0000_0000_0000; low = 0 }; issue = pos 1; order = pos 1 }; realization = r; position = p }
 
--- a chain of one step, of the edition of 2021; the places past its length are not examined
+-- a chain of one step, of the edition of 2021; the steps past its length are not examined
 abbrev pub chain : Kind → Realization → Realization → Chain
 chain kind r a = record { steps = replicate 8 (record { kind = kind; before = r; after = a }); length = 1; profile = pos 2021 }
 

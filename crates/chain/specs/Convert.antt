@@ -57,11 +57,11 @@ moreTests ss s = (not (joins ss s) gives refusal.join) ∷ (leb 8 (length ss) gi
 
 -- ---- the answer
 -- the chain first, then the point: its numbers, whether it is where the chain wants it, and the area
-abbrev pub placeTests : Point → Realization → List Test
-placeTests p wanted = (not (sameRealization (p .realization) wanted) gives refusal.start) ∷ (not (inArea (p .position)) gives refusal.area) ∷ []
+abbrev pub realizationAndAreaTests : Point → Realization → List Test
+realizationAndAreaTests p wanted = (not (sameRealization (p .realization) wanted) gives refusal.start) ∷ (not (inArea (p .position)) gives refusal.area) ∷ []
 
 abbrev pub conversionTests : Chain → Point → Realization → List Test
-conversionTests c p wanted = chainTests c ++ (pointTests (c .profile) p ++ placeTests p wanted)
+conversionTests c p wanted = chainTests c ++ (pointTests (c .profile) p ++ realizationAndAreaTests p wanted)
 
 -- the point at another position: its label (id, issue and order) passes through
 abbrev pub movedTo : Point → Realization → Position → Point

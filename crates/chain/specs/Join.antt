@@ -15,9 +15,9 @@ use Rattle.chain.specs.declared.Joined.{Joined}
 use Rattle.chain.specs.Faults.{chainTests, stepsOf}
 use Rattle.chain.specs.Convert.{joins}
 
--- what stands past a chain's places: no chain looks there
-abbrev pub noStep : Step
-noStep = record {
+-- what stands past a chain's eight steps: no chain looks there
+abbrev pub pastSteps : Step
+pastSteps = record {
   kind = Shift (record { dx = pos 0; dy = pos 0; dz = pos 0 });
   before = record { datum = pos 0; epoch = pos 0 };
   after = record { datum = pos 0; epoch = pos 0 };
@@ -43,7 +43,7 @@ pairTests c d =
 abbrev pub joinTests : Chain → Chain → List Test
 joinTests c d = chainTests c ++ (chainTests d ++ pairTests c d)
 
--- the second's steps stand after the first's; the places past them are the first's, and no chain looks at them
+-- the second's steps stand after the first's; what stands past them is the first's, and no chain looks at it
 unfoldable pub joinedSteps : Chain → Chain → List Step
 joinedSteps c d = stepsOf c ++ (stepsOf d ++ drop (together c d) (c .steps))
 

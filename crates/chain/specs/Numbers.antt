@@ -15,13 +15,13 @@ use Rattle.chain.specs.declared.Step.{Step}
 use Rattle.chain.specs.declared.Chain.{Chain}
 use Rattle.chain.specs.Faults.{realizationRange, agrees, sameRealization, hasDatum, hasKind, kindRange, kindRule}
 
--- the number at a place, and whether it is that letter's
+-- the number at an index, and whether it is that letter's
 abbrev pub number : List ℤ → ℕ → ℤ
 number ns i = getD ns i (pos 0)
 
-abbrev pub letter : ℤ → ℕ → Bool
-letter (pos n) l = eqb n l
-letter (negsuc n) l = false
+abbrev pub isLetter : ℤ → ℕ → Bool
+isLetter (pos n) l = eqb n l
+isLetter (negsuc n) l = false
 
 -- the letters of the kinds, T, V, B and F, and of a Bursa-Wolf step's conventions, P and C
 abbrev pub shiftLetter : ℕ
@@ -45,9 +45,9 @@ coordinateFrameLetter = 67
 abbrev pub realization : ℤ → ℤ → Realization
 realization datum epoch = record { datum = datum; epoch = epoch }
 
--- ---- a step: kind, convention, datum and epoch before, datum and epoch after, and from place 6 on the numbers of its kind
+-- ---- a step: kind, convention, datum and epoch before, datum and epoch after, and from index 6 on the numbers of its kind
 
--- no known kind, or no known convention of a Bursa-Wolf step: a shift past its range, so that the chain refuses it with 2 at its place
+-- no known kind, or no known convention of a Bursa-Wolf step: a shift past its range, so that the chain refuses it with 2 where it stands
 abbrev pub unknown : Kind
 unknown = Shift (record { dx = pos 100000001; dy = pos 0; dz = pos 0 })
 
@@ -71,16 +71,16 @@ bursaWolfFrom convention ns = BursaWolf (record {
 
 unfoldable pub turnedFrom : List ℤ → Kind
 turnedFrom ns =
-    pick (letter (number ns 1) positionVectorLetter) (bursaWolfFrom PositionVector ns)
-    (pick (letter (number ns 1) coordinateFrameLetter) (bursaWolfFrom CoordinateFrame ns)
+    pick (isLetter (number ns 1) positionVectorLetter) (bursaWolfFrom PositionVector ns)
+    (pick (isLetter (number ns 1) coordinateFrameLetter) (bursaWolfFrom CoordinateFrame ns)
     unknown)
 
 unfoldable pub kindFrom : List ℤ → Kind
 kindFrom ns =
-    pick (letter (number ns 0) shiftLetter) (shiftFrom ns)
-    (pick (letter (number ns 0) velocityLetter) (velocityFrom ns)
-    (pick (letter (number ns 0) bursaWolfLetter) (turnedFrom ns)
-    (pick (letter (number ns 0) frameLetter) Frame
+    pick (isLetter (number ns 0) shiftLetter) (shiftFrom ns)
+    (pick (isLetter (number ns 0) velocityLetter) (velocityFrom ns)
+    (pick (isLetter (number ns 0) bursaWolfLetter) (turnedFrom ns)
+    (pick (isLetter (number ns 0) frameLetter) Frame
     unknown)))
 
 unfoldable pub stepFrom : List ℤ → Step
@@ -91,28 +91,28 @@ stepFrom ns = record {
 }
 
 -- ---- a chain: its profile, and 13 numbers to a step, one step after the other
--- a place past the last step holds a step of no known kind: no chain looks at it
+-- past the last step there stands a step of no known kind: no chain looks at it
 unfoldable pub noStep : Step
 noStep = record { kind = unknown; before = realization (pos 0) (pos 0); after = realization (pos 0) (pos 0) }
 
-unfoldable pub placeFrom : List ℤ → Step
-placeFrom ns = pick (leb 13 (length ns)) (stepFrom ns) noStep
+unfoldable pub stepOrNone : List ℤ → Step
+stepOrNone ns = pick (leb 13 (length ns)) (stepFrom ns) noStep
 
-unfoldable pub placesFrom : List ℤ → List Step
-placesFrom ns =
-    placeFrom ns
-    ∷ placeFrom (drop 13 ns)
-    ∷ placeFrom (drop 26 ns)
-    ∷ placeFrom (drop 39 ns)
-    ∷ placeFrom (drop 52 ns)
-    ∷ placeFrom (drop 65 ns)
-    ∷ placeFrom (drop 78 ns)
-    ∷ placeFrom (drop 91 ns)
+unfoldable pub eightFrom : List ℤ → List Step
+eightFrom ns =
+    stepOrNone ns
+    ∷ stepOrNone (drop 13 ns)
+    ∷ stepOrNone (drop 26 ns)
+    ∷ stepOrNone (drop 39 ns)
+    ∷ stepOrNone (drop 52 ns)
+    ∷ stepOrNone (drop 65 ns)
+    ∷ stepOrNone (drop 78 ns)
+    ∷ stepOrNone (drop 91 ns)
     ∷ []
 
 -- past the eighth the steps are counted and not read
 abbrev pub chainFrom : ℤ → List ℤ → Chain
-chainFrom y ns = record { steps = placesFrom ns; length = length ns / 13; profile = y }
+chainFrom y ns = record { steps = eightFrom ns; length = length ns / 13; profile = y }
 
 -- ---- how the code tests a chain as numbers: a step begins where the one before it ended, so that only its end is looked at
 -- a datum at an epoch, as a step under a profile may say it
@@ -136,4 +136,4 @@ goodSteps y (s ∷ ss) = dated y (s .before) && allFollow y (s .before) (s ∷ s
 
 -- the steps within the numbers
 abbrev pub stepsIn : List ℤ → List Step
-stepsIn ns = take (length ns / 13) (placesFrom ns)
+stepsIn ns = take (length ns / 13) (eightFrom ns)

@@ -27,8 +27,8 @@ convertOf c Inverse p = inverseOf c p
 unfoldable pub rowFault : Chain → ℕ → ℕ → ℕ
 rowFault c m n = first ((ltb n m gives refusal.row) ∷ chainTests c)
 
-abbrev pub faultOf : Chain → List Point → List Answer → ℕ
-faultOf c ps rs = rowFault c (length ps) (length rs)
+abbrev pub rowFaultOf : Chain → List Point → List Answer → ℕ
+rowFaultOf c ps rs = rowFault c (length ps) (length rs)
 
 -- the answers where the row is not refused, and else what was there
 abbrev pub unlessFault : {A : Type 0} → ℕ → A → A → A
@@ -36,8 +36,8 @@ unlessFault zero old new = new
 unlessFault (suc n) old new = old
 
 -- an answer for each point, in order; then what was there
-unfoldable pub rowOf : Chain → Direction → List Point → List Answer → List Answer
-rowOf c d ps rs = unlessFault (faultOf c ps rs) rs (map (convertOf c d) ps ++ drop (length ps) rs)
+unfoldable pub rowAnswers : Chain → Direction → List Point → List Answer → List Answer
+rowAnswers c d ps rs = unlessFault (rowFaultOf c ps rs) rs (map (convertOf c d) ps ++ drop (length ps) rs)
 
 -- ---- a chain made ready for many points. What must hold of it is `ready-converts` in proofs/Readying.antt: a point by it is the single conversion by the chain
 -- the prepared chain of no steps, and steps put to one, the first first
@@ -49,8 +49,8 @@ extendedAll y l [] = l
 extendedAll y l (s ∷ ss) = extendedAll y (extendedBy y l s) ss
 
 -- its own fault, and with none its steps
-unfoldable pub readyOf : Chain → ReadyChain
-readyOf c = record {
+unfoldable pub readyChainOf : Chain → ReadyChain
+readyChainOf c = record {
   refusal = first (chainTests c);
   profile = c .profile;
   numbers = unless (first (chainTests c)) (λ n. noNumbers) (extendedAll (c .profile) noNumbers (stepsOf c));

@@ -160,13 +160,13 @@ Readied (s ∷ ss) [] = ⊥
 Readied (s ∷ ss) (r ∷ rs) = (r .good ≡ true) × (Prepares s (r .ready)) × Readied ss rs
 
 -- start and end are those of the steps, if there are any
-pub record Ends (start end : Realization) (ss : List Step) : Type 0 where
+pub record ChainEnds (start end : Realization) (ss : List Step) : Type 0 where
   pub starts : start ≡ startOf start ss
   pub ends : end ≡ endOf end ss
 
 pub record Holds (y : ℤ) (l : List ℤ) (ss : List Step) : Type 0 where
   pub room : length l ≡ 72
   pub count : lengthIn l ≡ pos (length ss)
-  pub ends : Ends (startIn l) (endIn l) ss
+  pub ends : ChainEnds (startIn l) (endIn l) ss
   pub rows : Readied ss (rowsOf l 1 (length ss))
   pub sound : first (chainTests (chainOf y ss)) ≡ 0

@@ -84,14 +84,14 @@ turnOf t = record {
 abbrev pub overOf : ℤ → ℤ
 overOf t = negℤ (t *ℤ pos 100000000000)
 
-abbrev pub scaleOf : List ℤ → ℤ → Scale
-scaleOf row dt = record { kx = overOf (shiftAt row dt 0); ky = overOf (shiftAt row dt 1); kz = overOf (shiftAt row dt 2); slope = negℤ (scaleAt row dt) }
+abbrev pub frameScale : List ℤ → ℤ → Scale
+frameScale row dt = record { kx = overOf (shiftAt row dt 0); ky = overOf (shiftAt row dt 1); kz = overOf (shiftAt row dt 2); slope = negℤ (scaleAt row dt) }
 
 unfoldable pub readyKind : Kind → Realization → Realization → Ready
 readyKind (Shift t) r a = Fixed (position (t .dx) (t .dy) (t .dz))
 readyKind (Velocity t) r a = Fixed (movedOf t (a .epoch -ℤ r .epoch))
 readyKind (BursaWolf t) r a = Turned (turnOf t)
-readyKind Frame r a = Scaled (scaleOf (rowOf (r .datum)) (r .epoch -ℤ pos 2010000))
+readyKind Frame r a = Scaled (frameScale (rowOf (r .datum)) (r .epoch -ℤ pos 2010000))
 
 abbrev pub readyFor : Step → Ready
 readyFor s = readyKind (s .kind) (s .before) (s .after)

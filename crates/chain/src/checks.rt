@@ -4,7 +4,7 @@ ghost use mathlib.Core.List.{_++_, _∷_, []};
 ghost use Prim.Native.Nat.{_≤_};
 ghost use Rattle.refusal.specs.Order.{first};
 ghost use Rattle.chain.specs.Faults.{stepTests, joinTest, stepsTests, chainTests, pointTests, stepsOf};
-ghost use Rattle.chain.specs.Convert.{placeTests};
+ghost use Rattle.chain.specs.Convert.{realizationAndAreaTests};
 use crate::Chain;
 use crate::Point;
 use crate::Realization;
@@ -71,7 +71,7 @@ pub fn chain_fault(chain: Chain) -> u8
 
 // The refusal of a point for a conversion of a profile that wants it at a realization: its numbers, PROFILE, START, AREA, or 0 for none.
 pub(crate) fn entry_fault(profile: i64, point: Point, wanted: Realization) -> u8
-    ensures { λ r. ⌜ r ≡ first (pointTests profile point ++ placeTests point wanted) ⌝ }
+    ensures { λ r. ⌜ r ≡ first (pointTests profile point ++ realizationAndAreaTests point wanted) ⌝ }
 {
     let f = faults::point_fault(profile, point);
     if f != 0 {

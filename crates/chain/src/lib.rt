@@ -111,7 +111,7 @@ pub struct Step {
 // The profile of a job that names no edition.
 pub const LATEST: i64 = 2021;
 
-// A chain: the first `length` of its eight places, under a profile, which is the edition of the circular that the job names: 2009 or 2021. That of 2009 has
+// A chain: the first `length` of its eight steps, under a profile, which is the edition of the circular that the job names: 2009 or 2021. That of 2009 has
 // datums 1 to 5 and 7, and of the steps T and B alone.
 pub struct Chain {
     pub steps: [Step; 8],

@@ -2,7 +2,7 @@
 ghost use mathlib.Core.Path.{_≡_};
 ghost use Prim.Native.Nat.{_+_, _*_, _≤_};
 ghost use lib.ListN.{length, drop};
-ghost use Rattle.chain.specs.Numbers.{bursaWolfFrom, turnedFrom, kindFrom, stepFrom, noStep, placeFrom, chainFrom, unknown as Numbers·unknown, shiftFrom, velocityFrom};
+ghost use Rattle.chain.specs.Numbers.{bursaWolfFrom, turnedFrom, kindFrom, stepFrom, noStep, stepOrNone, chainFrom, unknown as Numbers·unknown, shiftFrom, velocityFrom};
 use crate::BursaWolf;
 use crate::Chain;
 use crate::Convention;
@@ -149,7 +149,7 @@ fn step_from(n: &[i64]) -> Step
     }
 }
 
-// The step at a place that there is.
+// The step at an index that there is.
 pub(crate) fn step_at(n: &[i64], i: usize) -> Step
     requires { ⌜ 13 * i + 13 ≤ length (now n) ⌝ }
     ensures { λ r. ⌜ r ≡ stepFrom (drop (13 * i) (now (n .entry))) ⌝ }
@@ -167,7 +167,7 @@ pub(crate) fn after_at(n: &[i64], i: usize) -> Realization
     after_in(&n[at..])
 }
 
-// What stands at the places past a chain's steps.
+// What stands past a chain's steps.
 fn no_step() -> Step
     ensures { λ r. ⌜ r ≡ noStep ⌝ }
 {
@@ -179,9 +179,9 @@ fn no_step() -> Step
     }
 }
 
-// The step that begins at a place, or none.
-fn place_from(n: &[i64], at: usize) -> Step
-    ensures { λ r. ⌜ r ≡ placeFrom (drop at (now (n .entry))) ⌝ }
+// The step that begins at an index, or none.
+fn step_or_none(n: &[i64], at: usize) -> Step
+    ensures { λ r. ⌜ r ≡ stepOrNone (drop at (now (n .entry))) ⌝ }
 {
     if at <= n.len() {
         if STEP <= n.len() - at {
@@ -198,14 +198,14 @@ pub fn chain_from(profile: i64, n: &[i64]) -> Chain
     let length = n.len() / STEP;
     Chain {
         steps: [
-            place_from(n, 0),
-            place_from(n, 13),
-            place_from(n, 26),
-            place_from(n, 39),
-            place_from(n, 52),
-            place_from(n, 65),
-            place_from(n, 78),
-            place_from(n, 91),
+            step_or_none(n, 0),
+            step_or_none(n, 13),
+            step_or_none(n, 26),
+            step_or_none(n, 39),
+            step_or_none(n, 52),
+            step_or_none(n, 65),
+            step_or_none(n, 78),
+            step_or_none(n, 91),
         ],
         length,
         profile,

@@ -2,7 +2,7 @@
 ghost use mathlib.Core.Path.{_≡_};
 ghost use Rattle.refusal.specs.Order.{first};
 ghost use Rattle.chain.specs.Faults.{chainTests, stepsOf};
-ghost use Rattle.chain.specs.PointRow.{noNumbers, extendedAll, readyOf, convertReady, rowFault, faultOf, rowOf};
+ghost use Rattle.chain.specs.PointRow.{noNumbers, extendedAll, readyChainOf, convertReady, rowFault, rowFaultOf, rowAnswers};
 use crate::Answer;
 use crate::Chain;
 use crate::Direction;
@@ -32,7 +32,7 @@ fn prepare_steps(chain: Chain) -> Prepared
 
 // A chain made ready for many points. A bad chain has its own refusal number in it (RANGE for its profile, NINTH, then each step's), and no steps.
 pub fn ready_chain(chain: Chain) -> ReadyChain
-    ensures { λ r. ⌜ r ≡ readyOf chain ⌝ }
+    ensures { λ r. ⌜ r ≡ readyChainOf chain ⌝ }
 {
     let fault = checks::chain_fault(chain);
     let profile = chain.profile;
@@ -79,7 +79,7 @@ fn row_fault(chain: Chain, points: usize, answers: usize) -> u8
     checks::chain_fault(chain)
 }
 
-// Each point of a lent row by one chain. The first answers are those of `forward` or `inverse` for each point, in order, refused or not; places past the
+// Each point of a lent row by one chain. The first answers are those of `forward` or `inverse` for each point, in order, refused or not; answers past the
 // points are left as they were. A row of answers that is too short, or a bad chain, gives its number and writes nothing; else 0.
 pub fn convert_row(
     chain: Chain,
@@ -87,8 +87,8 @@ pub fn convert_row(
     points: &[Point],
     answers: &mut [Answer],
 ) -> u8
-    ensures { λ r. ⌜ (r ≡ faultOf chain (now (points .entry)) (now (answers .entry)))
-        × (now (answers .exit) ≡ rowOf chain direction (now (points .entry)) (now (answers .entry))) ⌝ }
+    ensures { λ r. ⌜ (r ≡ rowFaultOf chain (now (points .entry)) (now (answers .entry)))
+        × (now (answers .exit) ≡ rowAnswers chain direction (now (points .entry)) (now (answers .entry))) ⌝ }
 {
     let fault = row_fault(chain, points.len(), answers.len());
     if fault == 0 {

@@ -7,7 +7,7 @@ ghost use Rattle.chain.specs.Faults.{StepOk};
 ghost use Rattle.chain.specs.Parts.{stepRound, byConvention, rotation11, scaledRotation, atEpoch, part, over11, gain, plus, minus, forwardBy, again, inverseBy};
 ghost use Rattle.chain.specs.Rows.{rowOf};
 ghost use Rattle.chain.specs.Axes.{Small};
-ghost use Rattle.chain.specs.Ready.{position, movedOf, turnOf, scaleOf, readyFor, turnParts, slopeParts, readyParts, ReadyOk, TurnOk, ScaleOk, PartOk, LinearOk};
+ghost use Rattle.chain.specs.Ready.{position, movedOf, turnOf, frameScale, readyFor, turnParts, slopeParts, readyParts, ReadyOk, TurnOk, ScaleOk, PartOk, LinearOk};
 use crate::BursaWolf;
 use crate::Convention;
 use crate::Kind;
@@ -165,7 +165,7 @@ fn shift_over14(t: i64, tv: i64, dt: i64) -> i64
 
 fn frame_ready(step: Step) -> Scale
     requires { ⌜ (StepOk step) × (step .kind ≡ Kind.Frame) ⌝ }
-    ensures { λ r. ⌜ r ≡ scaleOf (rowOf (step .before .datum)) (step .before .epoch -ℤ pos 2010000) ⌝ }
+    ensures { λ r. ⌜ r ≡ frameScale (rowOf (step .before .datum)) (step .before .epoch -ℤ pos 2010000) ⌝ }
 {
     let before = step.before;
     let dt = before.epoch - 2010000;

@@ -40,25 +40,25 @@ cosineTable =
     ∷ []
 
 -- 1.0 divided by n
-abbrev pub part : ℕ → Float
-part n = # 1 ⊘ # n
+abbrev pub oneOver : ℕ → Float
+oneOver n = # 1 ⊘ # n
 
 -- 1/25, 1/23, .. 1/1, likewise
 abbrev pub arctanTable : List Float
 arctanTable =
-    part 25
-    ∷ neg (part 23)
-    ∷ part 21
-    ∷ neg (part 19)
-    ∷ part 17
-    ∷ neg (part 15)
-    ∷ part 13
-    ∷ neg (part 11)
-    ∷ part 9
-    ∷ neg (part 7)
-    ∷ part 5
-    ∷ neg (part 3)
-    ∷ part 1
+    oneOver 25
+    ∷ neg (oneOver 23)
+    ∷ oneOver 21
+    ∷ neg (oneOver 19)
+    ∷ oneOver 17
+    ∷ neg (oneOver 15)
+    ∷ oneOver 13
+    ∷ neg (oneOver 11)
+    ∷ oneOver 9
+    ∷ neg (oneOver 7)
+    ∷ oneOver 5
+    ∷ neg (oneOver 3)
+    ∷ oneOver 1
     ∷ []
 
 -- from the left, what is there times y, plus the next coefficient

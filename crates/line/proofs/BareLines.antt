@@ -15,7 +15,7 @@ use Rattle.line.specs.Malformed.{faultOf, fieldsFault, offending}
 use Rattle.line.specs.Readers.{strangeFault}
 use Rattle.line.specs.Lines.{lines}
 use Rattle.line.specs.Text.{decimal, refusalText, Wrote, two}
-use Rattle.line.specs.BareLines.{Feed, feedsText, Fed, Passes}
+use Rattle.line.specs.BareLines.{Feed, feedsText, AnswersFeeds, Passes}
 use Rattle.line.proofs.Texts as T
 
 -- ---- one more in a row, and what stops the row
@@ -84,7 +84,7 @@ five-text n high low last a b e f g = ap (λ (t : List ℕ). 82 ∷ 9 ∷ t) (di
     ends = rw (sym (T.two-is 19 (omega arith) (omega arith)), T.decimal-one 0 (omega arith))
 
 -- ---- a whole call
-pub fed-ten : {s : List ℕ} {p : ℕ} {l : List ℕ} {at n most q : ℕ} {m : List ℕ} (r : Feeds) → 0 < most → r .lines ≡ q - p → Passes s p most q → Wrote l at (feedsText (r .lines) n) m (r .at) → Fed s p l at n m r
+pub fed-ten : {s : List ℕ} {p : ℕ} {l : List ℕ} {at n most q : ℕ} {m : List ℕ} (r : Feeds) → 0 < most → r .lines ≡ q - p → Passes s p most q → Wrote l at (feedsText (r .lines) n) m (r .at) → AnswersFeeds s p l at n m r
 fed-ten r h e k w = record {
   some = λ f. omega (arith, k .some h f);
   each = λ i j. k .each i (omega arith);

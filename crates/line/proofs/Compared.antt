@@ -8,6 +8,7 @@ use lib.ListN.{length, getD, drop, drop-of-length-le}
 use lib.Seq.{drop-cons}
 use native.Mathlib.Numerals.{add-one}
 use borrow.Author.Tests.{eq-eqb, ne-eqb}
+use Rattle.refusal.specs.Numbers as refusal
 use Rattle.refusal.specs.Order.{pick}
 use lib.Signed.{ltZ}
 use Rattle.chain.specs.declared.Point.{Point}
@@ -40,11 +41,11 @@ module _ (s t : List ℕ) (i : ℕ) where
 
 -- ---- two points
 module _ (p q : Point) (equal : Bool) where
-  pub other-high : (p .label .id .high ≡ q .label .id .high → ⊥) → refusedIn 0 16 ≡ weighed p q equal
+  pub other-high : (p .label .id .high ≡ q .label .id .high → ⊥) → refusedIn 0 refusal.ids ≡ weighed p q equal
   other-high h = rw (ne-eqb (p .label .id .high) (q .label .id .high) h)
 
   module _ (h : p .label .id .high ≡ q .label .id .high) where
-    pub other-low : (p .label .id .low ≡ q .label .id .low → ⊥) → refusedIn 0 16 ≡ weighed p q equal
+    pub other-low : (p .label .id .low ≡ q .label .id .low → ⊥) → refusedIn 0 refusal.ids ≡ weighed p q equal
     other-low l = rw (eq-eqb (p .label .id .high) (q .label .id .high) h, ne-eqb (p .label .id .low) (q .label .id .low) l)
 
     module _ (l : p .label .id .low ≡ q .label .id .low) where
@@ -58,5 +59,5 @@ module _ (p q : Point) (equal : Bool) where
         pub one-line : ltZ (q .label .issue) (p .label .issue) ≡ false → equal ≡ true → First ≡ weighed p q equal
         one-line b e = rw (eq-eqb (p .label .id .high) (q .label .id .high) h, eq-eqb (p .label .id .low) (q .label .id .low) l, a, b, e)
 
-        pub two-lines : ltZ (q .label .issue) (p .label .issue) ≡ false → equal ≡ false → refusedIn 0 17 ≡ weighed p q equal
+        pub two-lines : ltZ (q .label .issue) (p .label .issue) ≡ false → equal ≡ false → refusedIn 0 refusal.same ≡ weighed p q equal
         two-lines b e = rw (eq-eqb (p .label .id .high) (q .label .id .high) h, eq-eqb (p .label .id .low) (q .label .id .low) l, a, b, e)

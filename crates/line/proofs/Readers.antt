@@ -32,7 +32,7 @@ use Rattle.line.specs.declared.EditionLine.{EditionLine}
 use Rattle.line.specs.declared.EditionLine.the-variants as edition-line
 use Rattle.line.specs.declared.GridHeader.{GridHeader}
 use Rattle.line.specs.declared.GridLine.the-variants as grid-line
-use Rattle.line.specs.declared.Parts.{Parts}
+use Rattle.line.specs.declared.VelocityParts.{VelocityParts}
 use Rattle.line.specs.declared.NodeLine.the-variants as node-line
 use Rattle.line.specs.Fields.{longestLine, body, fields, Form, ends, field, taken, onward, filled, inBody, said}
 use Rattle.line.specs.Name.{nameOf}
@@ -148,6 +148,6 @@ pub header-read : (line : List ℕ) (g : GridHeader) → said gridForm line ≡ 
 unfolding readGridHeader
 header-read line g e = rw e
 
-pub node-read : (line : List ℕ) (p : Parts) → hyphenLine line ≡ false → said nodeForm line ≡ some p → readNode line ≡ node-line.Parts (cappedParts p)
+pub node-read : (line : List ℕ) (p : VelocityParts) → hyphenLine line ≡ false → said nodeForm line ≡ some p → readNode line ≡ node-line.Parts (cappedParts p)
 unfolding readNode
 node-read line p h e = rw (h, e)

@@ -155,10 +155,10 @@ pub sign-above : (z : ℤ) → ltZ z (pos 0) ≡ false → signOf z ≡ []
 sign-above (pos n) e = refl
 sign-above (negsuc n) e = let w : _≡_ {A = ℕ} 0 1 = cc in absurd (omega arith)
 
-pub signed : (z : ℤ) (n a : ℕ) → n ≡ natAbs z → signOf z ++ (decimal n ++ (a ∷ [])) ≡ integer z ++ (a ∷ [])
+pub sign-then-digits : (z : ℤ) (n a : ℕ) → n ≡ natAbs z → signOf z ++ (decimal n ++ (a ∷ [])) ≡ integer z ++ (a ∷ [])
 unfolding integer
-signed (pos m) n a e = rw e
-signed (negsuc m) n a e = rw e
+sign-then-digits (pos m) n a e = rw e
+sign-then-digits (negsuc m) n a e = rw e
 
 pub whole-below : (z : ℤ) (n a : ℕ) → n ≡ natAbs z → ltZ z (pos 0) ≡ true → (45 ∷ []) ++ (decimal n ++ (a ∷ [])) ≡ integer z ++ (a ∷ [])
 whole-below z n a e l = rw (integer-below z l, e)

@@ -19,7 +19,7 @@ feedsText zero n = []
 feedsText (suc k) n = refusalText n refusal.letter 0 ++ feedsText k (n + 1)
 
 -- what a call that answers them does: so many stand from place p on, at least one if any does, and their refusals are written
-pub record Fed (s : List ℕ) (p : ℕ) (l : List ℕ) (at n : ℕ) (m : List ℕ) (r : Feeds) : Type 0 where
+pub record AnswersFeeds (s : List ℕ) (p : ℕ) (l : List ℕ) (at n : ℕ) (m : List ℕ) (r : Feeds) : Type 0 where
   pub some : Feed s p → 0 < r .lines
   pub each : (i : ℕ) → i < r .lines → Feed s (p + i)
   pub wrote : Wrote l at (feedsText (r .lines) n) m (r .at)

@@ -14,7 +14,7 @@ use Rattle.chain.specs.declared.Step.{Step}
 use Rattle.angle.specs.declared.OriginNumbers.{OriginNumbers}
 use Rattle.line.specs.declared.Geodetic.{Geodetic}
 use Rattle.line.specs.declared.GridHeader.{GridHeader}
-use Rattle.line.specs.declared.Parts.{Parts}
+use Rattle.line.specs.declared.VelocityParts.{VelocityParts}
 use Rattle.line.specs.Bytes.{letterP, letterS, letterT, letterV, letterB, letterF, letterC, letterO, letterG, letterE}
 use Rattle.line.specs.Fields.{Form, ends, field, either, into, letter, letterOf}
 use Rattle.line.specs.Name.{nameOf}
@@ -126,7 +126,7 @@ gridForm =
     ends (record { latitude = latitude; longitude = longitude; rows = rows; columns = columns; mesh = mesh })
 
 -- a node of one: east, north, up
-unfoldable pub nodeForm : Form Parts
+unfoldable pub nodeForm : Form VelocityParts
 nodeForm =
     field numberOf λ east.
     field numberOf λ north.

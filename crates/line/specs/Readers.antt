@@ -25,7 +25,7 @@ use Rattle.line.specs.declared.EditionLine.the-variants as E
 use Rattle.line.specs.declared.GridHeader.{GridHeader}
 use Rattle.line.specs.declared.GridLine.{GridLine}
 use Rattle.line.specs.declared.GridLine.the-variants as H
-use Rattle.line.specs.declared.Parts.{Parts}
+use Rattle.line.specs.declared.VelocityParts.{VelocityParts}
 use Rattle.line.specs.declared.NodeLine.{NodeLine}
 use Rattle.line.specs.declared.NodeLine.the-variants as N
 use Rattle.line.specs.Bytes.{minus, lineFeed}
@@ -87,7 +87,7 @@ unfoldable pub hyphenLine : List ℕ → Bool
 hyphenLine line = eqb (length line) 2 && eqb (getD line 0 0) minus && eqb (getD line 1 0) lineFeed
 
 -- three numbers, carried likewise: 18, 20, 22
-abbrev pub partsAs : NodeLine → Option Parts → NodeLine
+abbrev pub partsAs : NodeLine → Option VelocityParts → NodeLine
 partsAs malformed none = malformed
 partsAs malformed (some parts) = N.Parts (cappedParts parts)
 

@@ -16,7 +16,7 @@ use Rattle.angle.specs.declared.OriginNumbers.{OriginNumbers}
 use Rattle.angle.specs.Carried.{carriedOrigin}
 use Rattle.line.specs.declared.Geodetic.{Geodetic}
 use Rattle.line.specs.declared.GridHeader.{GridHeader}
-use Rattle.line.specs.declared.Parts.{Parts}
+use Rattle.line.specs.declared.VelocityParts.{VelocityParts}
 use Rattle.line.specs.Fields.{fields, front, head, Form, filled}
 use Rattle.line.specs.Name.{word, allNameBytes, isNameByte}
 use Rattle.line.specs.Bytes.{tab, zeroByte, nineByte}
@@ -181,5 +181,5 @@ cappedHeader g =
       mesh = cappedZ (g .mesh);
     }
 
-abbrev pub cappedParts : Parts → Parts
+abbrev pub cappedParts : VelocityParts → VelocityParts
 cappedParts p = record { east = cappedZ (p .east); north = cappedZ (p .north); up = cappedZ (p .up) }

@@ -24,6 +24,7 @@ pub use compare::later_of_two;
 pub use compare::later_verdict;
 pub use edition_line::read_edition;
 pub use ends::line_end;
+pub use field::LINE_FEED;
 pub use geodetic_line::read_geodetic;
 pub use grid_line::read_grid_header;
 pub use node_line::read_node;
@@ -111,7 +112,7 @@ pub enum GridLine {
 }
 
 // East, north and up, in hundredths of a millimetre a year.
-pub struct Parts {
+pub struct VelocityParts {
     pub east: i64,
     pub north: i64,
     pub up: i64,
@@ -119,7 +120,7 @@ pub struct Parts {
 
 // A node of a velocity grid: its parts, carried likewise, or no value.
 pub enum NodeLine {
-    Parts(Parts),
+    Parts(VelocityParts),
     NoValue,
     Malformed(Fault),
 }

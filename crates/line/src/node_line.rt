@@ -1,6 +1,6 @@
 // East, north, up, or a single hyphen: a node of a velocity grid.
 use crate::NodeLine;
-use crate::Parts;
+use crate::VelocityParts;
 use crate::awaited::NODE;
 use crate::field::LINE_FEED;
 use crate::field::body_end;
@@ -13,7 +13,7 @@ ghost use Rattle.line.specs.Reading.{Told, cappedParts};
 
 // A node's parts as its fields say them, with numbers up to the cap, and where the field after them would begin.
 struct NodeFields {
-    parts: Parts,
+    parts: VelocityParts,
     next: usize,
 }
 
@@ -24,7 +24,7 @@ fn node_fields(s: &[u8]) -> NodeFields
     let north = number(s, east.next);
     let up = number(s, north.next);
     NodeFields {
-        parts: Parts {
+        parts: VelocityParts {
             east: east.value,
             north: north.value,
             up: up.value,

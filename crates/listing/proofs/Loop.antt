@@ -8,7 +8,7 @@ use native.Mathlib.Omega.{arith}
 use Rattle.line.specs.Lines.{lineEnd}
 use Rattle.line.specs.Text.{Wrote}
 use Rattle.line.specs.declared.Feeds.{Feeds}
-use Rattle.line.specs.BareLines.{Fed}
+use Rattle.line.specs.BareLines.{AnswersFeeds}
 use Rattle.line.proofs.Lines.{Piece, piece}
 use Rattle.line.proofs.BareLines.{row-inside}
 use Rattle.listing.specs.Fold.{Rules, longestInput, printed}
@@ -64,7 +64,7 @@ module _ {S R : Type 0} (r : Rules S R) (number : S → ℕ) (fresh : S) (one : 
   goes-on roomy e reply q h d w k = goes-printed roomy e q h (λ s held. let x = d s held in (rw (← x .0) w, x .1)) k
 
   -- past bare line feeds that were answered at once, the first under the number n that the code holds
-  pub goes-past : Bare r number → {Held Held' : S → Type 0} {out out' : List ℕ} {at from n : ℕ} (fed : Feeds) → ((s : S) → Held s → (n ≡ number s) × Held' (afterFeeds r (fed .lines) s)) → Fed input from out at n out' fed → Midway r number fresh input out₀ Held out at from → Midway r number fresh input out₀ Held' out' (fed .at) (from + fed .lines)
+  pub goes-past : Bare r number → {Held Held' : S → Type 0} {out out' : List ℕ} {at from n : ℕ} (fed : Feeds) → ((s : S) → Held s → (n ≡ number s) × Held' (afterFeeds r (fed .lines) s)) → AnswersFeeds input from out at n out' fed → Midway r number fresh input out₀ Held out at from → Midway r number fresh input out₀ Held' out' (fed .at) (from + fed .lines)
   goes-past bare {out = out} {out'} {at} {from} fed d f k =
       let x = d (k .state) (k .held) in
       record {

@@ -15,7 +15,7 @@ use Rattle.angle.specs.declared.Projected.the-variants as projected
 use Rattle.oblique_mercator.specs.Parameters.{reduced, parametersRange}
 use Rattle.oblique_mercator.specs.Projection.{isometricOf, centreOf, naturalOf, seriesOf, projectionMade, projectionOf}
 use Rattle.oblique_mercator.specs.Forward.{planeOf, planeAt, forwardFromOf, forwardOf}
-use Rattle.oblique_mercator.specs.Reverse.{inPlane, turnedOf, gateOf, latitudeOf, foundOf, inRanges, placed, inUnits, reverseAt, reverseFromOf, reverseOf}
+use Rattle.oblique_mercator.specs.Reverse.{inPlane, turnedOf, gateOf, latitudeOf, foundOf, inRanges, fromRounded, inUnits, reverseAt, reverseFromOf, reverseOf}
 use Rattle.oblique_mercator.specs.declared.Parameters.{Parameters}
 use Rattle.oblique_mercator.specs.declared.Projection.{Projection}
 use Rattle.oblique_mercator.specs.declared.Angles.{Angles}
@@ -169,7 +169,7 @@ record Vectors : Type 0 where
   in-order : InOrder
 
 vectors : Vectors
-unfolding projectionMade centreOf naturalOf seriesOf isometricOf reduced planeAt planeOf reverseAt turnedOf gateOf foundOf latitudeOf inUnits placed inRanges refused back-refused forwardOf reverseOf projectionOf parametersRange forwardFromOf reverseFromOf inPlane openAngles round neg add sub mul div lt le eq ofInt ofBits
+unfolding projectionMade centreOf naturalOf seriesOf isometricOf reduced planeAt planeOf reverseAt turnedOf gateOf foundOf latitudeOf inUnits fromRounded inRanges refused back-refused forwardOf reverseOf projectionOf parametersRange forwardFromOf reverseFromOf inPlane openAngles round neg add sub mul div lt le eq ofInt ofBits
 vectors = record {
   examples-worked = record {
     made = sames-are (all (λ (e : Example). fields (projectionMade (e .given))) examples) (all (λ (e : Example). fields (e .made)) examples) tt;

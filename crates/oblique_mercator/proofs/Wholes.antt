@@ -15,7 +15,7 @@ use Rattle.rounding.proofs.Zn as zn
 use Rattle.rounding.proofs.Zn.{_⊕_, _⊖_, le, unle}
 use Rattle.bounds.proofs.Zero.{Upto}
 use Rattle.angle.proofs.Wholes as wholes
-use Rattle.oblique_mercator.specs.Parameters.{centreRange, pastTurn, angleRange, reduced, scaleRange, parametersRange}
+use Rattle.oblique_mercator.specs.Parameters.{centreRange, pastTurn, angleRange, reduced, centreScaleRange, parametersRange}
 use Rattle.oblique_mercator.specs.declared.Parameters.{Parameters}
 
 -- ---- the parameters one by one
@@ -25,7 +25,7 @@ pub record Ranged (p : Parameters) : Type 0 where
   pub longitude : longitudeRange (p .longitude) ≡ true
   pub azimuth : angleRange (p .azimuth) ≡ true
   pub rectified : angleRange (p .rectified) ≡ true
-  pub scale : scaleRange (p .scale) ≡ true
+  pub scale : centreScaleRange (p .scale) ≡ true
   pub easting : offsetRange (p .«false_easting») ≡ true
   pub northing : offsetRange (p .«false_northing») ≡ true
 
@@ -44,7 +44,7 @@ eight a b c d e f g h t =
 pub ranged : (p : Parameters) → parametersRange p ≡ true → Ranged p
 unfolding parametersRange
 ranged p h =
-    let t = eight (ellipsoidRange (p .ellipsoid)) (centreRange (p .latitude)) (longitudeRange (p .longitude)) (angleRange (p .azimuth)) (angleRange (p .rectified)) (scaleRange (p .scale)) (offsetRange (p .«false_easting»)) (offsetRange (p .«false_northing»)) h in
+    let t = eight (ellipsoidRange (p .ellipsoid)) (centreRange (p .latitude)) (longitudeRange (p .longitude)) (angleRange (p .azimuth)) (angleRange (p .rectified)) (centreScaleRange (p .scale)) (offsetRange (p .«false_easting»)) (offsetRange (p .«false_northing»)) h in
     record {
       ellipsoid = t .0;
       latitude = t .1;

@@ -42,12 +42,12 @@ unfoldable pub planeAt : Projection → ℤ → ℤ → Projected
 planeAt p latitude longitude = planeOf p (radians latitude) (radians (longitude -ℤ p .centre))
 
 -- a point on a made projection, refused: 2 for a record that was not made here, 12
-abbrev pub pointTests : Projection → ℤ → ℤ → List Test
-pointTests p latitude longitude =
+abbrev pub centreAndAnglesTests : Projection → ℤ → ℤ → List Test
+centreAndAnglesTests p latitude longitude =
     (not (longitudeRange (p .centre)) gives range) ∷ (not (latitudeRange latitude) gives geodetic) ∷ (not (longitudeRange longitude) gives geodetic) ∷ []
 
 unfoldable pub forwardFromOf : Projection → ℤ → ℤ → Projected
-forwardFromOf p latitude longitude = unless (first (pointTests p latitude longitude)) Refused (planeAt p latitude longitude)
+forwardFromOf p latitude longitude = unless (first (centreAndAnglesTests p latitude longitude)) Refused (planeAt p latitude longitude)
 
 -- on a projection as it is answered
 abbrev pub laidOn : ProjectionAnswer → ℤ → ℤ → Projected

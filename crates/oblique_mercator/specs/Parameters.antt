@@ -22,8 +22,8 @@ unfoldable pub reduced : ℤ → ℤ
 reduced z = pick (pastTurn z) (z -ℤ pos 129600000000) z
 
 -- 0.99 to 1.01
-abbrev pub scaleRange : ℤ → Bool
-scaleRange z = within (pos 99000000000) z (pos 101000000000)
+abbrev pub centreScaleRange : ℤ → Bool
+centreScaleRange z = within (pos 99000000000) z (pos 101000000000)
 
 unfoldable pub parametersRange : Parameters → Bool
 parametersRange p =
@@ -32,6 +32,6 @@ parametersRange p =
     && longitudeRange (p .longitude)
     && angleRange (p .azimuth)
     && angleRange (p .rectified)
-    && scaleRange (p .scale)
+    && centreScaleRange (p .scale)
     && offsetRange (p .«false_easting»)
     && offsetRange (p .«false_northing»)

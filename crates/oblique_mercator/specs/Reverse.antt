@@ -68,24 +68,24 @@ inRanges latitude longitude =
     unless (first ((not (latitudeRange latitude) gives geodetic) ∷ (not (longitudeRange longitude) gives geodetic) ∷ [])) Refused (Units latitude longitude)
 
 -- both rounded, the longitude with the centre's; what a rounding refuses is 12
-unfoldable pub placed : ℤ → Rounded → Rounded → Angles
-placed centre (rounded.Refused n) w = Refused geodetic
-placed centre (Whole latitude) (rounded.Refused n) = Refused geodetic
-placed centre (Whole latitude) (Whole w) = inRanges latitude (w +ℤ centre)
+unfoldable pub fromRounded : ℤ → Rounded → Rounded → Angles
+fromRounded centre (rounded.Refused n) w = Refused geodetic
+fromRounded centre (Whole latitude) (rounded.Refused n) = Refused geodetic
+fromRounded centre (Whole latitude) (Whole w) = inRanges latitude (w +ℤ centre)
 
 -- each at 5 places
 unfoldable pub inUnits : ℤ → Found → Angles
-inUnits centre f = placed centre (roundedOf (f .latitude) 5) (roundedOf (f .difference) 5)
+inUnits centre f = fromRounded centre (roundedOf (f .latitude) 5) (roundedOf (f .difference) 5)
 
 unfoldable pub reverseAt : Projection → Float → Float → Angles
 reverseAt p E N = let t = turnedOf p E N in pick (gateOf t) (inUnits (p .centre) (foundOf p t)) (Refused geodetic)
 
 -- a point on a made projection, refused: 2 for a record that was not made here, 23, 12
-abbrev pub pointTests : Projection → Float → Float → List Test
-pointTests p E N = (not (longitudeRange (p .centre)) gives range) ∷ (not (inPlane E && inPlane N) gives numbers.plane) ∷ []
+abbrev pub centreAndPlaneTests : Projection → Float → Float → List Test
+centreAndPlaneTests p E N = (not (longitudeRange (p .centre)) gives range) ∷ (not (inPlane E && inPlane N) gives numbers.plane) ∷ []
 
 unfoldable pub reverseFromOf : Projection → Float → Float → Angles
-reverseFromOf p E N = unless (first (pointTests p E N)) Refused (reverseAt p E N)
+reverseFromOf p E N = unless (first (centreAndPlaneTests p E N)) Refused (reverseAt p E N)
 
 -- on a projection as it is answered
 abbrev pub foundOn : ProjectionAnswer → Float → Float → Angles

@@ -3,7 +3,7 @@ ghost use mathlib.Core.Path.{_≡_};
 ghost use mathlib.Core.Bool.{true};
 ghost use lib.IntN.{_+ℤ_};
 ghost use Rattle.ranges.specs.Ranges.{longitudeRange};
-ghost use Rattle.oblique_mercator.specs.Reverse.{inPlane, turnedOf, gateOf, latitudeOf, foundOf, inRanges, placed as Reverse·placed, inUnits, reverseAt, reverseFromOf, reverseOf};
+ghost use Rattle.oblique_mercator.specs.Reverse.{inPlane, turnedOf, gateOf, latitudeOf, foundOf, inRanges, fromRounded, inUnits, reverseAt, reverseFromOf, reverseOf};
 use crate::Angles;
 use crate::Parameters;
 use crate::Projection;
@@ -107,9 +107,9 @@ fn in_ranges(centre: i64, latitude: i64, difference: i64) -> Angles
 }
 
 // The same of what the roundings answered. What they refuse is GEODETIC.
-fn placed(centre: i64, latitude: Rounded, difference: Rounded) -> Angles
+fn from_rounded(centre: i64, latitude: Rounded, difference: Rounded) -> Angles
     requires { ⌜ longitudeRange centre ≡ true ⌝ }
-    ensures { λ r. ⌜ r ≡ Reverse·placed centre latitude difference ⌝ }
+    ensures { λ r. ⌜ r ≡ fromRounded centre latitude difference ⌝ }
 {
     match latitude {
         Rounded::Refused(_) => Angles::Refused(refusal::GEODETIC),
@@ -127,11 +127,11 @@ fn in_units(centre: i64, f: Found) -> Angles
 {
     let latitude = round_places(f.latitude, 5);
     let difference = round_places(f.difference, 5);
-    placed(centre, latitude, difference)
+    from_rounded(centre, latitude, difference)
 }
 
 // The formulas behind the gate.
-fn place(p: Projection, easting: f64, northing: f64) -> Angles
+fn unproject(p: Projection, easting: f64, northing: f64) -> Angles
     requires { ⌜ longitudeRange (p .centre) ≡ true ⌝ }
     ensures { λ r. ⌜ r ≡ reverseAt p easting northing ⌝ }
 {
@@ -153,7 +153,7 @@ pub fn reverse_from(p: Projection, easting: f64, northing: f64) -> Angles
     if !(in_plane(easting) & in_plane(northing)) {
         return Angles::Refused(refusal::PLANE);
     }
-    place(p, easting, northing)
+    unproject(p, easting, northing)
 }
 
 // A point on a projection as it is written. Refused: RANGE for the parameters, then PLANE, then GEODETIC.

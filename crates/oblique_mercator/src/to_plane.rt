@@ -37,7 +37,7 @@ fn plane(p: Projection, latitude: f64, difference: f64) -> Projected
 }
 
 // The same of whole units, for longitudes in their range: the difference is taken in whole numbers.
-fn place(p: Projection, latitude: i64, longitude: i64) -> Projected
+fn project(p: Projection, latitude: i64, longitude: i64) -> Projected
     requires { ⌜ (latitudeRange latitude ≡ true) × (longitudeRange longitude ≡ true) × (longitudeRange (p .centre) ≡ true) ⌝ }
     ensures { λ r. ⌜ r ≡ planeAt p latitude longitude ⌝ }
 {
@@ -60,7 +60,7 @@ pub fn forward_from(p: Projection, latitude: i64, longitude: i64) -> Projected
     if !ranges::is_longitude(longitude) {
         return Projected::Refused(refusal::GEODETIC);
     }
-    place(p, latitude, longitude)
+    project(p, latitude, longitude)
 }
 
 // A point on a projection as it is written, in metres. Refused: RANGE for the parameters, then GEODETIC for the point's angles.

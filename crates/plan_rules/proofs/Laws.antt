@@ -29,12 +29,12 @@ pub missing : {x : PlanOrigin} (y : Option OriginNumbers) → Values x y → x �
 missing none h e = refl
 missing (some o) h e = absurd (rw e at h)
 
-pub record Accepted (m : Origin) (y : Option OriginNumbers) : Type 0 where
+pub record OriginAccepted (m : Origin) (y : Option OriginNumbers) : Type 0 where
   pub numbers : OriginNumbers
   pub is : y ≡ some numbers
   pub values : originOf numbers ≡ answer.Made m
 
-pub accepted : {x : PlanOrigin} (m : Origin) (y : Option OriginNumbers) → Values x y → x ≡ Made m → Accepted m y
+pub accepted : {x : PlanOrigin} (m : Origin) (y : Option OriginNumbers) → Values x y → x ≡ Made m → OriginAccepted m y
 accepted m none h e = absurd (rw e at h)
 accepted m (some o) h e = record { numbers = o; is = refl; values = rw e at h }
 

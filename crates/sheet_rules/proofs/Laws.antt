@@ -33,7 +33,7 @@ use Rattle.sheet_rules.specs.declared.Reply.{Reply}
 use Rattle.sheet_rules.specs.declared.Reply.the-variants as reply
 use Rattle.sheet_rules.specs.declared.Decided.{Decided}
 use Rattle.sheet_rules.specs.declared.Printed.{Printed}
-use Rattle.sheet_rules.specs.Sheet.{Sheet, fresh, replyText, replyOf, nextOf, pointReply, afterPoint, refuse, malformed, stepTests, stepReply, afterStep, withStep, withoutStep, editionTests, editionReply, afterEdition, withEdition}
+use Rattle.sheet_rules.specs.Sheet.{Sheet, fresh, replyText, replyOf, nextOf, pointReply, afterPoint, refuse, malformed, stepLineTests, stepReply, afterStep, withStep, withoutStep, editionTests, editionReply, afterEdition, withEdition}
 use Rattle.sheet_rules.specs.State.{Holds, Gave, Shows, Shown, afterIn, refusedIn}
 
 -- a refusal's number is not 0
@@ -61,8 +61,8 @@ refused-by {s = s} h tests good n a is z f r er =
     })
 
 module _ {st : State} {l : List ℤ} {s : Sheet} (h : Holds st l s) (t : Step) where
-  refused-step : (n : ℕ) (a : Bool) → first (stepTests s t) ≡ n → (n ≡ 0 → ⊥) → a ≡ s .closed → (r : Decided) → r ≡ refusedIn st n 0 true a → Gave (stepReply s (step-line.Step t)) (afterStep s (step-line.Step t)) l r
-  refused-step n a is z f r er = refused-by h (stepTests s t) (withStep s t) n a is z f r er
+  refused-step : (n : ℕ) (a : Bool) → first (stepLineTests s t) ≡ n → (n ≡ 0 → ⊥) → a ≡ s .closed → (r : Decided) → r ≡ refusedIn st n 0 true a → Gave (stepReply s (step-line.Step t)) (afterStep s (step-line.Step t)) l r
+  refused-step n a is z f r er = refused-by h (stepLineTests s t) (withStep s t) n a is z f r er
 
   pub gave-earlier : st .refused ≡ true → (r : Decided) → r ≡ refusedIn st refusal.earlier 0 true (st .closed) → Gave (stepReply s (step-line.Step t)) (afterStep s (step-line.Step t)) l r
   gave-earlier e r er = let q : s .refused ≡ true = sym (h .refused) ∙ e in refused-step refusal.earlier (st .closed) (rw q) (λ z. no-number z) (h .closed) r er
@@ -75,7 +75,7 @@ module _ {st : State} {l : List ℤ} {s : Sheet} (h : Holds st l s) (t : Step) w
         refused-step refusal.misplaced true (rw (q, c)) (λ z. no-number z) (sym c) r er
 
     module _ (unclosed : st .closed ≡ false) (good : stepFault (st .profile) t ≡ 0) where
-      tests : extendFault (st .profile) l t ≡ first (stepTests s t)
+      tests : extendFault (st .profile) l t ≡ first (stepLineTests s t)
       tests =
           let q : s .refused ≡ false = sym (h .refused) ∙ unrefused in
           let c : s .closed ≡ false = sym (h .closed) ∙ unclosed in
@@ -92,8 +92,8 @@ module _ {st : State} {l : List ℤ} {s : Sheet} (h : Holds st l s) (t : Step) w
       gave-step z m i r ea er =
           let q = sym tests ∙ z in
           record {
-            reply = ea ∙ sym (unless-none (first (stepTests s t)) (refuse s) reply.Nothing q);
-            holds = rw (unless-none (first (stepTests s t)) (λ (_ : ℕ). withoutStep s) (withStep s t) q, er, i)
+            reply = ea ∙ sym (unless-none (first (stepLineTests s t)) (refuse s) reply.Nothing q);
+            holds = rw (unless-none (first (stepLineTests s t)) (λ (_ : ℕ). withoutStep s) (withStep s t) q, er, i)
                 (record {
                   line = ap (λ (n : ℕ). n + 1) (h .line);
                   profile = h .profile;
@@ -195,7 +195,7 @@ next-line s line = by-letters (λ (x : Sheet). x .line ≡ s .line + 1) letterS 
     step : (l : StepLine) → afterStep s l .line ≡ s .line + 1
     step (step-line.Malformed f) = refl
     step (step-line.Refused n) = refl
-    step (step-line.Step t) = unless-line s (withoutStep s) (withStep s t) (first (stepTests s t)) refl refl
+    step (step-line.Step t) = unless-line s (withoutStep s) (withStep s t) (first (stepLineTests s t)) refl refl
 
     edition : (l : EditionLine) → afterEdition s l .line ≡ s .line + 1
     edition (edition-line.Malformed f) = refl

@@ -41,10 +41,10 @@ use Rattle.sheet_rules.specs.declared.State.{State}
 use Rattle.sheet_rules.specs.declared.Standing.{Standing}
 use Rattle.sheet_rules.specs.declared.Answered.{Answered}
 use Rattle.sheet_rules.specs.declared.Response.the-variants as response
-use Rattle.sheet_rules.specs.Sheet.{Sheet, refuse, malformed, stepTests, stepReply, pointReply, editionReply, afterStep, afterPoint, withStep, withoutStep, withEdition, editionTests, afterEdition, passed, replyOf, nextOf}
+use Rattle.sheet_rules.specs.Sheet.{Sheet, refuse, malformed, stepLineTests, stepReply, pointReply, editionReply, afterStep, afterPoint, withStep, withoutStep, withEdition, editionTests, afterEdition, passed, replyOf, nextOf}
 use Rattle.sheet_rules.specs.State.{Holds, Gave}
 use Rattle.sheet_rules.proofs.Laws.{next-line, no-steps}
-use Rattle.sheet_rules.specs.OneLine.{mostLines, said, chainWith, standingAt, freshAt, counted, soundStanding, past, replyTo, afterLine, answered, lineAnswered, answeredTo, stepsAfter}
+use Rattle.sheet_rules.specs.OneLine.{mostLines, sheetAt, chainWith, standingAt, freshAt, counted, soundStanding, pastLines, replyTo, afterLine, answered, lineAnswered, answeredTo, stepsAfter}
 
 -- ---- the steps after a line
 steps-by : (s : Sheet) (l : List ℕ) → nextOf s l .steps ≡ stepsAfter (s .steps) (eqb (getD l 0 0) letterS) (replyOf s l) (readStep (s .profile) l)
@@ -62,7 +62,7 @@ steps-by s l = go (eqb (getD l 0 0) letterS) (eqb (getD l 0 0) letterP) (eqb (ge
     go : (a b c : Bool) (r : StepLine) (d : EditionLine) (x : Reply) → pick a (afterStep s r) (pick b (afterPoint s (readPoint (s .profile) l)) (pick c (afterEdition s d) (passed s))) .steps ≡ stepsAfter (s .steps) a (pick a (stepReply s r) (pick b x (pick c (editionReply s d) (malformed s (strangeFault l))))) r
     go true b c (step-line.Malformed f) d x = refl
     go true b c (step-line.Refused n) d x = refl
-    go true b c (step-line.Step t) d x = of-step t (first (stepTests s t))
+    go true b c (step-line.Step t) d x = of-step t (first (stepLineTests s t))
     go false true c r d x = refl
     go false false true r (edition-line.Malformed f) x = refl
     go false false true r (edition-line.Edition y) x = of-edition y (first (editionTests s y))
@@ -77,7 +77,7 @@ no-fault s zero e = refl
 no-fault s (suc n) e = told-refusal _ _ _ e
 
 -- the tests of a step that the sheet accepts, of those that the chain asks for
-joins-few : (s : Sheet) (t : Step) → first (stepTests s t) ≡ 0 → (joins (s .steps) t ≡ true) × (length (s .steps) < 8)
+joins-few : (s : Sheet) (t : Step) → first (stepLineTests s t) ≡ 0 → (joins (s .steps) t ≡ true) × (length (s .steps) < 8)
 joins-few s t z =
     let a = step-passed (s .refused) refusal.earlier _ tt z in
     let b = step-passed (s .closed) refusal.misplaced _ tt (a .1) in
@@ -92,7 +92,7 @@ accepted-few s l t b e f = go (readStep (s .profile) l) (rw b at e) f
     go : (r : StepLine) → stepReply s r ≡ reply.Nothing → r ≡ step-line.Step t → length (s .steps) < 8
     go (step-line.Malformed f) q e = told-refusal _ _ _ q
     go (step-line.Refused n) q e = told-refusal _ _ _ q
-    go (step-line.Step u) q e = joins-few s u (no-fault s (first (stepTests s u)) q) .1
+    go (step-line.Step u) q e = joins-few s u (no-fault s (first (stepLineTests s u)) q) .1
 
 -- ---- the chain after a line
 pub chain-same : (c : Chain) → c .length ≤ length (c .steps) → c ≡ chainWith c (c .profile) (stepsOf c)
@@ -124,17 +124,17 @@ module _ (c : Chain) (h : c .length ≤ length (c .steps)) (a : Bool) (r : Reply
   after-refusal k n p d e = rw (d, e) (chain-same c h)
 
 module _ (st : Standing) (l : List ℕ) where
-  -- the steps in the places after a line, under whatever profile
-  pub chain-by : (c : Chain) (r : Reply) (y : ℤ) → r ≡ replyOf (said st) l → y ≡ nextOf (said st) l .profile → c ≡ chainWith (st .chain) (st .chain .profile) (stepsAfter (stepsOf (st .chain)) (eqb (getD l 0 0) letterS) r (readStep (st .chain .profile) l)) → record { steps = c .steps; length = c .length; profile = y } ≡ chainWith (st .chain) (nextOf (said st) l .profile) (nextOf (said st) l .steps)
-  chain-by c r y e g f = rw (f, e, g, steps-by (said st) l)
+  -- the steps in the chain after a line, under whatever profile
+  pub chain-by : (c : Chain) (r : Reply) (y : ℤ) → r ≡ replyOf (sheetAt st) l → y ≡ nextOf (sheetAt st) l .profile → c ≡ chainWith (st .chain) (st .chain .profile) (stepsAfter (stepsOf (st .chain)) (eqb (getD l 0 0) letterS) r (readStep (st .chain .profile) l)) → record { steps = c .steps; length = c .length; profile = y } ≡ chainWith (st .chain) (nextOf (sheetAt st) l .profile) (nextOf (sheetAt st) l .steps)
+  chain-by c r y e g f = rw (f, e, g, steps-by (sheetAt st) l)
 
   -- ---- the answer
-  pub within-answered : st .line ≤ mostLines → (n : ℕ) (c : Chain) (a b : Bool) (r : Reply) → n ≡ nextOf (said st) l .line → c ≡ chainWith (st .chain) (nextOf (said st) l .profile) (nextOf (said st) l .steps) → a ≡ nextOf (said st) l .refused → b ≡ nextOf (said st) l .closed → r ≡ replyOf (said st) l → answered (record { line = n; chain = c; refused = a; closed = b }) (response.Replied r) ≡ lineAnswered st l
-  unfolding lineAnswered afterLine replyTo past
+  pub within-answered : st .line ≤ mostLines → (n : ℕ) (c : Chain) (a b : Bool) (r : Reply) → n ≡ nextOf (sheetAt st) l .line → c ≡ chainWith (st .chain) (nextOf (sheetAt st) l .profile) (nextOf (sheetAt st) l .steps) → a ≡ nextOf (sheetAt st) l .refused → b ≡ nextOf (sheetAt st) l .closed → r ≡ replyOf (sheetAt st) l → answered (record { line = n; chain = c; refused = a; closed = b }) (response.Replied r) ≡ lineAnswered st l
+  unfolding lineAnswered afterLine replyTo pastLines
   within-answered h n c a b r e f g i j = rw (le-ltb mostLines (st .line) h, e, f, g, i, j)
 
   pub past-answered : mostLines < st .line → answered st (response.Replied (reply.Refused (suc mostLines) refusal.limit 0)) ≡ lineAnswered st l
-  unfolding lineAnswered afterLine replyTo past
+  unfolding lineAnswered afterLine replyTo pastLines
   past-answered h = rw (lt-ltb mostLines (st .line) h)
 
   pub unsound-answered : soundStanding st ≡ false → answered st response.Unsound ≡ answeredTo st l
@@ -154,35 +154,35 @@ few-steps : (c : Chain) → length (stepsOf c) ≤ c .length
 few-steps c = omega (arith, length-take (c .length) (c .steps))
 
 -- the state and the numbers hold the sheet that stands here
-pub held : (st : Standing) (l : List ℤ) → st .chain .length < st .line → prepared.Holds (st .chain .profile) l (stepsOf (st .chain)) → Holds (record { line = st .line; profile = st .chain .profile; refused = st .refused; closed = st .closed }) l (said st)
+pub held : (st : Standing) (l : List ℤ) → st .chain .length < st .line → prepared.Holds (st .chain .profile) l (stepsOf (st .chain)) → Holds (record { line = st .line; profile = st .chain .profile; refused = st .refused; closed = st .closed }) l (sheetAt st)
 held st l n h = record { line = refl; profile = refl; refused = refl; closed = refl; chain = h; counted = omega (arith, n, few-steps (st .chain)) }
 
 -- ---- where a sheet stands after a line
--- the sheet that stands in a chain's places is that sheet
-pub said-at : (c : Chain) (s : Sheet) → said (standingAt c s) ≡ s
-said-at c s = rw (take-append-seam (s .steps) (drop (length (s .steps)) (c .steps)))
+-- the sheet that stands in a chain is that sheet
+pub sheet-at : (c : Chain) (s : Sheet) → sheetAt (standingAt c s) ≡ s
+sheet-at c s = rw (take-append-seam (s .steps) (drop (length (s .steps)) (c .steps)))
 
 module _ (st : Standing) (l : List ℕ) where
   pub reply-past : mostLines < st .line → replyTo st l ≡ reply.Refused (suc mostLines) refusal.limit 0
-  unfolding replyTo past
+  unfolding replyTo pastLines
   reply-past h = rw (lt-ltb mostLines (st .line) h)
 
   pub after-past : mostLines < st .line → afterLine st l ≡ st
-  unfolding afterLine past
+  unfolding afterLine pastLines
   after-past h = rw (lt-ltb mostLines (st .line) h)
 
-  pub reply-rules : st .line ≤ mostLines → replyTo st l ≡ replyOf (said st) l
-  unfolding replyTo past
+  pub reply-rules : st .line ≤ mostLines → replyTo st l ≡ replyOf (sheetAt st) l
+  unfolding replyTo pastLines
   reply-rules h = rw (le-ltb mostLines (st .line) h)
 
-  pub after-at : st .line ≤ mostLines → afterLine st l ≡ standingAt (st .chain) (nextOf (said st) l)
-  unfolding afterLine past
+  pub after-at : st .line ≤ mostLines → afterLine st l ≡ standingAt (st .chain) (nextOf (sheetAt st) l)
+  unfolding afterLine pastLines
   after-at h = rw (le-ltb mostLines (st .line) h)
 
-  pub after-rules : st .line ≤ mostLines → said (afterLine st l) ≡ nextOf (said st) l
-  after-rules h = ap said (after-at h) ∙ said-at (st .chain) (nextOf (said st) l)
+  pub after-rules : st .line ≤ mostLines → sheetAt (afterLine st l) ≡ nextOf (sheetAt st) l
+  after-rules h = ap sheetAt (after-at h) ∙ sheet-at (st .chain) (nextOf (sheetAt st) l)
 
--- ---- a line more, in a chain's own places
+-- ---- a line more, in a chain's own steps
 -- no line takes a step away
 grows : (s : Sheet) (l : List ℕ) → length (s .steps) ≤ length (nextOf s l .steps)
 unfolding nextOf
@@ -194,7 +194,7 @@ grows s l = by-letters (λ (x : Sheet). length (s .steps) ≤ length (x .steps))
     step : (r : StepLine) → length (s .steps) ≤ length (afterStep s r .steps)
     step (step-line.Malformed f) = same
     step (step-line.Refused n) = same
-    step (step-line.Step t) = go (first (stepTests s t))
+    step (step-line.Step t) = go (first (stepLineTests s t))
       where
         go : (n : ℕ) → length (s .steps) ≤ length (unless n (λ _. withoutStep s) (withStep s t) .steps)
         go zero = omega (arith, length-append (s .steps) (t ∷ []))
@@ -208,25 +208,25 @@ grows s l = by-letters (λ (x : Sheet). length (s .steps) ≤ length (x .steps))
         go zero = same
         go (suc n) = same
 
-past-places : (xs ys : List Step) (m : ℕ) → length xs ≤ m → drop m (xs ++ drop (length xs) ys) ≡ drop m ys
-past-places [] ys m h = refl
-past-places (x ∷ xs) ys zero h = absurd (omega arith)
-past-places (x ∷ xs) [] (suc m) h = ap (λ (l : List Step). drop m (xs ++ l)) (sym (drop-nil (length xs))) ∙ past-places xs [] m (omega arith) ∙ drop-nil m
-past-places (x ∷ xs) (y ∷ ys) (suc m) h = past-places xs ys m (omega arith)
+past-steps : (xs ys : List Step) (m : ℕ) → length xs ≤ m → drop m (xs ++ drop (length xs) ys) ≡ drop m ys
+past-steps [] ys m h = refl
+past-steps (x ∷ xs) ys zero h = absurd (omega arith)
+past-steps (x ∷ xs) [] (suc m) h = ap (λ (l : List Step). drop m (xs ++ l)) (sym (drop-nil (length xs))) ∙ past-steps xs [] m (omega arith) ∙ drop-nil m
+past-steps (x ∷ xs) (y ∷ ys) (suc m) h = past-steps xs ys m (omega arith)
 
 pub after-standing : (c : Chain) (s : Sheet) (l : List ℕ) → s .line ≤ mostLines → afterLine (standingAt c s) l ≡ standingAt c (nextOf s l)
 after-standing c s l h =
     after-at (standingAt c s) l h
-    ∙ ap (λ (x : Sheet). standingAt (chainWith c (s .profile) (s .steps)) (nextOf x l)) (said-at c s)
+    ∙ ap (λ (x : Sheet). standingAt (chainWith c (s .profile) (s .steps)) (nextOf x l)) (sheet-at c s)
     ∙ ap (λ (p : List Step). record { line = nextOf s l .line; chain = record { steps = nextOf s l .steps ++ p; length = length (nextOf s l .steps); profile = nextOf s l .profile }; refused = nextOf s l .refused; closed = nextOf s l .closed })
-    (past-places (s .steps) (c .steps) (length (nextOf s l .steps)) (grows s l))
+    (past-steps (s .steps) (c .steps) (length (nextOf s l .steps)) (grows s l))
 
 -- what the rules say alike of two lines is answered alike
-pub same-reply : (st : Standing) (k l : List ℕ) → replyOf (said st) k ≡ replyOf (said st) l → replyTo st k ≡ replyTo st l
+pub same-reply : (st : Standing) (k l : List ℕ) → replyOf (sheetAt st) k ≡ replyOf (sheetAt st) l → replyTo st k ≡ replyTo st l
 unfolding replyTo
 same-reply st k l e = rw e
 
-pub same-after : (st : Standing) (k l : List ℕ) → nextOf (said st) k ≡ nextOf (said st) l → afterLine st k ≡ afterLine st l
+pub same-after : (st : Standing) (k l : List ℕ) → nextOf (sheetAt st) k ≡ nextOf (sheetAt st) l → afterLine st k ≡ afterLine st l
 unfolding afterLine
 same-after st k l e = rw e
 
@@ -252,8 +252,8 @@ unfolding soundStanding counted
 sound-made st p = rw (lt-ltb (st .chain .length) (st .line) (p .from), le-leb (st .line) (suc mostLines) (p .to), p .chain)
 
 -- nothing read yet
-pub fresh-sound : (places : List Step) → Sound (freshAt places)
-fresh-sound places = record { from = omega arith; to = omega arith; chain = holds-fresh .sound }
+pub fresh-sound : (spare : List Step) → Sound (freshAt spare)
+fresh-sound spare = record { from = omega arith; to = omega arith; chain = holds-fresh .sound }
 
 -- ---- it stays sound
 abbrev Good : ℤ → List Step → Type 0
@@ -292,9 +292,9 @@ kept-next s l g = by-letters Kept letterS letterP letterE l _ _ _ _ step same (e
     step = step-outcome (s .profile) (λ (r : StepLine). Kept (afterStep s r)) l good (λ f h. same) (λ n h. same)
       where
         good : (t : Step) → stepFault (s .profile) t ≡ 0 → Kept (afterStep s (step-line.Step t))
-        good t f = go (first (stepTests s t)) (λ z. z)
+        good t f = go (first (stepLineTests s t)) (λ z. z)
           where
-            go : (n : ℕ) → (n ≡ 0 → first (stepTests s t) ≡ 0) → Kept (unless n (λ _. withoutStep s) (withStep s t))
+            go : (n : ℕ) → (n ≡ 0 → first (stepLineTests s t) ≡ 0) → Kept (unless n (λ _. withoutStep s) (withStep s t))
             go zero k = let j = joins-few s t (k refl) in (sound-more (s .profile) (s .steps) t (g .0) (j .1) f (j .0), omega (arith, g .1, length-append (s .steps) (t ∷ [])))
             go (suc n) k = same
 
@@ -311,15 +311,15 @@ kept-next s l g = by-letters Kept letterS letterP letterE l _ _ _ _ step same (e
         go (suc n) k = same
 
 pub sound-after : (st : Standing) (l : List ℕ) → Sound st → Sound (afterLine st l)
-unfolding afterLine past
+unfolding afterLine pastLines
 sound-after st l p = go (ltb mostLines (st .line)) refl
   where
-    go : (b : Bool) → ltb mostLines (st .line) ≡ b → Sound (pick b st (standingAt (st .chain) (nextOf (said st) l)))
+    go : (b : Bool) → ltb mostLines (st .line) ≡ b → Sound (pick b st (standingAt (st .chain) (nextOf (sheetAt st) l)))
     go true q = p
     go false q =
-        let k = kept-next (said st) l (good-said (st .chain) (p .chain), omega (arith, p .from, few-steps (st .chain))) in
+        let k = kept-next (sheetAt st) l (good-said (st .chain) (p .chain), omega (arith, p .from, few-steps (st .chain))) in
         record {
           from = k .1;
-          to = omega (arith, next-line (said st) l, ltb-false mostLines (st .line) q);
-          chain = good-with (st .chain) (nextOf (said st) l .profile) (nextOf (said st) l .steps) (k .0);
+          to = omega (arith, next-line (sheetAt st) l, ltb-false mostLines (st .line) q);
+          chain = good-with (st .chain) (nextOf (sheetAt st) l .profile) (nextOf (sheetAt st) l .steps) (k .0);
         }

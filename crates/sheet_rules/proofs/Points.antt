@@ -28,7 +28,7 @@ use Rattle.sheet_rules.specs.declared.Standing.{Standing}
 use Rattle.sheet_rules.specs.declared.PointAnswer.{PointAnswer}
 use Rattle.sheet_rules.specs.declared.Response.the-variants as response
 use Rattle.sheet_rules.specs.Sheet.{Sheet, refuse, conversionReply, pointReply, afterPoint, closes, replyOf, nextOf}
-use Rattle.sheet_rules.specs.OneLine.{mostLines, said, counted, soundStanding, answered, answeredTo, whereGood, pointAnswered}
+use Rattle.sheet_rules.specs.OneLine.{mostLines, sheetAt, counted, soundStanding, answered, answeredTo, whereGood, pointAnswered}
 use Rattle.sheet_rules.proofs.OneLine.{chain-same, within-answered, unsound-answered, sound-answered, sound-told, sound-short}
 
 -- the chain is good
@@ -90,20 +90,20 @@ module _ (st : Standing) (l : List ℕ) (b : eqb (getD l 0 0) letterP ≡ true) 
   here = record { line = st .line; profile = st .chain .profile; steps = stepsOf (st .chain); refused = st .refused; closed = false }
 
   -- a point's reply doesn't ask whether the chain was closed
-  any-closed : (p : PointLine) → pointReply here p ≡ pointReply (said st) p
+  any-closed : (p : PointLine) → pointReply here p ≡ pointReply (sheetAt st) p
   any-closed (point-line.Malformed f) = refl
   any-closed (point-line.Refused n) = refl
   any-closed (point-line.Point p) = go (forwardOf (chainOf (st .chain .profile) (stepsOf (st .chain))) p)
     where
-      go : (a : Answer) → pick (st .refused) (refuse here refusal.earlier) (conversionReply here a) ≡ pick (st .refused) (refuse (said st) refusal.earlier) (conversionReply (said st) a)
+      go : (a : Answer) → pick (st .refused) (refuse here refusal.earlier) (conversionReply here a) ≡ pick (st .refused) (refuse (sheetAt st) refusal.earlier) (conversionReply (sheetAt st) a)
       go (answer.Converted q) = refl
       go (answer.Refused n) = refl
 
-  replies : replyOf (said st) l ≡ pointReply (said st) read
+  replies : replyOf (sheetAt st) l ≡ pointReply (sheetAt st) read
   unfolding replyOf
   replies = rw (no-step, b)
 
-  next : nextOf (said st) l ≡ afterPoint (said st) read
+  next : nextOf (sheetAt st) l ≡ afterPoint (sheetAt st) read
   unfolding nextOf
   next = rw (no-step, b)
 

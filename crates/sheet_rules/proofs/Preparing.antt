@@ -22,10 +22,10 @@ use Rattle.chain.specs.Convert.{joins, moreTests}
 use Rattle.chain.specs.Prepared as prepared
 use Rattle.chain.specs.Prepared.{extendFault, extendedBy, chainOf}
 use Rattle.chain.proofs.Keeping.{holds-none, steps-at, extend-joins, extend-holds}
-use Rattle.sheet_rules.specs.OneLine.{Prepares}
+use Rattle.sheet_rules.specs.OneLine.{PreparesChain}
 
 -- ---- the steps of a chain, one by one
--- the first n of a list, parted at a place below n
+-- the first n of a list, parted at an index below n
 parted : (l : List Step) (n i : ℕ) (d : Step) → i < n → i < length l → (b : List Step) × (take n l ≡ take i l ++ (getD l i d ∷ b))
 parted [] n i d h k = absurd (NatL.not-suc-le-zero k)
 parted (x ∷ xs) zero i d h k = absurd (NatL.not-suc-le-zero h)
@@ -42,7 +42,7 @@ good-steps : (c : Chain) → profileRange (c .profile) ≡ true → c .length �
 good-steps c p short e = rw (p, le-ltb 8 (c .length) short) e
 
 -- a bad chain
-bad : (c : Chain) (m : List ℤ) → (first (chainTests c) ≡ 0 → ⊥) → Prepares c m false
+bad : (c : Chain) (m : List ℤ) → (first (chainTests c) ≡ 0 → ⊥) → PreparesChain c m false
 bad c m n = record { told = sym (ne-eqb (first (chainTests c)) 0 n); holds = λ q. absurd (let z : _≡_ {A = ℕ} 0 1 = cc in omega arith) }
 
 -- ---- the loop
@@ -58,18 +58,18 @@ module _ (c : Chain) (short : c .length ≤ 8) (room : length (c .steps) ≡ 8) 
       let n : length (take i (c .steps)) ≡ i = length-take-le i (c .steps) (omega arith) in
       extend-joins (c .profile) l (take i (c .steps)) here held (f .0) ∙ rw (f .1, n, lt-leb 8 i (omega arith))
 
-  pub refused-step : (n : ℕ) → n ≡ extendFault (c .profile) l here → (n ≡ 0 → ⊥) → (m : List ℤ) → Prepares c m false
+  pub refused-step : (n : ℕ) → n ≡ extendFault (c .profile) l here → (n ≡ 0 → ⊥) → (m : List ℤ) → PreparesChain c m false
   refused-step n e z m = bad c m (λ q. z (e ∙ accepted q))
 
   pub next-step : extendFault (c .profile) l here ≡ 0 → (m : List ℤ) → m ≡ extendedBy (c .profile) l here → prepared.Holds (c .profile) m (take (i + 1) (c .steps))
   next-step z m e = rw (e, add-one, take-suc (c .steps) i d (omega arith)) (extend-holds (c .profile) l (take i (c .steps)) here held z)
 
 -- of no profile
-pub no-profile : (c : Chain) → profileRange (c .profile) ≡ false → (m : List ℤ) → Prepares c m false
+pub no-profile : (c : Chain) → profileRange (c .profile) ≡ false → (m : List ℤ) → PreparesChain c m false
 no-profile c h m = bad c m (λ e. let z : _≡_ {A = ℕ} 0 1 = omega (arith, rw h at e) in absurd (omega arith))
 
 -- too long
-pub long-chain : (c : Chain) → profileRange (c .profile) ≡ true → 8 < c .length → (m : List ℤ) → Prepares c m false
+pub long-chain : (c : Chain) → profileRange (c .profile) ≡ true → 8 < c .length → (m : List ℤ) → PreparesChain c m false
 long-chain c p h m = bad c m (λ e. let z : _≡_ {A = ℕ} 0 1 = omega (arith, rw (p, lt-ltb 8 (c .length) h) at e) in absurd (omega arith))
 
 -- nothing prepared yet
@@ -77,7 +77,7 @@ pub none-prepared : (y : ℤ) (ss : List Step) (l : List ℤ) → profileRange y
 none-prepared y ss l p e = rw e (holds-none y (replicate 72 (pos 0)) p refl refl)
 
 -- and all of it
-pub all-prepared : (c : Chain) → c .length ≤ 8 → (l : List ℤ) → prepared.Holds (c .profile) l (stepsOf c) → Prepares c l true
+pub all-prepared : (c : Chain) → c .length ≤ 8 → (l : List ℤ) → prepared.Holds (c .profile) l (stepsOf c) → PreparesChain c l true
 all-prepared c short l held =
     let g = rw (take-length (stepsOf c)) at (held .sound) in
     let p = head-holds (profileRange (c .profile)) _ _ g in

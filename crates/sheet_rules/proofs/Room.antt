@@ -32,9 +32,9 @@ use Rattle.listing.specs.Fold.{run, longestInput, roomFor}
 use Rattle.listing.proofs.Room.{Roomy, refusal-fits, printed-fits}
 use Rattle.sheet_rules.specs.declared.Reply.{Reply}
 use Rattle.sheet_rules.specs.declared.Reply.the-variants as reply
-use Rattle.sheet_rules.specs.Sheet.{Sheet, fresh, rules, replyText, refuse, malformed, stepTests, stepReply, conversionReply, pointReply, editionTests, editionReply, replyOf, sheetOf}
+use Rattle.sheet_rules.specs.Sheet.{Sheet, fresh, rules, replyText, refuse, malformed, stepLineTests, stepReply, conversionReply, pointReply, editionTests, editionReply, replyOf, sheetOf}
 use Rattle.sheet_rules.specs.declared.Standing.{Standing}
-use Rattle.sheet_rules.specs.OneLine.{mostLines, said, past, replyTo}
+use Rattle.sheet_rules.specs.OneLine.{mostLines, sheetAt, pastLines, replyTo}
 use Rattle.sheet_rules.proofs.Laws.{next-line}
 
 -- a reply has at most n bytes
@@ -49,7 +49,7 @@ module _ (s : Sheet) (l : List ℕ) (n : ℕ) (refused : (k : ℕ) → k < 100 �
   unless-refused (suc k) h = refused (suc k) h
 
   step : Fits n (stepReply s (readStep (s .profile) l))
-  step = step-outcome (s .profile) (λ (r : StepLine). Fits n (stepReply s r)) l (λ t f. unless-refused (first (stepTests s t)) (first-short (stepTests s t) tt)) bad-form refused
+  step = step-outcome (s .profile) (λ (r : StepLine). Fits n (stepReply s r)) l (λ t f. unless-refused (first (stepLineTests s t)) (first-short (stepLineTests s t) tt)) bad-form refused
 
   edition : Fits n (editionReply s (readEdition l))
   edition = edition-outcome (λ (r : EditionLine). Fits n (editionReply s r)) l (λ y. unless-refused (first (editionTests s y)) (first-short (editionTests s y) tt)) bad-form
@@ -90,11 +90,11 @@ reply-short s l h =
 
 pub answer-short : (st : Standing) (l : List ℕ) → st .line ≤ suc mostLines → length (replyText (replyTo st l)) ≤ 100
 unfolding replyTo
-answer-short st l h = go (past st)
+answer-short st l h = go (pastLines st)
   where
-    go : (b : Bool) → length (replyText (pick b (reply.Refused (suc mostLines) refusal.limit 0) (replyOf (said st) l))) ≤ 100
+    go : (b : Bool) → length (replyText (pick b (reply.Refused (suc mostLines) refusal.limit 0) (replyOf (sheetAt st) l))) ≤ 100
     go true = refusal-short (suc mostLines) refusal.limit 0 (omega arith) (omega arith) (omega arith)
-    go false = reply-short (said st) l h
+    go false = reply-short (sheetAt st) l h
 
 pub roomy : Roomy rules (λ (s : Sheet). s .line)
 roomy = record { counts = next-line; short = short }

@@ -18,9 +18,9 @@ use Rattle.line.proofs.Unread.{NoFeed, no-feed-in, no-feed-last, no-body, long-
 use Rattle.sheet_rules.specs.declared.Reply.the-variants as reply
 use Rattle.sheet_rules.specs.Sheet.{Sheet, malformed, withoutStep, afterPoint, passed, replyOf, nextOf}
 
-unread-18 : (s : Sheet) (l : List ℕ) → body l ≡ none → replyOf s l ≡ malformed s (unreadFault l)
+unread-length : (s : Sheet) (l : List ℕ) → body l ≡ none → replyOf s l ≡ malformed s (unreadFault l)
 unfolding replyOf
-unread-18 s l e =
+unread-length s l e =
     rw (unread-step (s .profile) l e, unread-point (s .profile) l e, unread-edition l e, unread-strange l e)
     (go (eqb (getD l 0 0) letterS) (eqb (getD l 0 0) letterP) (eqb (getD l 0 0) letterE))
   where
@@ -37,14 +37,14 @@ unread-after s l e = rw (unread-step (s .profile) l e, unread-point (s .profile)
 
 module _ (s : Sheet) (k l : List ℕ) (e : body k ≡ none) (f : body l ≡ none) where
   unread-reply : endOf k ≡ endOf l → replyOf s k ≡ replyOf s l
-  unread-reply g = unread-18 s k e ∙ ap (λ (n : ℕ). malformed s (fault refusal.length n)) g ∙ sym (unread-18 s l f)
+  unread-reply g = unread-length s k e ∙ ap (λ (n : ℕ). malformed s (fault refusal.length n)) g ∙ sym (unread-length s l f)
 
   unread-next : getD k 0 0 ≡ getD l 0 0 → nextOf s k ≡ nextOf s l
   unread-next g = unread-after s k e ∙ rw g (sym (unread-after s l f))
 
 -- a line that no line feed ends
-pub open-18 : (s : Sheet) (w : List ℕ) → (getD w (length w - 1) 0 ≡ lineFeed → ⊥) → replyOf s w ≡ reply.Refused (s .line) refusal.length (min (length w) longestLine)
-open-18 s w n = unread-18 s w (no-body w n) ∙ ap (reply.Refused (s .line) refusal.length) (end-open w n)
+pub open-length : (s : Sheet) (w : List ℕ) → (getD w (length w - 1) 0 ≡ lineFeed → ⊥) → replyOf s w ≡ reply.Refused (s .line) refusal.length (min (length w) longestLine)
+open-length s w n = unread-length s w (no-body w n) ∙ ap (reply.Refused (s .line) refusal.length) (end-open w n)
 
 -- ---- of a line over 200 bytes, or left open past 200, the rules see no more than its first 200
 module _ (s : Sheet) (w : List ℕ) (n : NoFeed w) (h : longestLine ≤ length w) where

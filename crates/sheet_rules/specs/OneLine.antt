@@ -29,20 +29,20 @@ abbrev pub mostLines : ℕ
 mostLines = 1000000
 
 -- ---- the sheet that stands here
-abbrev pub said : Standing → Sheet
-said s = record { line = s .line; profile = s .chain .profile; steps = stepsOf (s .chain); refused = s .refused; closed = s .closed }
+abbrev pub sheetAt : Standing → Sheet
+sheetAt s = record { line = s .line; profile = s .chain .profile; steps = stepsOf (s .chain); refused = s .refused; closed = s .closed }
 
--- these steps in a chain's places, under a profile; the places past them stay as they were
+-- these steps in a chain, under a profile; what stands past them stays as it was
 abbrev pub chainWith : Chain → ℤ → List Step → Chain
 chainWith c y ss = record { steps = ss ++ drop (length ss) (c .steps); length = length ss; profile = y }
 
--- where a sheet stands, in the places of a chain
+-- where a sheet stands, its steps in a chain
 abbrev pub standingAt : Chain → Sheet → Standing
 standingAt c s = record { line = s .line; chain = chainWith c (s .profile) (s .steps); refused = s .refused; closed = s .closed }
 
--- nothing read yet, in whatever places
+-- nothing read yet, whatever steps the chain has to spare
 abbrev pub freshAt : List Step → Standing
-freshAt places = record { line = 1; chain = record { steps = places; length = 0; profile = latest }; refused = false; closed = false }
+freshAt spare = record { line = 1; chain = record { steps = spare; length = 0; profile = latest }; refused = false; closed = false }
 
 -- ---- a sheet can stand here: its counts are in range, and its chain is good by value
 -- the line to come has at most one line past the limit as its number, and no line before it gave more than one step
@@ -53,14 +53,14 @@ unfoldable pub soundStanding : Standing → Bool
 soundStanding s = counted (s .line) (s .chain .length) && eqb (first (chainTests (s .chain))) 0
 
 -- ---- one line: 28 past the limit, before all others, which is not read and moves nothing; else as the sheet's rules say
-unfoldable pub past : Standing → Bool
-past s = ltb mostLines (s .line)
+unfoldable pub pastLines : Standing → Bool
+pastLines s = ltb mostLines (s .line)
 
 unfoldable pub replyTo : Standing → List ℕ → Reply
-replyTo s l = pick (past s) (reply.Refused (suc mostLines) refusal.limit 0) (replyOf (said s) l)
+replyTo s l = pick (pastLines s) (reply.Refused (suc mostLines) refusal.limit 0) (replyOf (sheetAt s) l)
 
 unfoldable pub afterLine : Standing → List ℕ → Standing
-afterLine s l = pick (past s) s (standingAt (s .chain) (nextOf (said s) l))
+afterLine s l = pick (pastLines s) s (standingAt (s .chain) (nextOf (sheetAt s) l))
 
 abbrev pub answered : Standing → Response → Answered
 answered s r = record { standing = s; response = r }
@@ -89,7 +89,7 @@ pointAnswered c line refused l =
 
 -- ---- how the code gets there
 -- a chain prepared step by step: whether it is good, and the numbers that hold it
-pub record Prepares (c : Chain) (numbers : List ℤ) (good : Bool) : Type 0 where
+pub record PreparesChain (c : Chain) (numbers : List ℤ) (good : Bool) : Type 0 where
   pub told : good ≡ eqb (first (chainTests c)) 0
   pub holds : good ≡ true → prepared.Holds (c .profile) numbers (stepsOf c)
 

@@ -60,15 +60,15 @@ abbrev pub malformed : Sheet → Fault → Reply
 malformed s f = reply.Refused (s .line) (f .number) (f .place)
 
 -- ---- a step line: its form, 2, 3, 25, 4 by itself, then 8, 7, 5, 6
-abbrev pub stepTests : Sheet → Step → List Test
-stepTests s step =
+abbrev pub stepLineTests : Sheet → Step → List Test
+stepLineTests s step =
     (s .refused gives refusal.earlier) ∷ (s .closed gives refusal.misplaced) ∷ moreTests (s .steps) step
 
 -- an accepted step prints nothing
 abbrev pub stepReply : Sheet → StepLine → Reply
 stepReply s (step-line.Malformed f) = malformed s f
 stepReply s (step-line.Refused n) = refuse s n
-stepReply s (step-line.Step step) = unless (first (stepTests s step)) (refuse s) reply.Nothing
+stepReply s (step-line.Step step) = unless (first (stepLineTests s step)) (refuse s) reply.Nothing
 
 abbrev pub withStep : Sheet → Step → Sheet
 withStep s step = record { line = s .line + 1; profile = s .profile; steps = s .steps ++ (step ∷ []); refused = s .refused; closed = s .closed }
@@ -80,7 +80,7 @@ withoutStep s = record { line = s .line + 1; profile = s .profile; steps = s .st
 abbrev pub afterStep : Sheet → StepLine → Sheet
 afterStep s (step-line.Malformed f) = withoutStep s
 afterStep s (step-line.Refused n) = withoutStep s
-afterStep s (step-line.Step step) = unless (first (stepTests s step)) (λ _. withoutStep s) (withStep s step)
+afterStep s (step-line.Step step) = unless (first (stepLineTests s step)) (λ _. withoutStep s) (withStep s step)
 
 -- ---- a point line: its form, 2, 3, 25 by itself, then 8, then 9, 10, 11 of the conversion
 abbrev pub conversionReply : Sheet → Answer → Reply

@@ -13,7 +13,7 @@ use Rattle.sheet_stream.specs.declared.Stream.{Stream}
 use Rattle.sheet_stream.specs.declared.Fed.{Fed}
 use Rattle.sheet_stream.specs.declared.Outcome.the-variants.{Open, Line, Refused}
 use Rattle.sheet_stream.specs.Fragments.{keep, ended, endReply, fed, later, scan, sound, feedOf}
-use Rattle.sheet_stream.specs.Calls.{Told, told, after, saidBy, calls, deliver, joined, bytes, AnyCalls, done, call}
+use Rattle.sheet_stream.specs.Calls.{SoFar, soFar, after, saidBy, calls, deliver, joined, bytes, AnyCalls, done, call}
 use Rattle.sheet_stream.specs.WholeSheet.{CutsDontMatter}
 use Rattle.sheet_stream.proofs.Laws.{Sound, sound-parts, sound-made, sound-ended, sound-keep, sound-scan, feed-sound, takes}
 
@@ -27,7 +27,7 @@ scan-bytes s (b ∷ f) = go (eqb b lineFeed) (scan-bytes (keep s b) f)
     go true ih = refl
     go false ih = ih
 
-none : (s : Stream) → told [] s ≡ bytes s []
+none : (s : Stream) → soFar [] s ≡ bytes s []
 unfolding bytes
 none s = refl
 
@@ -48,7 +48,7 @@ unfolding bytes
 sound-bytes s [] p = p
 sound-bytes s (b ∷ f) p = go (eqb b lineFeed) (sound-bytes (ended s) f (sound-ended s p)) (sound-bytes (keep s b) f (sound-keep s b p))
   where
-    go : (t : Bool) → Sound (bytes (ended s) f .state) → Sound (bytes (keep s b) f .state) → Sound (pick {A = Told} t (after (endReply s ∷ []) (bytes (ended s) f)) (bytes (keep s b) f) .state)
+    go : (t : Bool) → Sound (bytes (ended s) f .state) → Sound (bytes (keep s b) f .state) → Sound (pick {A = SoFar} t (after (endReply s ∷ []) (bytes (ended s) f)) (bytes (keep s b) f) .state)
     go true h k = h
     go false h k = k
 
@@ -58,7 +58,7 @@ unfolding bytes
 bytes-append s [] b = refl
 bytes-append s (x ∷ a) b = go (eqb x lineFeed) (bytes-append (ended s) a b) (bytes-append (keep s x) a b)
   where
-    go : (t : Bool) → bytes (ended s) (a ++ b) ≡ after (bytes (ended s) a .replies) (bytes (bytes (ended s) a .state) b) → bytes (keep s x) (a ++ b) ≡ after (bytes (keep s x) a .replies) (bytes (bytes (keep s x) a .state) b) → pick t (after (endReply s ∷ []) (bytes (ended s) (a ++ b))) (bytes (keep s x) (a ++ b)) ≡ (let r : Told = pick t (after (endReply s ∷ []) (bytes (ended s) a)) (bytes (keep s x) a) in after (r .replies) (bytes (r .state) b))
+    go : (t : Bool) → bytes (ended s) (a ++ b) ≡ after (bytes (ended s) a .replies) (bytes (bytes (ended s) a .state) b) → bytes (keep s x) (a ++ b) ≡ after (bytes (keep s x) a .replies) (bytes (bytes (keep s x) a .state) b) → pick t (after (endReply s ∷ []) (bytes (ended s) (a ++ b))) (bytes (keep s x) (a ++ b)) ≡ (let r : SoFar = pick t (after (endReply s ∷ []) (bytes (ended s) a)) (bytes (keep s x) a) in after (r .replies) (bytes (r .state) b))
     go true h k = ap (after (endReply s ∷ [])) h
     go false h k = k
 
@@ -91,7 +91,7 @@ scan-any s (b ∷ f) rest = go (eqb b lineFeed) refl (scan-any (keep s b) f rest
     go true q ih = bytes-feed s b rest q
     go false q ih = bytes-keep s b (take (scan (keep s b) f .taken) f ++ rest) q ∙ ih
 
-pub any-calls : {s s' : Stream} {text : List ℕ} {rs : List Reply} → Sound s → AnyCalls s text rs s' → bytes s text ≡ told rs s'
+pub any-calls : {s s' : Stream} {text : List ℕ} {rs : List Reply} → Sound s → AnyCalls s text rs s' → bytes s text ≡ soFar rs s'
 any-calls p done = sym (none _)
 any-calls {s} {s'} p (call {rest = rest} {rs = rs} f more) =
     let e = feed-sound s f (sound-made s p) in
@@ -99,5 +99,5 @@ any-calls {s} {s'} p (call {rest = rest} {rs = rs} f more) =
     let i = any-calls q more in
     go f rest rs e i
   where
-    go : (f rest : List ℕ) (rs : List Reply) → feedOf s f ≡ scan s f → bytes (feedOf s f .stream) rest ≡ told rs s' → bytes s (take (feedOf s f .taken) f ++ rest) ≡ told (saidBy (feedOf s f .outcome) ++ rs) s'
+    go : (f rest : List ℕ) (rs : List Reply) → feedOf s f ≡ scan s f → bytes (feedOf s f .stream) rest ≡ soFar rs s' → bytes s (take (feedOf s f .taken) f ++ rest) ≡ soFar (saidBy (feedOf s f .outcome) ++ rs) s'
     go f rest rs e i = rw e (scan-any s f rest ∙ ap (after (saidBy (scan s f .outcome))) (rw e at i))

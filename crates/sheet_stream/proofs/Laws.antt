@@ -19,20 +19,20 @@ use Rattle.sheet_rules.specs.declared.Reply.{Reply}
 use Rattle.sheet_rules.specs.declared.Reply.the-variants as reply
 use Rattle.sheet_rules.specs.declared.Response.{Response}
 use Rattle.sheet_rules.specs.declared.Response.the-variants as response
-use Rattle.sheet_rules.specs.OneLine.{mostLines, said, soundStanding, replyTo, afterLine, answered, answeredTo, lineAnswered}
+use Rattle.sheet_rules.specs.OneLine.{mostLines, sheetAt, soundStanding, replyTo, afterLine, answered, answeredTo, lineAnswered}
 use Rattle.sheet_rules.proofs.OneLine.{both, sound-after, reply-rules, reply-past}
 use Rattle.sheet_rules.proofs.OneLine as line
 use Rattle.sheet_rules.proofs.Room.{answer-short}
-use Rattle.sheet_rules.proofs.Unread.{open-18}
+use Rattle.sheet_rules.proofs.Unread.{open-length}
 use Rattle.sheet_stream.specs.declared.Stream.{Stream}
 use Rattle.sheet_stream.specs.declared.Fed.{Fed}
 use Rattle.sheet_stream.specs.declared.Outcome.the-variants.{Open, Line, Refused}
-use Rattle.sheet_stream.specs.Fragments.{between, empty, keep, held, unended, closing, ended, endReply, fed, later, scan, sound, unsound, feedOf, finishOf, Countable, Short}
+use Rattle.sheet_stream.specs.Fragments.{between, noBytes, keep, held, unended, closing, ended, endReply, fed, later, scan, sound, unsound, feedOf, finishOf, Countable, Short}
 
 -- no bytes kept: a room of zeros
-pub empty-is : replicate 200 0 ≡ empty
-unfolding empty
-empty-is = refl
+pub no-bytes-is : replicate 200 0 ≡ noBytes
+unfolding noBytes
+no-bytes-is = refl
 
 -- ---- a sound state
 pub record Sound (s : Stream) : Type 0 where
@@ -82,9 +82,9 @@ pub feed-sound : (s : Stream) (f : List ℕ) → sound s ≡ true → feedOf s f
 unfolding feedOf
 feed-sound s f e = rw e
 
-pub feed-29 : (s : Stream) (f : List ℕ) → sound s ≡ false → feedOf s f ≡ unsound s
+pub feed-state : (s : Stream) (f : List ℕ) → sound s ≡ false → feedOf s f ≡ unsound s
 unfolding feedOf
-feed-29 s f e = rw e
+feed-state s f e = rw e
 
 -- some byte is taken, where there is one
 pub takes : (s : Stream) (b : ℕ) (f : List ℕ) → 1 ≤ scan s (b ∷ f) .taken
@@ -128,9 +128,9 @@ unended-last l = go (eqb (getD l (length l - 1) 0) lineFeed) refl
         n (rw (unended-same l n) at e)
 
 -- ---- the finish
-pub finish-29 : (s : Stream) → sound s ≡ false → finishOf s ≡ unsound s
+pub finish-state : (s : Stream) → sound s ≡ false → finishOf s ≡ unsound s
 unfolding finishOf
-finish-29 s e = rw e
+finish-state s e = rw e
 
 pub finish-none : (s : Stream) → sound s ≡ true → s .count ≡ 0 → finishOf s ≡ fed (between (s .standing) true) 0 Open
 unfolding finishOf
@@ -154,22 +154,22 @@ unfolding sound
 not-going s e = rw e
 
 pub fed-after-finish : (s : Stream) (f : List ℕ) → s .finished ≡ true → feedOf s f ≡ unsound s
-fed-after-finish s f e = feed-29 s f (not-going s e)
+fed-after-finish s f e = feed-state s f (not-going s e)
 
 pub finished-after-finish : (s : Stream) → s .finished ≡ true → finishOf s ≡ unsound s
-finished-after-finish s e = finish-29 s (not-going s e)
+finished-after-finish s e = finish-state s (not-going s e)
 
 -- ---- what the finish answers to a line left open: 18 at its length within the limit; past the limit 28
-pub finish-18 : (s : Stream) → sound s ≡ true → length (s .kept) ≡ longestLine → 0 < s .count → s .standing .line ≤ mostLines → finishOf s .outcome ≡ Line (reply.Refused (s .standing .line) refusal.length (s .count))
-finish-18 s e k h l =
+pub finish-length : (s : Stream) → sound s ≡ true → length (s .kept) ≡ longestLine → 0 < s .count → s .standing .line ≤ mostLines → finishOf s .outcome ≡ Line (reply.Refused (s .standing .line) refusal.length (s .count))
+finish-length s e k h l =
     let p = sound-parts s e in
     let z : length (held s) ≡ s .count = length-take-le (s .count) (s .kept) (omega (arith, p .count)) in
     let m : min (length (unended (held s))) longestLine ≡ s .count = omega (arith, p .count, unended-length (held s)) in
     ap (λ (r : Fed). r .outcome) (finish-open s e (λ q. omega arith))
-    ∙ ap Line (reply-rules (s .standing) (unended (held s)) l ∙ open-18 (said (s .standing)) (unended (held s)) (unended-last (held s)) ∙ ap (reply.Refused (s .standing .line) refusal.length) m)
+    ∙ ap Line (reply-rules (s .standing) (unended (held s)) l ∙ open-length (sheetAt (s .standing)) (unended (held s)) (unended-last (held s)) ∙ ap (reply.Refused (s .standing .line) refusal.length) m)
 
-pub finish-28 : (s : Stream) → sound s ≡ true → 0 < s .count → mostLines < s .standing .line → finishOf s .outcome ≡ Line (reply.Refused (suc mostLines) refusal.limit 0)
-finish-28 s e h l = ap (λ (r : Fed). r .outcome) (finish-open s e (λ q. omega arith)) ∙ ap Line (reply-past (s .standing) (unended (held s)) l)
+pub finish-limit : (s : Stream) → sound s ≡ true → 0 < s .count → mostLines < s .standing .line → finishOf s .outcome ≡ Line (reply.Refused (suc mostLines) refusal.limit 0)
+finish-limit s e h l = ap (λ (r : Fed). r .outcome) (finish-open s e (λ q. omega arith)) ∙ ap Line (reply-past (s .standing) (unended (held s)) l)
 
 -- ---- for callers: no more is taken than there is
 scan-within : (s : Stream) (f : List ℕ) → scan s f .taken ≤ length f

@@ -23,7 +23,7 @@ use Rattle.sheet_rules.specs.declared.Reply.{Reply}
 use Rattle.sheet_rules.specs.declared.Standing.{Standing}
 use Rattle.sheet_rules.specs.Sheet.{Sheet, rules, replyText, nextOf}
 use Rattle.sheet_rules.specs.Sheet as sheet
-use Rattle.sheet_rules.specs.OneLine.{mostLines, said, standingAt, freshAt, replyTo, afterLine}
+use Rattle.sheet_rules.specs.OneLine.{mostLines, sheetAt, standingAt, freshAt, replyTo, afterLine}
 use Rattle.sheet_rules.proofs.Laws.{next-line}
 use Rattle.sheet_rules.proofs.OneLine.{reply-past, after-past, reply-rules, after-rules, after-standing, same-reply, same-after}
 use Rattle.sheet_rules.proofs.OneLine as line
@@ -31,8 +31,8 @@ use Rattle.sheet_rules.proofs.Room.{sheet-lines}
 use Rattle.sheet_rules.proofs.Unread.{cut-reply, cut-next, open-reply, open-next}
 use Rattle.sheet_stream.specs.declared.Stream.{Stream}
 use Rattle.sheet_stream.specs.declared.Outcome.the-variants.{Open, Line, Refused}
-use Rattle.sheet_stream.specs.Fragments.{empty, between, fresh, keep, held, unended, closing, ended, endReply, finishOf}
-use Rattle.sheet_stream.specs.Calls.{Told, told, after, deliver, joined, bytes, finished, rulesRun, rulesLast, texts}
+use Rattle.sheet_stream.specs.Fragments.{noBytes, between, fresh, keep, held, unended, closing, ended, endReply, finishOf}
+use Rattle.sheet_stream.specs.Calls.{SoFar, soFar, after, deliver, joined, bytes, finished, rulesRun, rulesLast, texts}
 use Rattle.sheet_stream.specs.WholeSheet.{OverTheLink, oneRun, answersTo, closingOf, noSteps, pastLimit}
 use Rattle.sheet_stream.proofs.Laws.{Sound, sound-parts, sound-made, sound-ended, sound-keep, unended-same, finish-none, finish-open}
 use Rattle.sheet_stream.proofs.Cuts.{deliver-bytes, any-calls}
@@ -76,7 +76,7 @@ record Holds (s : Stream) (st : Standing) (w : List ℕ) : Type 0 where
   size : length (s .kept) ≡ longestLine
 
 held-none : (st : Standing) (fin : Bool) → Holds (between st fin) st []
-unfolding empty
+unfolding noBytes
 held-none st fin = record { standing = refl; count = refl; begins = refl; size = length-replicate {A = ℕ} 200 0 }
 
 held-more : (s : Stream) (st : Standing) (w : List ℕ) (b : ℕ) → Holds s st w → Holds (keep s b) st (w ++ (b ∷ []))
@@ -127,7 +127,7 @@ ended-line s st w h n = go (ltb (s .count) longestLine) refl
     go false q =
         let l = ltb-false (s .count) longestLine q in
         let m : longestLine ≤ length w = omega (arith, h .count) in
-        rw (open-held s st w h n, h .begins) (record { reply = same-reply st _ _ (cut-reply (said st) w n m); next = same-after st _ _ (cut-next (said st) w n m) })
+        rw (open-held s st w h n, h .begins) (record { reply = same-reply st _ _ (cut-reply (sheetAt st) w n m); next = same-after st _ _ (cut-next (sheetAt st) w n m) })
 
 -- and what they are handed at the finish, for the open line
 open-line : (s : Stream) (st : Standing) (w : List ℕ) → Holds s st w → NoFeed w → Same st (unended (held s)) w
@@ -137,7 +137,7 @@ open-line s st w h n = rw (open-held s st w h n) (go (ltb (length w) longestLine
     go true q = let l = ltb-true (length w) longestLine q in same st _ _ (h .begins ∙ take-all longestLine w (omega arith))
     go false q =
         let m = ltb-false (length w) longestLine q in
-        rw (h .begins) (record { reply = same-reply st _ _ (open-reply (said st) w n m); next = same-after st _ _ (open-next (said st) w n m) })
+        rw (h .begins) (record { reply = same-reply st _ _ (open-reply (sheetAt st) w n m); next = same-after st _ _ (open-next (sheetAt st) w n m) })
 
 -- ---- the run, line by line, with the limit
 run : Standing → List (List ℕ) → List Reply
@@ -148,17 +148,17 @@ last : Standing → List (List ℕ) → Standing
 last st [] = st
 last st (l ∷ ls) = last (afterLine st l) ls
 
-abbrev Ran : Standing → List (List ℕ) → Told
-Ran st ls = told (run st ls) (between (last st ls) true)
+abbrev Ran : Standing → List (List ℕ) → SoFar
+Ran st ls = soFar (run st ls) (between (last st ls) true)
 
-at-end : (s : Stream) (st : Standing) (w : List ℕ) → Sound s → NoFeed w → Holds s st w → finished (told [] s) ≡ Ran st (openEnd w)
+at-end : (s : Stream) (st : Standing) (w : List ℕ) → Sound s → NoFeed w → Holds s st w → finished (soFar [] s) ≡ Ran st (openEnd w)
 unfolding finished run last
 at-end s st [] p n h = rw (finish-none s (sound-made s p) (h .count), h .standing)
 at-end s st (a ∷ w) p n h =
     let e = open-line s st (a ∷ w) h n in
     rw (finish-open s (sound-made s p) (λ z. omega (arith, h .count, z)), h .standing, e .reply, e .next)
 
-at-feed : (s : Stream) (st : Standing) (w : List ℕ) (t : Told) (ls : List (List ℕ)) → NoFeed w → Holds s st w → finished t ≡ Ran (afterLine st (w ++ (lineFeed ∷ []))) ls → finished (after (endReply s ∷ []) t) ≡ Ran st ((w ++ (lineFeed ∷ [])) ∷ ls)
+at-feed : (s : Stream) (st : Standing) (w : List ℕ) (t : SoFar) (ls : List (List ℕ)) → NoFeed w → Holds s st w → finished t ≡ Ran (afterLine st (w ++ (lineFeed ∷ []))) ls → finished (after (endReply s ∷ []) t) ≡ Ran st ((w ++ (lineFeed ∷ [])) ∷ ls)
 unfolding finished run last endReply
 at-feed s st w t ls n h e =
     let m = ended-line s st w h n in
@@ -183,11 +183,11 @@ runs (b ∷ f) s st w p n h =
     go true q e k = rw (eqb-true b lineFeed q) (at-feed s st w (bytes (ended s) f) (linesFrom [] f) n h e)
     go false q e k = k (eqb-false b lineFeed q)
 
-fresh-sound : (places : List Step) → Sound (fresh places)
-fresh-sound places = record { going = refl; count = omega arith; standing = line.fresh-sound places }
+fresh-sound : (spare : List Step) → Sound (fresh spare)
+fresh-sound spare = record { going = refl; count = omega arith; standing = line.fresh-sound spare }
 
 -- ---- the run is the rules' own up to the limit, then 28 for each further line
-limited : (ls : List (List ℕ)) (st : Standing) (k : ℕ) → st .line + k ≡ suc mostLines → run st ls ≡ rulesRun (said st) (take k ls) ++ replicate (length ls - k) pastLimit
+limited : (ls : List (List ℕ)) (st : Standing) (k : ℕ) → st .line + k ≡ suc mostLines → run st ls ≡ rulesRun (sheetAt st) (take k ls) ++ replicate (length ls - k) pastLimit
 unfolding run rulesRun
 limited [] st k e = let z : 0 - k ≡ 0 = omega arith in rw (take-nil k, z)
 limited (l ∷ ls) st zero e =
@@ -197,12 +197,12 @@ limited (l ∷ ls) st zero e =
 limited (l ∷ ls) st (suc k) e =
     let h : st .line ≤ mostLines = omega arith in
     let y : suc (length ls) - suc k ≡ length ls - k = omega arith in
-    let n : afterLine st l .line ≡ st .line + 1 = ap (λ (x : Sheet). x .line) (after-rules st l h) ∙ next-line (said st) l in
+    let n : afterLine st l .line ≡ st .line + 1 = ap (λ (x : Sheet). x .line) (after-rules st l h) ∙ next-line (sheetAt st) l in
     let i = limited ls (afterLine st l) k (omega arith) in
-    let j : rulesRun (said (afterLine st l)) (take k ls) ≡ rulesRun (nextOf (said st) l) (take k ls) = ap (λ (x : Sheet). rulesRun x (take k ls)) (after-rules st l h) in
+    let j : rulesRun (sheetAt (afterLine st l)) (take k ls) ≡ rulesRun (nextOf (sheetAt st) l) (take k ls) = ap (λ (x : Sheet). rulesRun x (take k ls)) (after-rules st l h) in
     rw (reply-rules st l h, i, j, y)
 
--- and leaves the sheet where the rules leave it, in the places of the chain that it began with
+-- and leaves the sheet where the rules leave it, in the chain that it began with
 stands : (ls : List (List ℕ)) (c : Chain) (s : Sheet) (k : ℕ) → s .line + k ≡ suc mostLines → last (standingAt c s) ls ≡ standingAt c (rulesLast s (take k ls))
 unfolding last rulesLast
 stands [] c s k e = rw (take-nil k)
@@ -210,20 +210,20 @@ stands (l ∷ ls) c s zero e = rw (after-past (standingAt c s) l (omega arith)) 
 stands (l ∷ ls) c s (suc k) e =
     ap (λ (st : Standing). last st ls) (after-standing c s l (omega arith)) ∙ stands ls c (nextOf s l) k (omega (arith, next-line s l))
 
-ran : (places : List Step) (text : List ℕ) → Ran (freshAt places) (lines text) ≡ oneRun places text
+ran : (spare : List Step) (text : List ℕ) → Ran (freshAt spare) (lines text) ≡ oneRun spare text
 unfolding answersTo closingOf
-ran places text =
-    rw (limited (lines text) (freshAt places) mostLines refl, stands (lines text) (noSteps places) sheet.fresh mostLines refl)
+ran spare text =
+    rw (limited (lines text) (freshAt spare) mostLines refl, stands (lines text) (noSteps spare) sheet.fresh mostLines refl)
 
 -- the answers and the closing state, byte by byte
-bytes-run : (places : List Step) (text : List ℕ) → finished (bytes (fresh places) text) ≡ oneRun places text
-bytes-run places text =
-    runs text (fresh places) (freshAt places) [] (fresh-sound places) none-yet (held-none (freshAt places) false)
-    ∙ ap (Ran (freshAt places)) (from-lines [] text ∙ glue-none (lines text))
-    ∙ ran places text
+bytes-run : (spare : List Step) (text : List ℕ) → finished (bytes (fresh spare) text) ≡ oneRun spare text
+bytes-run spare text =
+    runs text (fresh spare) (freshAt spare) [] (fresh-sound spare) none-yet (held-none (freshAt spare) false)
+    ∙ ap (Ran (freshAt spare)) (from-lines [] text ∙ glue-none (lines text))
+    ∙ ran spare text
 
-cut : (places : List Step) (fs : List (List ℕ)) → finished (deliver (fresh places) fs) ≡ oneRun places (joined fs)
-cut places fs = ap finished (deliver-bytes (fresh places) fs (fresh-sound places)) ∙ bytes-run places (joined fs)
+cut : (spare : List Step) (fs : List (List ℕ)) → finished (deliver (fresh spare) fs) ≡ oneRun spare (joined fs)
+cut spare fs = ap finished (deliver-bytes (fresh spare) fs (fresh-sound spare)) ∙ bytes-run spare (joined fs)
 
 -- ---- and prints what a whole sheet prints
 prints : (ls : List (List ℕ)) (s : Sheet) → texts (rulesRun s ls) ≡ listing.run rules s ls
@@ -235,16 +235,16 @@ prints (l ∷ ls) s = ap (λ (t : List ℕ). replyText (sheet.replyOf s l) ++ t)
 all-answered : (k : ℕ) (ls : List (List ℕ)) → length ls ≤ k → texts (rulesRun sheet.fresh (take k ls) ++ replicate (length ls - k) pastLimit) ≡ listing.run rules sheet.fresh ls
 all-answered k ls h = let z : length ls - k ≡ 0 = omega (arith, h) in rw (z, take-all k ls h, append-nil) (prints ls sheet.fresh)
 
-printed : (places : List Step) (fs : List (List ℕ)) → length (joined fs) ≤ longestInput → texts (finished (deliver (fresh places) fs) .replies) ≡ sheet.sheetOf (joined fs)
+printed : (spare : List Step) (fs : List (List ℕ)) → length (joined fs) ≤ longestInput → texts (finished (deliver (fresh spare) fs) .replies) ≡ sheet.sheetOf (joined fs)
 unfolding answersTo
-printed places fs h =
-    ap (λ (t : Told). texts (t .replies)) (cut places fs)
+printed spare fs h =
+    ap (λ (t : SoFar). texts (t .replies)) (cut spare fs)
     ∙ all-answered mostLines (lines (joined fs)) (omega (arith, count-lines (joined fs), h))
     ∙ sym (sheet-lines (joined fs) h)
 
 pub over-the-link : OverTheLink
 over-the-link = record {
   cut = cut;
-  called = λ places text rs t c. ap finished (sym (any-calls (fresh-sound places) c)) ∙ bytes-run places text;
+  called = λ spare text rs t c. ap finished (sym (any-calls (fresh-sound spare) c)) ∙ bytes-run spare text;
   printed = printed;
 }

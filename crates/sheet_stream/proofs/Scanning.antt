@@ -26,7 +26,7 @@ use Rattle.sheet_stream.specs.declared.Stream.{Stream}
 use Rattle.sheet_stream.specs.declared.Fed.{Fed}
 use Rattle.sheet_stream.specs.declared.Outcome.the-variants.{Open, Line}
 use Rattle.sheet_stream.specs.Fragments.{between, keep, held, unended, closing, ended, endReply, fed, later, scan, sound, unsound, stateOf, endsWith, fedAt, feedOf, finishOf}
-use Rattle.sheet_stream.proofs.Laws.{unended-same, unended-fed, feed-sound, feed-29, finish-29, not-going}
+use Rattle.sheet_stream.proofs.Laws.{unended-same, unended-fed, feed-sound, feed-state, finish-state, not-going}
 
 -- ---- bytes kept one after the other
 keeps : Stream → List ℕ → Stream
@@ -161,7 +161,7 @@ unfolding sound
 over-full s e h = rw (e, lt-leb (s .count) longestLine h)
 
 pub stopped : (s : Stream) (f : List ℕ) → (s .finished || ltb longestLine (s .count)) ≡ true → (unsound s ≡ feedOf s f) × (unsound s ≡ finishOf s)
-stopped s f e = let z = go (s .finished) (ltb longestLine (s .count)) refl refl e in (sym (feed-29 s f z), sym (finish-29 s z))
+stopped s f e = let z = go (s .finished) (ltb longestLine (s .count)) refl refl e in (sym (feed-state s f z), sym (finish-state s z))
   where
     go : (a b : Bool) → s .finished ≡ a → ltb longestLine (s .count) ≡ b → (a || b) ≡ true → sound s ≡ false
     go true b p q e = not-going s p

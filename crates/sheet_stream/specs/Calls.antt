@@ -13,15 +13,15 @@ use Rattle.sheet_stream.specs.declared.Outcome.the-variants.{Open, Line,
 use Rattle.sheet_stream.specs.Fragments.{keep, ended, endReply, feedOf, finishOf}
 
 -- the answers so far, one for each line ended, and the state
-pub record Told : Type 0 where
+pub record SoFar : Type 0 where
   pub replies : List Reply
   pub state : Stream
 
-abbrev pub told : List Reply → Stream → Told
-told rs s = record { replies = rs; state = s }
+abbrev pub soFar : List Reply → Stream → SoFar
+soFar rs s = record { replies = rs; state = s }
 
-abbrev pub after : List Reply → Told → Told
-after rs t = told (rs ++ t .replies) (t .state)
+abbrev pub after : List Reply → SoFar → SoFar
+after rs t = soFar (rs ++ t .replies) (t .state)
 
 abbrev pub saidBy : Outcome → List Reply
 saidBy Open = []
@@ -29,13 +29,13 @@ saidBy (Line r) = r ∷ []
 saidBy (Refused n) = []
 
 -- a caller hands a fragment on until all of it is taken: n calls, each with what the one before left
-unfoldable pub calls : ℕ → Stream → List ℕ → Told
-calls zero s f = told [] s
+unfoldable pub calls : ℕ → Stream → List ℕ → SoFar
+calls zero s f = soFar [] s
 calls (suc n) s f = after (saidBy (feedOf s f .outcome)) (calls n (feedOf s f .stream) (drop (feedOf s f .taken) f))
 
 -- fragment by fragment; a call takes a byte at least, so that as many calls as bytes take all
-unfoldable pub deliver : Stream → List (List ℕ) → Told
-deliver s [] = told [] s
+unfoldable pub deliver : Stream → List (List ℕ) → SoFar
+deliver s [] = soFar [] s
 deliver s (f ∷ fs) = after (calls (length f) s f .replies) (deliver (calls (length f) s f .state) fs)
 
 abbrev pub joined : List (List ℕ) → List ℕ
@@ -51,13 +51,13 @@ pub data AnyCalls : Stream → List ℕ → List Reply → Stream → Type 0 whe
       AnyCalls s (take (feedOf s f .taken) f ++ rest) (saidBy (feedOf s f .outcome) ++ rs) s'
 
 -- byte by byte: what the calls come to, whatever the cuts
-unfoldable pub bytes : Stream → List ℕ → Told
-bytes s [] = told [] s
+unfoldable pub bytes : Stream → List ℕ → SoFar
+bytes s [] = soFar [] s
 bytes s (b ∷ f) = pick (eqb b lineFeed) (after (endReply s ∷ []) (bytes (ended s) f)) (bytes (keep s b) f)
 
 -- and the finish
-unfoldable pub finished : Told → Told
-finished t = after (t .replies) (told (saidBy (finishOf (t .state) .outcome)) (finishOf (t .state) .stream))
+unfoldable pub finished : SoFar → SoFar
+finished t = after (t .replies) (soFar (saidBy (finishOf (t .state) .outcome)) (finishOf (t .state) .stream))
 
 -- ---- in one run, by the sheet's rules alone: each line in order
 unfoldable pub rulesRun : Sheet → List (List ℕ) → List Reply

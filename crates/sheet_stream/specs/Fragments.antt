@@ -21,18 +21,18 @@ use Rattle.sheet_stream.specs.declared.Outcome.the-variants.{Open, Line,
 use Rattle.sheet_stream.specs.declared.Fed.{Fed}
 
 -- no line is open: every byte of the room is 0, so that no earlier line's byte can tell two states apart
-unfoldable pub empty : List ℕ
-empty = replicate 200 0
+unfoldable pub noBytes : List ℕ
+noBytes = replicate 200 0
 
 abbrev pub between : Standing → Bool → Stream
-between st finished = record { standing = st; count = 0; kept = empty; finished = finished }
+between st finished = record { standing = st; count = 0; kept = noBytes; finished = finished }
 
--- nothing read yet. What stands in the places past a chain's steps is never looked at
+-- nothing read yet. What stands past a chain's steps is never looked at
 abbrev pub fresh : List Step → Stream
-fresh places = between (freshAt places) false
+fresh spare = between (freshAt spare) false
 
-abbrev pub noStep : Step
-noStep = record { kind = Frame; before = record { datum = pos 0; epoch = pos 0 }; after = record { datum = pos 0; epoch = pos 0 } }
+abbrev pub spareStep : Step
+spareStep = record { kind = Frame; before = record { datum = pos 0; epoch = pos 0 }; after = record { datum = pos 0; epoch = pos 0 } }
 
 -- ---- the open line
 -- a byte more: kept where there is room for it, dropped where there is none. So a count of 200 says that the line is too long

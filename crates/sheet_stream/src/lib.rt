@@ -4,16 +4,15 @@ ghost use mathlib.Core.Path.{_≡_};
 ghost use Prim.Native.Nat.{_+_, _-_, _<_, _≤_, min};
 ghost use lib.Seq.{sets};
 ghost use lib.ListN.{length, take, replicate};
-ghost use Rattle.sheet_stream.specs.Fragments.{empty, noStep, fresh as Fragments·fresh, unended, unsound, endsWith, fedAt, feedOf, finishOf};
+ghost use Rattle.sheet_stream.specs.Fragments.{noBytes, spareStep, fresh as Fragments·fresh, unended, unsound, endsWith, fedAt, feedOf, finishOf};
 use chain::Chain;
 use chain::Kind;
 use chain::Realization;
 use chain::Step;
+use line::LINE_FEED;
 use sheet_rules::Reply;
 use sheet_rules::Response;
 use sheet_rules::Standing;
-
-const LINE_FEED: u8 = 10;
 
 // The longest line, in bytes, with its line feed.
 const ROOM: usize = 200;
@@ -47,14 +46,14 @@ pub struct Fed {
 }
 
 fn no_bytes() -> [u8; 200]
-    ensures { λ r. ⌜ r ≡ empty ⌝ }
+    ensures { λ r. ⌜ r ≡ noBytes ⌝ }
 {
     [0; 200]
 }
 
-// What stands in the places past a chain's steps.
-fn no_step() -> Step
-    ensures { λ r. ⌜ r ≡ noStep ⌝ }
+// What stands past a chain's steps.
+fn spare_step() -> Step
+    ensures { λ r. ⌜ r ≡ spareStep ⌝ }
 {
     Step {
         kind: Kind::Frame,
@@ -65,9 +64,9 @@ fn no_step() -> Step
 
 // Nothing has come yet.
 pub fn fresh() -> Stream
-    ensures { λ r. ⌜ r ≡ Fragments·fresh (replicate 8 noStep) ⌝ }
+    ensures { λ r. ⌜ r ≡ Fragments·fresh (replicate 8 spareStep) ⌝ }
 {
-    let step = no_step();
+    let step = spare_step();
     let steps = [step; 8];
     let kept = no_bytes();
     Stream {

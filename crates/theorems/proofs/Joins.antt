@@ -24,7 +24,7 @@ by-legs (Refused n) l = l .refused n refl
 
 -- ---- an empty chain
 all-steps : (c : Chain) → Good c → length (stepsOf c) ≡ c .length
-all-steps c g = omega (arith, g .places, length-take (c .length) (c .steps))
+all-steps c g = omega (arith, g .enough, length-take (c .length) (c .steps))
 
 joins-to : (c d j : Chain) → Joinable c d → Same (joinedOf c d) j → JoinsTo c d j
 joins-to c d j p same = record { accepted = accepts c d p; same = rw (is-joined c d p) same }

@@ -17,7 +17,7 @@ pub marks-meet : MarksMeet
 unfolding answer
 marks-meet = refl
 
--- the answers, each by its place in the list
+-- the answers, each by its index in the list
 answers : (n : ℕ) → getD (map answer meeting) n (Refused 0) ≡ getD (map expected meeting) n (Refused 0)
 answers n = ap (λ (l : List Answer). getD l n (Refused 0)) marks-meet
 

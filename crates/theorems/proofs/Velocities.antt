@@ -17,7 +17,7 @@ use Rattle.line.specs.Forms.{gridForm, nodeForm}
 use Rattle.line.specs.Reading.{cappedHeader, cappedParts}
 use Rattle.line.specs.Readers.{hyphenLine}
 use Rattle.line.specs.declared.GridHeader.{GridHeader}
-use Rattle.line.specs.declared.Parts.{Parts}
+use Rattle.line.specs.declared.VelocityParts.{VelocityParts}
 use Rattle.line.proofs.Readers.{header-read, node-read}
 use Rattle.theorems.specs.Velocities.{HeaderJudged, NodeJudged, Velocities}
 
@@ -28,7 +28,7 @@ no-value = above (negsuc 2499) noValue (pos 2500) refl
 header-judged : (line : List ℕ) (g : GridHeader) → said gridForm line ≡ some g → HeaderJudged line g
 header-judged line g e = record { carried = cappedHeader g; read = header-read line g e; same = sure-header .same g; kept = sure-header .kept g }
 
-node-judged : (line : List ℕ) (p : Parts) → hyphenLine line ≡ false → said nodeForm line ≡ some p → NodeJudged line p
+node-judged : (line : List ℕ) (p : VelocityParts) → hyphenLine line ≡ false → said nodeForm line ≡ some p → NodeJudged line p
 node-judged line p h e = record { carried = cappedParts p; read = node-read line p h e; same = sure-parts .same p; kept = sure-parts .kept p }
 
 pub velocities : Velocities

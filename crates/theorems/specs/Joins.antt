@@ -60,10 +60,10 @@ abbrev pub ToTheLeft : Type 0
 ToTheLeft =
     (a b c : Chain) → joinOf b c .refusal ≡ 0 → onTheRight a b c .refusal ≡ 0 → (joinOf a b .refusal ≡ 0) × JoinsTo (joinOf a b .chain) c (onTheRight a b c .chain)
 
--- ---- an empty chain of like profile, before a good chain or after it. A chain has a place for each of its steps: those of the program have eight
+-- ---- an empty chain of like profile, before a good chain or after it. A chain holds as many steps as its length says: those of the program hold eight
 pub record Good (c : Chain) : Type 0 where
   pub tests : first (chainTests c) ≡ 0
-  pub places : c .length ≤ length (c .steps)
+  pub enough : c .length ≤ length (c .steps)
 
 abbrev pub EmptyFirst : Type 0
 EmptyFirst = (e c : Chain) → Good e → Empty e → Good c → e .profile ≡ c .profile → JoinsTo e c c

@@ -1,5 +1,5 @@
--- The orders of refusals that go by what a line is read as: what a sheet and a plan print for a line, and the later of two. A case for each place in an order, in
--- which that test fails and every later one that can. The order within a reader is held by MalformedCases.antt and crates/cases/specs/OrderCases.antt.
+-- The orders of refusals that go by what a line is read as: what a sheet and a plan print for a line, and the later of two. A case for each test of an order, in
+-- which that one fails and every later one that can. The order within a reader is held by MalformedCases.antt and crates/cases/specs/OrderCases.antt.
 use mathlib.Core.Bool.{Bool, true, false}
 use mathlib.Core.Path.{_≡_}
 use mathlib.Core.List.{List, [], _∷_}
@@ -138,8 +138,8 @@ abbrev pub OriginOrder : Type 0
 OriginOrder = origins ≡ wantedOfOrigins
 
 -- a position line; the projection's 13 and 14 come after
-abbrev pub positions : List (List ℕ)
-positions =
+abbrev pub positionLines : List (List ℕ)
+positionLines =
     plan.replyText (geodeticReply later (geodetic-line.Malformed (fault refusal.id 2)))
     ∷ plan.replyText (geodeticReply later (geodetic-line.Refused refusal.geodetic))
     ∷ plan.replyText (geodeticReply later (geodetic-line.Geodetic position))
@@ -150,8 +150,8 @@ abbrev wantedOfPositions : List (List ℕ)
 wantedOfPositions =
     refusalText 5 refusal.id 2 ∷ refusalText 5 refusal.earlier 0 ∷ refusalText 5 refusal.earlier 0 ∷ refusalText 5 refusal.geodetic 0 ∷ []
 
-abbrev pub PositionOrder : Type 0
-PositionOrder = positions ≡ wantedOfPositions
+abbrev pub PositionLineOrder : Type 0
+PositionLineOrder = positionLines ≡ wantedOfPositions
 
 -- ---- the later of two: the first line's refusal, the second's, 16, 17
 abbrev pub pairs : List Verdict
@@ -189,5 +189,5 @@ pub record LineOrders : Type 0 where
   pub points : PointOrder
   pub editions : EditionOrder
   pub origins : OriginOrder
-  pub positions : PositionOrder
+  pub positions : PositionLineOrder
   pub pairs : PairOrder

@@ -1,4 +1,4 @@
--- The orders of refusals of the rounding and of the angle calls: a case for each place in an order, in which that test fails and every later one that can. What
+-- The orders of refusals of the rounding and of the angle calls: a case for each test of an order, in which that one fails and every later one that can. What
 -- is wanted is worked out by hand from the tables of ranges.
 use mathlib.Core.Bool.{false, true}
 use mathlib.Core.Path.{_≡_}

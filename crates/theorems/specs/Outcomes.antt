@@ -16,7 +16,7 @@ use Rattle.chain.specs.declared.Answer.the-variants.{Converted, Refused}
 use Rattle.chain.specs.Faults.{pointFault, stepTests}
 use Rattle.chain.specs.Convert.{moreTests, forwardOf, inverseOf}
 use Rattle.chain.specs.Prepared.{lengthIn, extendFault, extendedBy, forwardPrepared, inversePrepared, chainOf, Holds}
-use Rattle.chain.specs.PointRow.{convertOf, readyOf, convertReady}
+use Rattle.chain.specs.PointRow.{convertOf, readyChainOf, convertReady}
 
 abbrev pub HandedInAgain : Type 0
 HandedInAgain = (c : Chain) (p q : Point) → pointFault (c .profile) p ≡ 0 → forwardOf c p ≡ Converted q → pointFault (c .profile) q ≡ 0
@@ -43,7 +43,7 @@ abbrev pub PreparedInverse : Type 0
 PreparedInverse = (y : ℤ) (l : List ℤ) (ss : List Step) → Holds y l ss → (p : Point) → pointFault y p ≡ 0 → inversePrepared l p ≡ inverseOf (chainOf y ss) p
 
 abbrev pub ReadyConverts : Type 0
-ReadyConverts = (c : Chain) (d : Direction) (p : Point) → convertReady (readyOf c) d p ≡ convertOf c d p
+ReadyConverts = (c : Chain) (d : Direction) (p : Point) → convertReady (readyChainOf c) d p ≡ convertOf c d p
 
 pub record Outcomes : Type 0 where
   pub again : HandedInAgain

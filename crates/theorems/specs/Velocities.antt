@@ -12,7 +12,7 @@ use Rattle.line.specs.Forms.{gridForm, nodeForm}
 use Rattle.line.specs.Readers.{readGridHeader, hyphenLine, readNode}
 use Rattle.line.specs.declared.GridHeader.{GridHeader}
 use Rattle.line.specs.declared.GridLine.the-variants as header
-use Rattle.line.specs.declared.Parts.{Parts}
+use Rattle.line.specs.declared.VelocityParts.{VelocityParts}
 use Rattle.line.specs.declared.NodeLine.the-variants as node
 use Rattle.velocity_grid.specs.Bilinear.{bilinear}
 use Rattle.velocity_grid.specs.OnGrid.{gridRange}
@@ -50,8 +50,8 @@ pub record HeaderJudged (line : List ℕ) (g : GridHeader) : Type 0 where
   pub same : gridRange carried ≡ gridRange g
   pub kept : gridRange g ≡ true → carried ≡ g
 
-pub record NodeJudged (line : List ℕ) (p : Parts) : Type 0 where
-  pub carried : Parts
+pub record NodeJudged (line : List ℕ) (p : VelocityParts) : Type 0 where
+  pub carried : VelocityParts
   pub read : readNode line ≡ node.Parts carried
   pub same : partsRange carried ≡ partsRange p
   pub kept : partsRange p ≡ true → carried ≡ p
@@ -62,6 +62,6 @@ pub record Velocities : Type 0 where
   pub north : SharedNorth
   pub small : Bounded
   pub headers : (line : List ℕ) (g : GridHeader) → said gridForm line ≡ some g → HeaderJudged line g
-  pub nodes : (line : List ℕ) (p : Parts) → hyphenLine line ≡ false → said nodeForm line ≡ some p → NodeJudged line p
+  pub nodes : (line : List ℕ) (p : VelocityParts) → hyphenLine line ≡ false → said nodeForm line ≡ some p → NodeJudged line p
   -- the number of a node that has no value is past the range of every part
   pub none : partRange noValue ≡ false

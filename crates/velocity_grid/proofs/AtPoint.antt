@@ -18,10 +18,10 @@ use Rattle.bounds.proofs.Zero.{Upto}
 use Rattle.angle.specs.Ranges.{angleTests}
 use Rattle.velocity_grid.specs.Bilinear.{CellOk}
 use Rattle.velocity_grid.specs.OnGrid.{gridRange, onGrid, cellOf, CellIn}
-use Rattle.velocity_grid.specs.AtPoint.{partRange, valueOf, known, cellKnown, cornersOf, partOf, partsIn, gridTests, pointTests, partsTests, partsOf, PartsOk}
+use Rattle.velocity_grid.specs.AtPoint.{partRange, valueOf, known, cellKnown, cornersOf, partOf, partsIn, gridTests, anglesAndCellTests, partsTests, partsAt, PartsOk}
 use Rattle.line.specs.declared.GridHeader.{GridHeader}
 use Rattle.velocity_grid.specs.declared.Cell.{Cell}
-use Rattle.line.specs.declared.Parts.{Parts}
+use Rattle.line.specs.declared.VelocityParts.{VelocityParts}
 use Rattle.velocity_grid.specs.declared.PartsAnswer.{PartsAnswer}
 use Rattle.velocity_grid.specs.declared.PartsAnswer.the-variants as answer
 use Rattle.velocity_grid.proofs.Bilinear.{bilinear-size, east-edge, north-edge}
@@ -84,62 +84,62 @@ module _ (g : GridHeader) (nodes : List ℤ) (lat lon : ℤ) where
   abbrev cell : Cell
   cell = cellOf g lat lon
 
-  pub by-grid : (first (gridTests g nodes) ≡ 0 → ⊥) → answer.Refused (first (gridTests g nodes)) ≡ partsOf g nodes lat lon
-  unfolding partsOf
+  pub by-grid : (first (gridTests g nodes) ≡ 0 → ⊥) → answer.Refused (first (gridTests g nodes)) ≡ partsAt g nodes lat lon
+  unfolding partsAt
   by-grid f =
-      rw (stop (gridTests g nodes) (pointTests g nodes lat lon) f)
+      rw (stop (gridTests g nodes) (anglesAndCellTests g nodes lat lon) f)
       (sym (unless-some (first (gridTests g nodes)) answer.Refused (answer.Parts (partsIn nodes cell)) f))
 
   module _ (p : Passed (gridTests g nodes)) where
-    pub by-angles : (first (angleTests lat lon) ≡ 0 → ⊥) → answer.Refused (first (angleTests lat lon)) ≡ partsOf g nodes lat lon
-    unfolding partsOf
+    pub by-angles : (first (angleTests lat lon) ≡ 0 → ⊥) → answer.Refused (first (angleTests lat lon)) ≡ partsAt g nodes lat lon
+    unfolding partsAt
     by-angles f =
-        rw (on (gridTests g nodes) (pointTests g nodes lat lon) p, stop (angleTests lat lon) ((not (onGrid g lat lon) gives refusal.offGrid) ∷ (not (cellKnown nodes cell) gives refusal.offGrid) ∷ []) f)
+        rw (on (gridTests g nodes) (anglesAndCellTests g nodes lat lon) p, stop (angleTests lat lon) ((not (onGrid g lat lon) gives refusal.offGrid) ∷ (not (cellKnown nodes cell) gives refusal.offGrid) ∷ []) f)
         (sym (unless-some (first (angleTests lat lon)) answer.Refused (answer.Parts (partsIn nodes cell)) f))
 
     module _ (q : Passed (angleTests lat lon)) where
       decided : first (partsTests g nodes lat lon) ≡ first ((not (onGrid g lat lon) gives refusal.offGrid) ∷ (not (cellKnown nodes cell) gives refusal.offGrid) ∷ [])
       decided =
-          on (gridTests g nodes) (pointTests g nodes lat lon) p
+          on (gridTests g nodes) (anglesAndCellTests g nodes lat lon) p
           ∙ on (angleTests lat lon) ((not (onGrid g lat lon) gives refusal.offGrid) ∷ (not (cellKnown nodes cell) gives refusal.offGrid) ∷ []) q
 
-      pub by-place : onGrid g lat lon ≡ false → answer.Refused refusal.offGrid ≡ partsOf g nodes lat lon
-      unfolding partsOf
-      by-place e = rw (decided, e)
+      pub by-off-grid : onGrid g lat lon ≡ false → answer.Refused refusal.offGrid ≡ partsAt g nodes lat lon
+      unfolding partsAt
+      by-off-grid e = rw (decided, e)
 
-      pub by-nodes : onGrid g lat lon ≡ true → cellKnown nodes cell ≡ false → answer.Refused refusal.offGrid ≡ partsOf g nodes lat lon
-      unfolding partsOf
+      pub by-nodes : onGrid g lat lon ≡ true → cellKnown nodes cell ≡ false → answer.Refused refusal.offGrid ≡ partsAt g nodes lat lon
+      unfolding partsAt
       by-nodes e f = rw (decided, e, f)
 
-      pub by-none : onGrid g lat lon ≡ true → cellKnown nodes cell ≡ true → answer.Parts (partsIn nodes cell) ≡ partsOf g nodes lat lon
-      unfolding partsOf
+      pub by-none : onGrid g lat lon ≡ true → cellKnown nodes cell ≡ true → answer.Parts (partsIn nodes cell) ≡ partsAt g nodes lat lon
+      unfolding partsAt
       by-none e f = rw (decided, e, f)
 
 -- ---- what an answer says
-pub record Answered (lat lon : ℤ) (p : Parts) : Type 0 where
+pub record PartsFound (lat lon : ℤ) (p : VelocityParts) : Type 0 where
   pub parts : PartsOk p
   pub latitude : latitudeRange lat ≡ true
   pub longitude : longitudeRange lon ≡ true
 
-module _ (g : GridHeader) (nodes : List ℤ) (lat lon : ℤ) (p : Parts) where
-  all-passed : Passed (partsTests g nodes lat lon) → partsIn nodes (cellOf g lat lon) ≡ p → Answered lat lon p
+module _ (g : GridHeader) (nodes : List ℤ) (lat lon : ℤ) (p : VelocityParts) where
+  all-passed : Passed (partsTests g nodes lat lon) → partsIn nodes (cellOf g lat lon) ≡ p → PartsFound lat lon p
   all-passed t e = record {
     parts = subst PartsOk e (parts-ok nodes (cellOf g lat lon) (cell-in g (not-false _ (t .0)) lat lon) (not-false _ (t .1 .1 .1 .1 .1 .0)));
     latitude = not-false _ (t .1 .1 .0);
     longitude = not-false _ (t .1 .1 .1 .0);
   }
 
-  pub answered : partsOf g nodes lat lon ≡ answer.Parts p → Answered lat lon p
-  unfolding partsOf
-  answered = go (first (partsTests g nodes lat lon)) refl
+  pub parts-found : partsAt g nodes lat lon ≡ answer.Parts p → PartsFound lat lon p
+  unfolding partsAt
+  parts-found = go (first (partsTests g nodes lat lon)) refl
     where
-      same : (a b : Parts) → answer.Parts a ≡ answer.Parts b → a ≡ b
+      same : (a b : VelocityParts) → answer.Parts a ≡ answer.Parts b → a ≡ b
       same a b h = cc
 
       never : (n : ℕ) → answer.Refused n ≡ answer.Parts p → ⊥
       never n h = let z : _≡_ {A = ℕ} 0 1 = cc in omega arith
 
-      go : (n : ℕ) → first (partsTests g nodes lat lon) ≡ n → unless n answer.Refused (answer.Parts (partsIn nodes (cellOf g lat lon))) ≡ answer.Parts p → Answered lat lon p
+      go : (n : ℕ) → first (partsTests g nodes lat lon) ≡ n → unless n answer.Refused (answer.Parts (partsIn nodes (cellOf g lat lon))) ≡ answer.Parts p → PartsFound lat lon p
       go zero e h = all-passed (passed (partsTests g nodes lat lon) tt e) (same _ _ h)
       go (suc n) e h = absurd (never (suc n) h)
 

@@ -10,7 +10,7 @@ use lib.Signed.{_≤ℤ_, _<ℤ_}
 use Rattle.rounding.specs.Nearest.{away, rounded}
 use Rattle.rounding.proofs.Zn.{P, N, v, k, _⊕_, _⊖_, _⊗_, le, unle, eq, pos-abs, mul-le, add-le, abs-mul}
 use Rattle.rounding.proofs.Rounded.{rounded-exact, rounded-least, rounded-most, rounded-size}
-use Rattle.velocity_grid.specs.Bilinear.{blend, weighed, bilinear}
+use Rattle.velocity_grid.specs.Bilinear.{blend, weightedSum, bilinear}
 use Rattle.velocity_grid.specs.declared.Corners.{Corners}
 
 -- ---- sizes
@@ -76,52 +76,52 @@ module _ (n : ℕ) (n>0 : 0 < n) where
   positive = NatL.mul-pos n>0 n>0
 
   -- m·m times a whole number is that number
-  exact : (x y : ℤ) (c : Corners) (z : ℤ) → weighed (pos n) x y c ≡ (z *ℤ pos n) *ℤ pos n → bilinear (pos n) x y c ≡ z
+  exact : (x y : ℤ) (c : Corners) (z : ℤ) → weightedSum (pos n) x y c ≡ (z *ℤ pos n) *ℤ pos n → bilinear (pos n) x y c ≡ z
   unfolding bilinear
   exact x y c z e = ap (λ (i : ℤ). rounded away i (n * n)) (e ∙ squared n z) ∙ rounded-exact away positive z
 
   pub at-south-west : (c : Corners) → bilinear (pos n) (pos 0) (pos 0) c ≡ c .«south_west»
-  unfolding weighed
+  unfolding weightedSum
   at-south-west c = exact (pos 0) (pos 0) c (c .«south_west») (blend-start (pos n) _ _ ∙ ap (λ (i : ℤ). i *ℤ pos n) (blend-start (pos n) (c .«south_west») (c .«south_east»)))
 
   pub at-south-east : (c : Corners) → bilinear (pos n) (pos n) (pos 0) c ≡ c .«south_east»
-  unfolding weighed
+  unfolding weightedSum
   at-south-east c = exact (pos n) (pos 0) c (c .«south_east») (blend-start (pos n) _ _ ∙ ap (λ (i : ℤ). i *ℤ pos n) (blend-end (pos n) (c .«south_west») (c .«south_east»)))
 
   pub at-north-west : (c : Corners) → bilinear (pos n) (pos 0) (pos n) c ≡ c .«north_west»
-  unfolding weighed
+  unfolding weightedSum
   at-north-west c = exact (pos 0) (pos n) c (c .«north_west») (blend-end (pos n) _ _ ∙ ap (λ (i : ℤ). i *ℤ pos n) (blend-start (pos n) (c .«north_west») (c .«north_east»)))
 
   pub at-north-east : (c : Corners) → bilinear (pos n) (pos n) (pos n) c ≡ c .«north_east»
-  unfolding weighed
+  unfolding weightedSum
   at-north-east c = exact (pos n) (pos n) c (c .«north_east») (blend-end (pos n) _ _ ∙ ap (λ (i : ℤ). i *ℤ pos n) (blend-end (pos n) (c .«north_west») (c .«north_east»)))
 
   -- not below a number that no node is below, and not above one that no node is above
   module _ (x y : ℕ) (x≤n : x ≤ n) (y≤n : y ≤ n) (c : Corners) (l : ℤ) where
     pub at-least : l ≤ℤ c .«south_west» → l ≤ℤ c .«south_east» → l ≤ℤ c .«north_west» → l ≤ℤ c .«north_east» → l ≤ℤ bilinear (pos n) (pos x) (pos y) c
-    unfolding bilinear weighed
+    unfolding bilinear weightedSum
     at-least a b d e =
-        rounded-least away positive l (weighed (pos n) (pos x) (pos y) c)
-        (subst (λ (i : ℤ). i ≤ℤ weighed (pos n) (pos x) (pos y) c) (squared n l)
+        rounded-least away positive l (weightedSum (pos n) (pos x) (pos y) c)
+        (subst (λ (i : ℤ). i ≤ℤ weightedSum (pos n) (pos x) (pos y) c) (squared n l)
         (blend-least n y y≤n (l *ℤ pos n) _ _ (blend-least n x x≤n l (c .«south_west») (c .«south_east») a b) (blend-least n x x≤n l (c .«north_west») (c .«north_east») d e)))
 
     pub at-most : c .«south_west» ≤ℤ l → c .«south_east» ≤ℤ l → c .«north_west» ≤ℤ l → c .«north_east» ≤ℤ l → bilinear (pos n) (pos x) (pos y) c ≤ℤ l
-    unfolding bilinear weighed
+    unfolding bilinear weightedSum
     at-most a b d e =
-        rounded-most away positive l (weighed (pos n) (pos x) (pos y) c)
-        (subst (λ (i : ℤ). weighed (pos n) (pos x) (pos y) c ≤ℤ i) (squared n l)
+        rounded-most away positive l (weightedSum (pos n) (pos x) (pos y) c)
+        (subst (λ (i : ℤ). weightedSum (pos n) (pos x) (pos y) c ≤ℤ i) (squared n l)
         (blend-most n y y≤n (l *ℤ pos n) _ _ (blend-most n x x≤n l (c .«south_west») (c .«south_east») a b) (blend-most n x x≤n l (c .«north_west») (c .«north_east») d e)))
 
 -- ---- an edge that two cells share has one value: by the ends of the edge alone
 pub east-edge : (m y : ℤ) (c d : Corners) → c .«south_east» ≡ d .«south_west» → c .«north_east» ≡ d .«north_west» → bilinear m m y c ≡ bilinear m (pos 0) y d
-unfolding bilinear weighed
+unfolding bilinear weightedSum
 east-edge m y c d e f =
     ap (λ (i : ℤ). rounded away i (natAbs (m *ℤ m)))
     (ap₂ (blend m y) (blend-end m (c .«south_west») (c .«south_east») ∙ ap (λ (i : ℤ). i *ℤ m) e ∙ sym (blend-start m (d .«south_west») (d .«south_east»)))
     (blend-end m (c .«north_west») (c .«north_east») ∙ ap (λ (i : ℤ). i *ℤ m) f ∙ sym (blend-start m (d .«north_west») (d .«north_east»))))
 
 pub north-edge : (m x : ℤ) (c d : Corners) → c .«north_west» ≡ d .«south_west» → c .«north_east» ≡ d .«south_east» → bilinear m x m c ≡ bilinear m x (pos 0) d
-unfolding bilinear weighed
+unfolding bilinear weightedSum
 north-edge m x c d e f =
     ap (λ (i : ℤ). rounded away i (natAbs (m *ℤ m)))
     (blend-end m (blend m x (c .«south_west») (c .«south_east»)) (blend m x (c .«north_west») (c .«north_east»))
@@ -131,10 +131,10 @@ north-edge m x c d e f =
 -- ---- of nodes within A, a value within A
 pub bilinear-size : (m x y : ℤ) (c : Corners) (A : ℕ) → pos 0 <ℤ m → pos 0 ≤ℤ x → x ≤ℤ m → pos 0 ≤ℤ y → y ≤ℤ m
     → natAbs (c .«south_west») ≤ A → natAbs (c .«south_east») ≤ A → natAbs (c .«north_west») ≤ A → natAbs (c .«north_east») ≤ A → natAbs (bilinear m x y c) ≤ A
-unfolding bilinear weighed
+unfolding bilinear weightedSum
 bilinear-size m x y c A m>0 xf xt yf yt sw se nw ne =
     let p = blend-size yf yt (blend m x (c .«south_west») (c .«south_east»)) (blend m x (c .«north_west») (c .«north_east»)) (A * natAbs m) (blend-size xf xt (c .«south_west») (c .«south_east») A sw se) (blend-size xf xt (c .«north_west») (c .«north_east») A nw ne) in
-    rounded-size away (square-pos m m>0) A (weighed m x y c) (NatL.le-trans p (NatL.le-of-eq (NatL.mul-assoc A (natAbs m) (natAbs m) ∙ ap (λ (i : ℕ). A * i) (sym (abs-mul m m)))))
+    rounded-size away (square-pos m m>0) A (weightedSum m x y c) (NatL.le-trans p (NatL.le-of-eq (NatL.mul-assoc A (natAbs m) (natAbs m) ∙ ap (λ (i : ℕ). A * i) (sym (abs-mul m m)))))
   where
     square-pos : (m : ℤ) → pos 0 <ℤ m → 0 < natAbs (m *ℤ m)
     square-pos (pos n) h = let l : 0 < n = ltb→lt 0 n (h .lt) in NatL.mul-pos l l

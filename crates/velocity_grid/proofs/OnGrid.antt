@@ -13,9 +13,9 @@ use Rattle.ranges.specs.Ranges.{within, equal, latitudeRange, longitudeRange}
 use Rattle.ranges.proofs.Ranges.{Natural, both, bounds, natural, natural-holds, equal-is}
 use Rattle.rounding.proofs.Zn.{P, N, v, k, _⊕_, _⊖_, _⊗_, le, unle, lt, unlt, eq, abs, unabs, pos-abs, mul-le}
 use Rattle.rounding.proofs.Machine.{le-true, yes-le}
-use Rattle.velocity_grid.specs.OnGrid.{sizeRange, meshRange, gridRange, meshOf, nodesOf, onAxis, placeOf, onGrid, alongOf, cellOf, AxisOk, CellIn}
+use Rattle.velocity_grid.specs.OnGrid.{sizeRange, meshRange, gridRange, meshOf, nodesOf, onAxis, axisCellOf, onGrid, alongOf, cellOf, AxisOk, CellIn}
 use Rattle.line.specs.declared.GridHeader.{GridHeader}
-use Rattle.velocity_grid.specs.declared.Place.{Place}
+use Rattle.velocity_grid.specs.declared.AxisCell.{AxisCell}
 use Rattle.velocity_grid.specs.declared.Cell.{Cell}
 
 -- ---- rows and columns
@@ -118,35 +118,35 @@ rows-axis g h = axis (let l = size-is (natural 0 (g .latitude) 2880000000 (h .la
 pub columns-axis : (g : GridHeader) → Header g → AxisOk (g .longitude) (g .columns) (meshOf g)
 columns-axis g h = axis (size-is (natural 35640000000 (g .longitude) 43200000000 (h .longitude))) (h .size .columns) (h .mesh)
 
--- ---- a place on an axis
-pub record Placed (count m : ℕ) (p : Place) : Type 0 where
+-- ---- where a number stands on an axis
+pub record AxisCellIn (count m : ℕ) (p : AxisCell) : Type 0 where
   pub cell : p .cell + 2 ≤ count
   pub offset : p .offset ≤ m
 
-pub placed : (count m d : ℕ) → 2 ≤ count → 0 < m → Placed count m (placeOf count m d)
-unfolding placeOf
-placed count m d h l = go (ltb (d / m + 1) count) refl
+pub axis-cell-in : (count m d : ℕ) → 2 ≤ count → 0 < m → AxisCellIn count m (axisCellOf count m d)
+unfolding axisCellOf
+axis-cell-in count m d h l = go (ltb (d / m + 1) count) refl
   where
-    go : (b : Bool) → ltb (d / m + 1) count ≡ b → Placed count m (pick b (record { cell = d / m; offset = d % m }) (record { cell = count - 2; offset = m }))
+    go : (b : Bool) → ltb (d / m + 1) count ≡ b → AxisCellIn count m (pick b (record { cell = d / m; offset = d % m }) (record { cell = count - 2; offset = m }))
     go true e = record { cell = omega (arith, ltb-true (d / m + 1) count e); offset = omega (arith, NatL.mod-lt d l) }
     go false e = record { cell = omega arith; offset = NatL.le-refl m }
 
-pub along-placed : {s c m : ℤ} → AxisOk s c m → (z : ℤ) → Placed (natAbs c) (natAbs m) (alongOf s c m z)
+pub along-in : {s c m : ℤ} → AxisOk s c m → (z : ℤ) → AxisCellIn (natAbs c) (natAbs m) (alongOf s c m z)
 unfolding alongOf
-along-placed {s} {c} {m} a z =
+along-in {s} {c} {m} a z =
     let l = unle (a .least) (k 2) (v c) in
     let x = pos-abs (le (k 0) (v c) (omega arith)) (v c) in
     let h = unlt (a .mesh) (k 0) (v m) in
     let y = pos-abs (le (k 0) (v m) (omega arith)) (v m) in
-    placed (natAbs c) (natAbs m) (natAbs (z -ℤ s)) (omega arith) (omega arith)
+    axis-cell-in (natAbs c) (natAbs m) (natAbs (z -ℤ s)) (omega arith) (omega arith)
 
 -- ---- a point's cell
 pub cell-in : (g : GridHeader) → gridRange g ≡ true → (lat lon : ℤ) → CellIn (cellOf g lat lon)
 unfolding cellOf
 cell-in g e lat lon =
     let h = header g e in
-    let n = along-placed (rows-axis g h) lat in
-    let w = along-placed (columns-axis g h) lon in
+    let n = along-in (rows-axis g h) lat in
+    let w = along-in (columns-axis g h) lon in
     let r : natAbs (g .rows) ≤ 2000 = size-is (h .size .rows) in
     let c : natAbs (g .columns) ≤ 2000 = size-is (h .size .columns) in
     let m = columns-axis g h in

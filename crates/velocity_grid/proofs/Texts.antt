@@ -22,20 +22,20 @@ use Rattle.line.specs.declared.GridLine.the-variants as header
 use Rattle.line.proofs.Lines.{at-end, Piece, piece, lines-none}
 use Rattle.velocity_grid.specs.OnGrid.{gridRange, nodesOf}
 use Rattle.velocity_grid.proofs.OnGrid as on-grid
-use Rattle.velocity_grid.specs.Text.{onLine, miscounted, faultless, orElse, nodeFault, nodesFault, unlessFault, headed, gridIn, gridOf, valuesOf, three, nodesIn, afterFirst, numbersOf}
+use Rattle.velocity_grid.specs.Text.{onLine, miscounted, faultless, orElse, nodeFault, nodesFault, unlessGridFault, headed, gridIn, gridOf, valuesOf, threeNumbers, nodesIn, afterFirst, gridNumbers}
 use Rattle.velocity_grid.specs.Reading.{awaitedFault}
 use Rattle.velocity_grid.specs.declared.GridFault.{GridFault}
 use Rattle.velocity_grid.specs.declared.GridAnswer.the-variants.{Grid, Refused}
 
 -- ---- the line that begins at `from`, which past the end of the text is empty
-pub record Ends (s : List ℕ) (from e : ℕ) : Type 0 where
+pub record LineEnds (s : List ℕ) (from e : ℕ) : Type 0 where
   pub after : from ≤ e
   pub inside : e ≤ length s
 
-pub ends : (s : List ℕ) (from e : ℕ) → e ≡ lineEnd s from → from ≤ length s → Ends s from e
+pub ends : (s : List ℕ) (from e : ℕ) → e ≡ lineEnd s from → from ≤ length s → LineEnds s from e
 ends s from e q h = go (decLt from (length s))
   where
-    go : Dec (from < length s) → Ends s from e
+    go : Dec (from < length s) → LineEnds s from e
     go (yes l) = let p = piece s from e q l in record { after = omega (arith, p .some); inside = p .inside }
     go (no l) = let z = at-end s from from (record { ends = refl }) (omega arith) in record { after = omega arith; inside = omega arith }
 
@@ -109,7 +109,7 @@ module _ {s : List ℕ} {start : ℕ} {nodes₀ : List ℤ} {from at : ℕ} {nod
     pub fits : at + 3 ≤ 12000
     fits = let p = piece s from e q h in omega (arith, k .room, ap length (p .others))
 
-    pub filling-on : {nodes′ : List ℤ} → nodes′ ≡ sets nodes at (three (valuesOf (readNode line))) → Filling s start nodes₀ e (at + 3) nodes′
+    pub filling-on : {nodes′ : List ℤ} → nodes′ ≡ sets nodes at (threeNumbers (valuesOf (readNode line))) → Filling s start nodes₀ e (at + 3) nodes′
     unfolding nodesIn
     filling-on {nodes′} w =
         let p = piece s from e q h in
@@ -142,7 +142,7 @@ unfolding nodesIn
 numbers-length [] = refl
 numbers-length (l ∷ ls) = omega (arith, numbers-length ls)
 
-pub record Accepted (s : List ℕ) (g : GridHeader) : Type 0 where
+pub record GridAccepted (s : List ℕ) (g : GridHeader) : Type 0 where
   pub some : 0 < length s
   pub range : gridRange g ≡ true
   pub nodes : length (afterFirst (lines s)) ≡ nodesOf g
@@ -157,7 +157,7 @@ some-line : (s l : List ℕ) (ls : List (List ℕ)) → lines s ≡ l ∷ ls →
 some-line [] l ls e = absurd (omega (arith, ap length (sym (lines-none [] 0 (omega arith)) ∙ e)))
 some-line (x ∷ s) l ls e = omega arith
 
-by-fault : (f : GridFault) (a g : GridHeader) → unlessFault f a ≡ Grid g → (f .number ≡ 0) × (a ≡ g)
+by-fault : (f : GridFault) (a g : GridHeader) → unlessGridFault f a ≡ Grid g → (f .number ≡ 0) × (a ≡ g)
 by-fault f a g = go (eqb (f .number) 0) refl
   where
     go : (b : Bool) → eqb (f .number) 0 ≡ b → pick b (Grid a) (Refused f) ≡ Grid g → (f .number ≡ 0) × (a ≡ g)
@@ -169,17 +169,17 @@ unfolding headed
 by-header (header.Malformed f) ls g h = absurd (no-grid (onLine 1 f) g h)
 by-header (header.Header a) ls g h = go (gridRange a) refl h
   where
-    go : (b : Bool) → gridRange a ≡ b → pick b (unlessFault (nodesFault (nodesOf a) 2 ls) a) (Refused (onLine 1 (fault refusal.range 0))) ≡ Grid g → (gridRange g ≡ true) × (length ls ≡ nodesOf g)
+    go : (b : Bool) → gridRange a ≡ b → pick b (unlessGridFault (nodesFault (nodesOf a) 2 ls) a) (Refused (onLine 1 (fault refusal.range 0))) ≡ Grid g → (gridRange g ≡ true) × (length ls ≡ nodesOf g)
     go true q h =
         let p = by-fault (nodesFault (nodesOf a) 2 ls) a g h in
         (ap gridRange (sym (p .1)) ∙ q, as-many (nodesOf a) 2 ls (p .0) ∙ ap nodesOf (p .1))
     go false q h = absurd (no-grid (onLine 1 (fault refusal.range 0)) g h)
 
-pub accepted : (s : List ℕ) (g : GridHeader) → gridOf s ≡ Grid g → Accepted s g
+pub accepted : (s : List ℕ) (g : GridHeader) → gridOf s ≡ Grid g → GridAccepted s g
 unfolding gridOf gridIn
 accepted s g h = go (lines s) refl h
   where
-    go : (ls : List (List ℕ)) → lines s ≡ ls → gridIn ls ≡ Grid g → Accepted s g
+    go : (ls : List (List ℕ)) → lines s ≡ ls → gridIn ls ≡ Grid g → GridAccepted s g
     go [] e h = absurd (no-grid miscounted g h)
     go (l ∷ ls) e h =
         let p = by-header (readGridHeader l) ls g h in
@@ -203,8 +203,8 @@ by-none s h = rw (lines-none s 0 (omega arith))
 pub after-header : (s : List ℕ) (e : ℕ) → e ≡ lineEnd s 0 → 0 < length s → afterFirst (lines s) ≡ lines (drop e s)
 after-header s e q h = ap afterFirst (split s e q h)
 
-pub numbers-after : (s : List ℕ) (e : ℕ) → e ≡ lineEnd s 0 → (g : GridHeader) → gridOf s ≡ Grid g → numbersOf s ≡ nodesIn (lines (drop e s))
-unfolding numbersOf
+pub numbers-after : (s : List ℕ) (e : ℕ) → e ≡ lineEnd s 0 → (g : GridHeader) → gridOf s ≡ Grid g → gridNumbers s ≡ nodesIn (lines (drop e s))
+unfolding gridNumbers
 numbers-after s e q g h = ap nodesIn (after-header s e q (accepted s g h .some))
 
 -- what the room takes: three numbers a node, and at most 4,000 nodes
@@ -221,6 +221,6 @@ for-filling s e q g h =
     let n = ap length (after-header s e q (a .some)) in
     (ends s 0 e q (omega arith) .inside, omega (arith, n, a .nodes, few-nodes g (a .range)))
 
-pub numbers-many : (s : List ℕ) (g : GridHeader) → gridOf s ≡ Grid g → length (numbersOf s) ≡ 3 * nodesOf g
-unfolding numbersOf
+pub numbers-many : (s : List ℕ) (g : GridHeader) → gridOf s ≡ Grid g → length (gridNumbers s) ≡ 3 * nodesOf g
+unfolding gridNumbers
 numbers-many s g h = numbers-length (afterFirst (lines s)) ∙ ap (λ (n : ℕ). 3 * n) (accepted s g h .nodes)

@@ -23,13 +23,13 @@ use Rattle.elementary.specs.Series.{sineOf, cosineOf}
 use Rattle.elementary.proofs.Formulas.{sineF, cosineF, sine-among, cosine-among}
 use Rattle.angle.specs.Units.{k, radians}
 use Rattle.angle.proofs.UnitLaws.{k-is}
-use Rattle.angle.proofs.Answered.{Bound, whole-answer}
-use Rattle.angle.proofs.Sizes.{most, radians-among}
+use Rattle.angle.proofs.WholeAnswers.{Bound, whole-answer}
+use Rattle.angle.proofs.Sizes.{sizeUpTo, radians-among}
 use Rattle.angle.proofs.Wholes.{natural-upto, sub-pos}
 use Rattle.velocity_grid.specs.AtPoint.{PartsOk}
 use Rattle.velocity_grid.specs.Turn.{turnedBy, turnedAt, inUnits}
 use Rattle.velocity_grid.specs.Bounded as statements
-use Rattle.line.specs.declared.Parts.{Parts}
+use Rattle.line.specs.declared.VelocityParts.{VelocityParts}
 use Rattle.velocity_grid.proofs.AtPoint.{sized-upto}
 
 -- ---- the latitude's and the longitude's sine and cosine, and the three parts
@@ -46,7 +46,7 @@ abbrev part : Ends
 part = wholes 0 2500
 
 abbrev space : List Ends
-space = most 14 100 ∷ most 1 1 ∷ most 1 1 ∷ most 53 100 ∷ part ∷ part ∷ part ∷ []
+space = sizeUpTo 14 100 ∷ sizeUpTo 1 1 ∷ sizeUpTo 1 1 ∷ sizeUpTo 53 100 ∷ part ∷ part ∷ part ∷ []
 
 -- ---- the whole numbers as f64s
 latitude-finite : T (finite (round binary64 false 2880000000 1))
@@ -63,37 +63,37 @@ part-finite = tt
 
 -- ---- the tests: the angles, up to 0.14 and 0.53, their sines and cosines, and X, Y and Z
 record Tests : Type 0 where
-  latitude : T (tested (wholes 0 2880000000 ∷ []) (times (var 0) (lit k)) (most 14 100))
-  past : T (tested (wholes 0 10800000000 ∷ []) (times (var 0) (lit k)) (most 53 100))
-  small-sine : T (tested (most 14 100 ∷ []) sineF (most 14 100))
-  small-cosine : T (tested (most 14 100 ∷ []) cosineF (most 1 1))
-  large-sine : T (tested (most 53 100 ∷ []) sineF (most 53 100))
-  large-cosine : T (tested (most 53 100 ∷ []) cosineF (most 1 1))
-  x : T (tested space xF (most 4330 1))
-  y : T (tested space yF (most 4330 1))
-  z : T (tested space zF (most 4330 1))
+  latitude : T (tested (wholes 0 2880000000 ∷ []) (times (var 0) (lit k)) (sizeUpTo 14 100))
+  past : T (tested (wholes 0 10800000000 ∷ []) (times (var 0) (lit k)) (sizeUpTo 53 100))
+  small-sine : T (tested (sizeUpTo 14 100 ∷ []) sineF (sizeUpTo 14 100))
+  small-cosine : T (tested (sizeUpTo 14 100 ∷ []) cosineF (sizeUpTo 1 1))
+  large-sine : T (tested (sizeUpTo 53 100 ∷ []) sineF (sizeUpTo 53 100))
+  large-cosine : T (tested (sizeUpTo 53 100 ∷ []) cosineF (sizeUpTo 1 1))
+  x : T (tested space xF (sizeUpTo 4330 1))
+  y : T (tested space yF (sizeUpTo 4330 1))
+  z : T (tested space zF (sizeUpTo 4330 1))
 
 tests : Tests
 unfolding tested round neg div
 tests = record { latitude = rw k-is tt; past = rw k-is tt; small-sine = tt; small-cosine = tt; large-sine = tt; large-cosine = tt; x = tt; y = tt; z = tt }
 
-module _ (p : Parts) (lat lon : ℤ) (o : PartsOk p) (a : latitudeRange lat ≡ true) (b : longitudeRange lon ≡ true) where
+module _ (p : VelocityParts) (lat lon : ℤ) (o : PartsOk p) (a : latitudeRange lat ≡ true) (b : longitudeRange lon ≡ true) where
   abbrev φ : Float
   φ = radians lat
 
   abbrev w : Float
   w = radians (lon -ℤ pos 32400000000)
 
-  latitude : Among φ (most 14 100)
-  latitude = radians-among 2880000000 (most 14 100) lat latitude-finite (tests .latitude) (natural-upto (natural 0 lat 2880000000 a))
+  latitude : Among φ (sizeUpTo 14 100)
+  latitude = radians-among 2880000000 (sizeUpTo 14 100) lat latitude-finite (tests .latitude) (natural-upto (natural 0 lat 2880000000 a))
 
-  past : Among w (most 53 100)
+  past : Among w (sizeUpTo 53 100)
   past =
       let l = natural 35640000000 lon 43200000000 b in
       let low = l .low in
       let high = l .high in
       let d : lon -ℤ pos 32400000000 ≡ pos (l .n - 32400000000) = ap (λ (z : ℤ). z -ℤ pos 32400000000) (l .is) ∙ sub-pos (l .n) 32400000000 (omega arith) in
-      radians-among 10800000000 (most 53 100) (lon -ℤ pos 32400000000) past-finite (tests .past) (subst (λ (z : ℤ). Upto 10800000000 z) (sym d) (omega arith))
+      radians-among 10800000000 (sizeUpTo 53 100) (lon -ℤ pos 32400000000) past-finite (tests .past) (subst (λ (z : ℤ). Upto 10800000000 z) (sym d) (omega arith))
 
   among : (z : ℤ) → natAbs z ≤ 2500 → Among (whole z) part
   among z h = ofInt-among 2500 z (sized-upto 2500 z h) part-finite
@@ -103,27 +103,27 @@ module _ (p : Parts) (lat lon : ℤ) (o : PartsOk p) (a : latitudeRange lat ≡ 
 
   all : All given space
   all =
-      also (sine-among (most 14 100) (most 14 100) (tests .small-sine) latitude)
-      (also (cosine-among (most 14 100) (most 1 1) (tests .small-cosine) latitude)
-      (also (cosine-among (most 53 100) (most 1 1) (tests .large-cosine) past)
-      (also (neg-among (sine-among (most 53 100) (most 53 100) (tests .large-sine) past))
+      also (sine-among (sizeUpTo 14 100) (sizeUpTo 14 100) (tests .small-sine) latitude)
+      (also (cosine-among (sizeUpTo 14 100) (sizeUpTo 1 1) (tests .small-cosine) latitude)
+      (also (cosine-among (sizeUpTo 53 100) (sizeUpTo 1 1) (tests .large-cosine) past)
+      (also (neg-among (sine-among (sizeUpTo 53 100) (sizeUpTo 53 100) (tests .large-sine) past))
       (also (among (p .east) (o .east)) (also (among (p .north) (o .north)) (also (among (p .up) (o .up)) none))))))
 
   -- every f64 of the three rows is finite
   pub all-finite : Fine given xF × Fine given yF × Fine given zF
-  all-finite = (every all xF (most 4330 1) (tests .x), every all yF (most 4330 1) (tests .y), every all zF (most 4330 1) (tests .z))
+  all-finite = (every all xF (sizeUpTo 4330 1) (tests .x), every all yF (sizeUpTo 4330 1) (tests .y), every all zF (sizeUpTo 4330 1) (tests .z))
 
-  bounded-x : Among (turnedAt p lat lon .x) (most 4330 1)
+  bounded-x : Among (turnedAt p lat lon .x) (sizeUpTo 4330 1)
   unfolding value turnedAt turnedBy
-  bounded-x = proved all xF (most 4330 1) (tests .x)
+  bounded-x = proved all xF (sizeUpTo 4330 1) (tests .x)
 
-  bounded-y : Among (turnedAt p lat lon .y) (most 4330 1)
+  bounded-y : Among (turnedAt p lat lon .y) (sizeUpTo 4330 1)
   unfolding value turnedAt turnedBy
-  bounded-y = proved all yF (most 4330 1) (tests .y)
+  bounded-y = proved all yF (sizeUpTo 4330 1) (tests .y)
 
-  bounded-z : Among (turnedAt p lat lon .z) (most 4330 1)
+  bounded-z : Among (turnedAt p lat lon .z) (sizeUpTo 4330 1)
   unfolding value turnedAt turnedBy
-  bounded-z = proved all zF (most 4330 1) (tests .z)
+  bounded-z = proved all zF (sizeUpTo 4330 1) (tests .z)
 
 -- ---- rounded at 0 places
 bound : Bound 4330

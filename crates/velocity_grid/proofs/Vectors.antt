@@ -11,9 +11,9 @@ use Rattle.elementary.specs.Floats.{whole}
 use Rattle.angle.specs.Units.{radians}
 use Rattle.angle.specs.Worked.{openAngles}
 use Rattle.chain.specs.Case.{answer}
-use Rattle.velocity_grid.specs.Bilinear.{blend, weighed, bilinear}
-use Rattle.velocity_grid.specs.OnGrid.{sizeRange, meshRange, gridRange, meshOf, nodesOf, onAxis, placeOf, onGrid, alongOf, cellOf}
-use Rattle.velocity_grid.specs.AtPoint.{known, cellKnown, cornersOf, partOf, partsIn, partsOf}
+use Rattle.velocity_grid.specs.Bilinear.{blend, weightedSum, bilinear}
+use Rattle.velocity_grid.specs.OnGrid.{sizeRange, meshRange, gridRange, meshOf, nodesOf, onAxis, axisCellOf, onGrid, alongOf, cellOf}
+use Rattle.velocity_grid.specs.AtPoint.{known, cellKnown, cornersOf, partOf, partsIn, partsAt}
 use Rattle.velocity_grid.specs.Turn.{turnedBy, inUnits}
 use Rattle.velocity_grid.specs.Step.{velocityFor}
 use Rattle.line.specs.declared.GridHeader.{GridHeader}
@@ -103,7 +103,7 @@ abbrev parts : ℤ → ℤ → ℤ → PartsAnswer
 parts e n u = Parts (record { east = e; north = n; up = u })
 
 abbrev at : ℕ → ℕ → PartsAnswer
-at lat lon = partsOf header missing (pos lat) (pos lon)
+at lat lon = partsAt header missing (pos lat) (pos lon)
 
 -- a node; halves of both signs; a quarter north and a half east; off the middle; nodes on the outer edges, and next to them; the cell to the north-east,
 -- whose node has no value; the cell just south of it; the corner; one unit off each edge; angles out of their ranges; a number too few; a header's mesh
@@ -119,16 +119,16 @@ points =
     ∷ at 1470000000 36750000000
     ∷ at 1469999999 36780000000
     ∷ at 1500000000 36780000000
-    ∷ partsOf header whole-grid (pos 1500000000) (pos 36780000000)
-    ∷ partsOf header whole-grid (pos 1470000000) (pos 36750000000)
+    ∷ partsAt header whole-grid (pos 1500000000) (pos 36780000000)
+    ∷ partsAt header whole-grid (pos 1470000000) (pos 36750000000)
     ∷ at 1439999999 36720000000
     ∷ at 1440000000 36719999999
     ∷ at 1500000001 36720000000
     ∷ at 1440000000 36780000001
-    ∷ partsOf header missing (negsuc 0) (pos 36720000000)
+    ∷ partsAt header missing (negsuc 0) (pos 36720000000)
     ∷ at 1440000000 43200000001
-    ∷ partsOf header firstEight (negsuc 0) (pos 0)
-    ∷ partsOf (record { latitude = pos 1440000000; longitude = pos 36720000000; rows = pos 3; columns = pos 3; mesh = pos 6 }) [] (pos 0) (pos 0)
+    ∷ partsAt header firstEight (negsuc 0) (pos 0)
+    ∷ partsAt (record { latitude = pos 1440000000; longitude = pos 36720000000; rows = pos 3; columns = pos 3; mesh = pos 6 }) [] (pos 0) (pos 0)
     ∷ []
 
 points-worked : points
@@ -153,5 +153,5 @@ points-worked : points
     ∷ Refused refusal.lines
     ∷ Refused refusal.range
     ∷ [])
-unfolding points header firstEight missing whole-grid partsOf partsIn partOf cornersOf cellKnown known cellOf alongOf placeOf onGrid onAxis meshOf nodesOf gridRange sizeRange meshRange bilinear weighed blend answer
+unfolding points header firstEight missing whole-grid partsAt partsIn partOf cornersOf cellKnown known cellOf alongOf axisCellOf onGrid onAxis meshOf nodesOf gridRange sizeRange meshRange bilinear weightedSum blend answer
 points-worked = refl

@@ -15,7 +15,7 @@ use Rattle.velocity_grid.specs.OnGrid.{gridRange, nodesOf, onGrid, cellO
 use Rattle.velocity_grid.specs.declared.Corners.{Corners}
 use Rattle.line.specs.declared.GridHeader.{GridHeader}
 use Rattle.velocity_grid.specs.declared.Cell.{Cell}
-use Rattle.line.specs.declared.Parts.{Parts}
+use Rattle.line.specs.declared.VelocityParts.{VelocityParts}
 use Rattle.velocity_grid.specs.declared.PartsAnswer.{PartsAnswer}
 use Rattle.velocity_grid.specs.declared.PartsAnswer.the-variants as answer
 
@@ -49,7 +49,7 @@ unfoldable pub partOf : List ℤ → ℕ → Cell → ℤ
 unfolding bilinear cornersOf
 partOf nodes p c = bilinear (c .mesh) (c .east) (c .north) (cornersOf nodes p c)
 
-unfoldable pub partsIn : List ℤ → Cell → Parts
+unfoldable pub partsIn : List ℤ → Cell → VelocityParts
 unfolding partOf
 partsIn nodes c = record { east = partOf nodes 0 c; north = partOf nodes 1 c; up = partOf nodes 2 c }
 
@@ -58,20 +58,20 @@ abbrev pub gridTests : GridHeader → List ℤ → List Test
 gridTests g nodes = (not (gridRange g) gives refusal.range) ∷ (not (eqb (length nodes) (3 * nodesOf g)) gives refusal.lines) ∷ []
 
 -- 12 for the angles, then 24 off the grid or at a node without a value, also where its weight is 0
-abbrev pub pointTests : GridHeader → List ℤ → ℤ → ℤ → List Test
-pointTests g nodes latitude longitude =
+abbrev pub anglesAndCellTests : GridHeader → List ℤ → ℤ → ℤ → List Test
+anglesAndCellTests g nodes latitude longitude =
     angleTests latitude longitude
     ++ ((not (onGrid g latitude longitude) gives refusal.offGrid) ∷ (not (cellKnown nodes (cellOf g latitude longitude)) gives refusal.offGrid) ∷ [])
 
 abbrev pub partsTests : GridHeader → List ℤ → ℤ → ℤ → List Test
-partsTests g nodes latitude longitude = gridTests g nodes ++ pointTests g nodes latitude longitude
+partsTests g nodes latitude longitude = gridTests g nodes ++ anglesAndCellTests g nodes latitude longitude
 
-unfoldable pub partsOf : GridHeader → List ℤ → ℤ → ℤ → PartsAnswer
+unfoldable pub partsAt : GridHeader → List ℤ → ℤ → ℤ → PartsAnswer
 unfolding partsIn cellOf
-partsOf g nodes latitude longitude = unless (first (partsTests g nodes latitude longitude)) answer.Refused (answer.Parts (partsIn nodes (cellOf g latitude longitude)))
+partsAt g nodes latitude longitude = unless (first (partsTests g nodes latitude longitude)) answer.Refused (answer.Parts (partsIn nodes (cellOf g latitude longitude)))
 
 -- each within 2,500
-pub record PartsOk (p : Parts) : Type 0 where
+pub record PartsOk (p : VelocityParts) : Type 0 where
   pub east : natAbs (p .east) ≤ 2500
   pub north : natAbs (p .north) ≤ 2500
   pub up : natAbs (p .up) ≤ 2500

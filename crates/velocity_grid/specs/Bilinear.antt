@@ -10,12 +10,12 @@ unfoldable pub blend : ℤ → ℤ → ℤ → ℤ → ℤ
 blend m x a b = a *ℤ (m -ℤ x) +ℤ b *ℤ x
 
 -- m·m times the value x east and y north of the south-west node: along the south and the north edge, then between the two
-unfoldable pub weighed : ℤ → ℤ → ℤ → Corners → ℤ
-weighed m x y c = blend m y (blend m x (c .«south_west») (c .«south_east»)) (blend m x (c .«north_west») (c .«north_east»))
+unfoldable pub weightedSum : ℤ → ℤ → ℤ → Corners → ℤ
+weightedSum m x y c = blend m y (blend m x (c .«south_west») (c .«south_east»)) (blend m x (c .«north_west») (c .«north_east»))
 
 unfoldable pub bilinear : ℤ → ℤ → ℤ → Corners → ℤ
-unfolding weighed blend
-bilinear m x y c = rounded away (weighed m x y c) (natAbs (m *ℤ m))
+unfolding weightedSum blend
+bilinear m x y c = rounded away (weightedSum m x y c) (natAbs (m *ℤ m))
 
 -- ---- what the code asks, so that nothing passes an i64
 pub record BlendOk (m x a b : ℤ) : Type 0 where

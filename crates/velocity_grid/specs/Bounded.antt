@@ -7,14 +7,14 @@ use lib.IntN.{ℤ, natAbs}
 use Rattle.ranges.specs.Ranges.{latitudeRange, longitudeRange}
 use Rattle.velocity_grid.specs.AtPoint.{PartsOk}
 use Rattle.velocity_grid.specs.Turn.{turnedAt, inUnits}
-use Rattle.line.specs.declared.Parts.{Parts}
+use Rattle.line.specs.declared.VelocityParts.{VelocityParts}
 use Rattle.velocity_grid.specs.declared.VelocityAnswer.{VelocityAnswer}
 use Rattle.velocity_grid.specs.declared.VelocityAnswer.the-variants.{Velocity, Refused}
 
 -- units of 0.00001 m a year
-abbrev pub Small : VelocityAnswer → Type 0
-Small (Velocity v) = (natAbs (v .vx) ≤ 4330) × (natAbs (v .vy) ≤ 4330) × (natAbs (v .vz) ≤ 4330)
-Small (Refused n) = ⊥
+abbrev pub SmallVelocity : VelocityAnswer → Type 0
+SmallVelocity (Velocity v) = (natAbs (v .vx) ≤ 4330) × (natAbs (v .vy) ≤ 4330) × (natAbs (v .vz) ≤ 4330)
+SmallVelocity (Refused n) = ⊥
 
 abbrev pub Bounded : Type 0
-Bounded = (p : Parts) (latitude longitude : ℤ) → PartsOk p → latitudeRange latitude ≡ true → longitudeRange longitude ≡ true → Small (inUnits (turnedAt p latitude longitude))
+Bounded = (p : VelocityParts) (latitude longitude : ℤ) → PartsOk p → latitudeRange latitude ≡ true → longitudeRange longitude ≡ true → SmallVelocity (inUnits (turnedAt p latitude longitude))

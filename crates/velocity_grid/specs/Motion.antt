@@ -3,9 +3,9 @@ use mathlib.Core.List.{List}
 use Prim.Native.Nat.{ℕ}
 use lib.IntN.{ℤ}
 use Rattle.line.specs.declared.GridHeader.{GridHeader}
-use Rattle.velocity_grid.specs.AtPoint.{partsOf}
+use Rattle.velocity_grid.specs.AtPoint.{partsAt}
 use Rattle.velocity_grid.specs.Step.{velocityOf}
-use Rattle.velocity_grid.specs.Text.{gridOf, numbersOf}
+use Rattle.velocity_grid.specs.Text.{gridOf, gridNumbers}
 use Rattle.velocity_grid.specs.declared.GridAnswer.{GridAnswer}
 use Rattle.velocity_grid.specs.declared.GridAnswer.the-variants as grid
 use Rattle.velocity_grid.specs.declared.PartsAnswer.{PartsAnswer}
@@ -16,14 +16,14 @@ use Rattle.velocity_grid.specs.declared.MotionAnswer.{MotionAnswer}
 use Rattle.velocity_grid.specs.declared.MotionAnswer.the-variants.{Motion, Refused}
 
 -- the velocity's refusals are the parts' own, then the step's
-unfoldable pub moved : VelocityAnswer → PartsAnswer → MotionAnswer
-moved (velocity.Refused n) p = Refused n
-moved (velocity.Velocity v) (parts.Refused n) = Refused n
-moved (velocity.Velocity v) (parts.Parts p) = Motion (record { parts = p; velocity = v })
+unfoldable pub motionFrom : VelocityAnswer → PartsAnswer → MotionAnswer
+motionFrom (velocity.Refused n) p = Refused n
+motionFrom (velocity.Velocity v) (parts.Refused n) = Refused n
+motionFrom (velocity.Velocity v) (parts.Parts p) = Motion (record { parts = p; velocity = v })
 
 unfoldable pub motionOn : GridHeader → List ℤ → ℤ → ℤ → ℤ → ℤ → ℤ → MotionAnswer
-unfolding moved velocityOf partsOf
-motionOn g nodes latitude longitude datum before after = moved (velocityOf g nodes latitude longitude datum before after) (partsOf g nodes latitude longitude)
+unfolding motionFrom velocityOf partsAt
+motionOn g nodes latitude longitude datum before after = motionFrom (velocityOf g nodes latitude longitude datum before after) (partsAt g nodes latitude longitude)
 
 unfoldable pub motionWith : GridAnswer → List ℤ → ℤ → ℤ → ℤ → ℤ → ℤ → MotionAnswer
 unfolding motionOn
@@ -32,5 +32,5 @@ motionWith (grid.Grid g) nodes latitude longitude datum before after = motionOn 
 
 -- refused: 18 to 22, 2, 30 for the text; 12, 24 for the point; 2, 3, 4 for the datum and the epochs
 unfoldable pub motionOf : List ℕ → ℤ → ℤ → ℤ → ℤ → ℤ → MotionAnswer
-unfolding motionWith gridOf numbersOf
-motionOf text latitude longitude datum before after = motionWith (gridOf text) (numbersOf text) latitude longitude datum before after
+unfolding motionWith gridOf gridNumbers
+motionOf text latitude longitude datum before after = motionWith (gridOf text) (gridNumbers text) latitude longitude datum before after

@@ -8,7 +8,7 @@ use lib.Signed.{leZ, _≤ℤ_, _<ℤ_}
 use Rattle.refusal.specs.Order.{pick}
 use Rattle.ranges.specs.Ranges.{within, equal, latitudeRange, longitudeRange}
 use Rattle.line.specs.declared.GridHeader.{GridHeader}
-use Rattle.velocity_grid.specs.declared.Place.{Place}
+use Rattle.velocity_grid.specs.declared.AxisCell.{AxisCell}
 use Rattle.velocity_grid.specs.declared.Cell.{Cell}
 
 -- ---- the header
@@ -37,18 +37,18 @@ unfoldable pub onAxis : ℤ → ℤ → ℤ → ℤ → Bool
 onAxis start count m z = within start z (start +ℤ (count -ℤ pos 1) *ℤ m)
 
 -- the cell, from 0, and how far into it, d past the first node: on a shared edge the cell to the north or east, at the grid's own outer edge the last
-unfoldable pub placeOf : ℕ → ℕ → ℕ → Place
-placeOf count m d = pick (ltb (d / m + 1) count) (record { cell = d / m; offset = d % m }) (record { cell = count - 2; offset = m })
+unfoldable pub axisCellOf : ℕ → ℕ → ℕ → AxisCell
+axisCellOf count m d = pick (ltb (d / m + 1) count) (record { cell = d / m; offset = d % m }) (record { cell = count - 2; offset = m })
 
 -- ---- a point
 unfoldable pub onGrid : GridHeader → ℤ → ℤ → Bool
 unfolding onAxis meshOf
 onGrid g latitude longitude = onAxis (g .latitude) (g .rows) (meshOf g) latitude && onAxis (g .longitude) (g .columns) (meshOf g) longitude
 
--- its place on an axis
-unfoldable pub alongOf : ℤ → ℤ → ℤ → ℤ → Place
-unfolding placeOf
-alongOf start count m z = placeOf (natAbs count) (natAbs m) (natAbs (z -ℤ start))
+-- where it stands on an axis
+unfoldable pub alongOf : ℤ → ℤ → ℤ → ℤ → AxisCell
+unfolding axisCellOf
+alongOf start count m z = axisCellOf (natAbs count) (natAbs m) (natAbs (z -ℤ start))
 
 -- its cell: the number of the south-west node, in the order of the nodes, the columns of a row, the mesh, and how far east and north of that node
 unfoldable pub cellOf : GridHeader → ℤ → ℤ → Cell

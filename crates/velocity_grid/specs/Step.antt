@@ -6,7 +6,7 @@ use Rattle.chain.specs.Faults.{latest, stepFault}
 use Rattle.chain.specs.declared.Velocity.{Velocity}
 use Rattle.chain.specs.declared.Step.{Step}
 use Rattle.chain.specs.declared.Kind.the-variants as kind
-use Rattle.velocity_grid.specs.AtPoint.{partsOf}
+use Rattle.velocity_grid.specs.AtPoint.{partsAt}
 use Rattle.velocity_grid.specs.Turn.{turnedAt, inUnits}
 use Rattle.line.specs.declared.GridHeader.{GridHeader}
 use Rattle.velocity_grid.specs.declared.PartsAnswer.{PartsAnswer}
@@ -37,14 +37,14 @@ velocityWith (parts.Parts p) latitude longitude datum before after = velocityFor
 
 -- refused: 2, 30, 12, 24, then 2, 3, 4
 unfoldable pub velocityOf : GridHeader → List ℤ → ℤ → ℤ → ℤ → ℤ → ℤ → VelocityAnswer
-unfolding partsOf velocityWith
-velocityOf g nodes latitude longitude datum before after = velocityWith (partsOf g nodes latitude longitude) latitude longitude datum before after
+unfolding partsAt velocityWith
+velocityOf g nodes latitude longitude datum before after = velocityWith (partsAt g nodes latitude longitude) latitude longitude datum before after
 
 -- and the step of it
 unfoldable pub asStep : VelocityAnswer → ℤ → ℤ → ℤ → StepAnswer
 asStep (velocity.Refused n) datum before after = answer.Refused n
 asStep (velocity.Velocity v) datum before after = answer.Step (velocityStep v datum before after)
 
-unfoldable pub stepOf : GridHeader → List ℤ → ℤ → ℤ → ℤ → ℤ → ℤ → StepAnswer
+unfoldable pub velocityStepOf : GridHeader → List ℤ → ℤ → ℤ → ℤ → ℤ → ℤ → StepAnswer
 unfolding velocityOf asStep
-stepOf g nodes latitude longitude datum before after = asStep (velocityOf g nodes latitude longitude datum before after) datum before after
+velocityStepOf g nodes latitude longitude datum before after = asStep (velocityOf g nodes latitude longitude datum before after) datum before after

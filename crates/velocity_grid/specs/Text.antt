@@ -14,7 +14,7 @@ use Rattle.line.specs.declared.Fault.{Fault}
 use Rattle.line.specs.declared.GridHeader.{GridHeader}
 use Rattle.line.specs.declared.GridLine.{GridLine}
 use Rattle.line.specs.declared.GridLine.the-variants as header
-use Rattle.line.specs.declared.Parts.{Parts}
+use Rattle.line.specs.declared.VelocityParts.{VelocityParts}
 use Rattle.line.specs.declared.NodeLine.{NodeLine}
 use Rattle.line.specs.declared.NodeLine.the-variants as node
 use Rattle.velocity_grid.specs.OnGrid.{gridRange, nodesOf}
@@ -40,7 +40,7 @@ abbrev pub orElse : GridFault → GridFault → GridFault
 orElse f g = pick (eqb (f .number) 0) g f
 
 -- ---- a node's line: its form, then its ranges
-unfoldable pub partsRange : Parts → Bool
+unfoldable pub partsRange : VelocityParts → Bool
 partsRange p = partRange (p .east) && partRange (p .north) && partRange (p .up)
 
 unfoldable pub nodeFault : ℕ → NodeLine → GridFault
@@ -56,12 +56,12 @@ nodesFault (suc k) n [] = miscounted
 nodesFault (suc k) n (l ∷ ls) = orElse (nodeFault n (readNode l)) (nodesFault k (suc n) ls)
 
 -- ---- a text
-abbrev pub unlessFault : GridFault → GridHeader → GridAnswer
-unlessFault f g = pick (eqb (f .number) 0) (Grid g) (Refused f)
+abbrev pub unlessGridFault : GridFault → GridHeader → GridAnswer
+unlessGridFault f g = pick (eqb (f .number) 0) (Grid g) (Refused f)
 
 unfoldable pub headed : GridLine → List (List ℕ) → GridAnswer
 headed (header.Malformed f) ls = Refused (onLine 1 f)
-headed (header.Header g) ls = pick (gridRange g) (unlessFault (nodesFault (nodesOf g) 2 ls) g) (Refused (onLine 1 (fault refusal.range 0)))
+headed (header.Header g) ls = pick (gridRange g) (unlessGridFault (nodesFault (nodesOf g) 2 ls) g) (Refused (onLine 1 (fault refusal.range 0)))
 
 unfoldable pub gridIn : List (List ℕ) → GridAnswer
 gridIn [] = Refused miscounted
@@ -76,29 +76,29 @@ gridOf text = gridIn (lines text)
 abbrev pub noValue : ℤ
 noValue = pos 9999
 
-abbrev pub unknown : Parts
-unknown = record { east = noValue; north = noValue; up = noValue }
+abbrev pub withoutValue : VelocityParts
+withoutValue = record { east = noValue; north = noValue; up = noValue }
 
-unfoldable pub valuesOf : NodeLine → Parts
+unfoldable pub valuesOf : NodeLine → VelocityParts
 valuesOf (node.Parts p) = p
-valuesOf node.NoValue = unknown
-valuesOf (node.Malformed f) = unknown
+valuesOf node.NoValue = withoutValue
+valuesOf (node.Malformed f) = withoutValue
 
-abbrev pub three : Parts → List ℤ
-three p = p .east ∷ p .north ∷ p .up ∷ []
+abbrev pub threeNumbers : VelocityParts → List ℤ
+threeNumbers p = p .east ∷ p .north ∷ p .up ∷ []
 
 unfoldable pub nodesIn : List (List ℕ) → List ℤ
 nodesIn [] = []
-nodesIn (l ∷ ls) = three (valuesOf (readNode l)) ++ nodesIn ls
+nodesIn (l ∷ ls) = threeNumbers (valuesOf (readNode l)) ++ nodesIn ls
 
 abbrev pub afterFirst : List (List ℕ) → List (List ℕ)
 afterFirst [] = []
 afterFirst (l ∷ ls) = ls
 
-unfoldable pub numbersOf : List ℕ → List ℤ
-numbersOf text = nodesIn (afterFirst (lines text))
+unfoldable pub gridNumbers : List ℕ → List ℤ
+gridNumbers text = nodesIn (afterFirst (lines text))
 
 -- ---- the lent room: the numbers from its start on, and the rest as it was; where the text is refused, all of it
-abbrev pub laid : GridAnswer → List ℤ → List ℤ → List ℤ
-laid (Refused f) numbers before = before
-laid (Grid g) numbers before = sets before 0 numbers
+abbrev pub roomAfter : GridAnswer → List ℤ → List ℤ → List ℤ
+roomAfter (Refused f) numbers before = before
+roomAfter (Grid g) numbers before = sets before 0 numbers

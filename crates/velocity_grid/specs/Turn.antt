@@ -8,7 +8,7 @@ use Rattle.rounding.specs.declared.decimals.Rounded.the-variants as rounded
 use Rattle.elementary.specs.Floats.{_⊗_, _⊕_, _⊖_, whole}
 use Rattle.elementary.specs.Series.{sineOf, cosineOf}
 use Rattle.angle.specs.Units.{radians}
-use Rattle.line.specs.declared.Parts.{Parts}
+use Rattle.line.specs.declared.VelocityParts.{VelocityParts}
 use Rattle.velocity_grid.specs.declared.Turned.{Turned}
 use Rattle.velocity_grid.specs.declared.VelocityAnswer.{VelocityAnswer}
 use Rattle.velocity_grid.specs.declared.VelocityAnswer.the-variants as answer
@@ -22,7 +22,7 @@ turnedBy sinφ cosφ sinλ cosλ e n u = record {
 }
 
 -- the longitude goes in as w, its part past 90 degrees, the difference in whole numbers: cos λ = -sin w, sin λ = cos w
-unfoldable pub turnedAt : Parts → ℤ → ℤ → Turned
+unfoldable pub turnedAt : VelocityParts → ℤ → ℤ → Turned
 unfolding turnedBy
 turnedAt p latitude longitude =
     let φ = radians latitude in

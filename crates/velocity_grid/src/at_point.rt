@@ -3,7 +3,7 @@ ghost use mathlib.Core.Path.{_≡_};
 ghost use mathlib.Core.Bool.{true};
 ghost use Prim.Native.Nat.{_≤_};
 ghost use Rattle.refusal.specs.Order.{first};
-ghost use Rattle.velocity_grid.specs.AtPoint.{cellKnown, partOf, partsIn, partsOf, gridTests};
+ghost use Rattle.velocity_grid.specs.AtPoint.{cellKnown, partOf, partsIn, partsAt, gridTests};
 ghost use Rattle.velocity_grid.specs.OnGrid.{CellIn};
 use crate::Cell;
 use crate::PartsAnswer;
@@ -14,7 +14,7 @@ use crate::locate::on_grid;
 use crate::nodes::cell_known;
 use crate::nodes::corners;
 use line::GridHeader;
-use line::Parts;
+use line::VelocityParts;
 
 // Part p of a point in a cell whose nodes all have a value.
 fn part(nodes: &[i64], p: usize, c: Cell) -> i64
@@ -26,14 +26,14 @@ fn part(nodes: &[i64], p: usize, c: Cell) -> i64
 }
 
 // All three.
-fn parts_in(nodes: &[i64], c: Cell) -> Parts
+fn parts_in(nodes: &[i64], c: Cell) -> VelocityParts
     requires { ⌜ CellIn c × (cellKnown (now nodes) c ≡ true) ⌝ }
     ensures { λ r. ⌜ r ≡ partsIn (now (nodes .entry)) c ⌝ }
 {
     let east = part(nodes, 0, c);
     let north = part(nodes, 1, c);
     let up = part(nodes, 2, c);
-    Parts { east, north, up }
+    VelocityParts { east, north, up }
 }
 
 // What a grid is refused for by itself: RANGE for its header, LINES where numbers of nodes are missing or left over, or 0 for none.
@@ -53,7 +53,7 @@ fn grid_fault(g: GridHeader, nodes: &[i64]) -> u8
 // eastward, rows going north; a node whose numbers are not each within 2,500 has no value. Refused: RANGE for the header, LINES where numbers are missing or
 // left over, GEODETIC for the point's angles, OFF_GRID where it lies off the grid or a node of its cell has no value.
 pub fn parts_at(g: GridHeader, nodes: &[i64], latitude: i64, longitude: i64) -> PartsAnswer
-    ensures { λ r. ⌜ r ≡ partsOf g (now (nodes .entry)) latitude longitude ⌝ }
+    ensures { λ r. ⌜ r ≡ partsAt g (now (nodes .entry)) latitude longitude ⌝ }
 {
     let fault = grid_fault(g, nodes);
     if fault != 0 {

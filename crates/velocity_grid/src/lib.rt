@@ -37,7 +37,7 @@ pub enum GridAnswer {
 }
 
 // Where a number stands along an axis: the cell, from 0, and how far into it.
-pub struct Place {
+pub struct AxisCell {
     pub cell: usize,
     pub offset: usize,
 }
@@ -61,7 +61,7 @@ pub struct Corners {
 
 // The three parts, or the refusal number.
 pub enum PartsAnswer {
-    Parts(line::Parts),
+    Parts(line::VelocityParts),
     Refused(u8),
 }
 
@@ -86,7 +86,7 @@ pub enum StepAnswer {
 
 // East, north and up at a point, and the velocity that they turn to.
 pub struct Motion {
-    pub parts: line::Parts,
+    pub parts: line::VelocityParts,
     pub velocity: chain::Velocity,
 }
 

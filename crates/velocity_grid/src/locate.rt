@@ -2,9 +2,9 @@
 ghost use mathlib.Core.Path.{_≡_};
 ghost use mathlib.Core.Bool.{true};
 ghost use Prim.Native.Nat.{_+_, _*_, _≤_, _<_};
-ghost use Rattle.velocity_grid.specs.OnGrid.{gridRange, meshOf, onAxis, placeOf, alongOf, onGrid, cellOf, AxisOk};
+ghost use Rattle.velocity_grid.specs.OnGrid.{gridRange, meshOf, onAxis, axisCellOf, alongOf, onGrid, cellOf, AxisOk};
+use crate::AxisCell;
 use crate::Cell;
-use crate::Place;
 use crate::header::mesh_units;
 use line::GridHeader;
 
@@ -26,29 +26,29 @@ pub(crate) fn on_grid(g: GridHeader, latitude: i64, longitude: i64) -> bool
 }
 
 // The cell d past the first of `count` nodes, m apart, and how far into it. The last cell takes its own outer edge.
-fn place(count: usize, m: usize, d: usize) -> Place
+fn axis_cell(count: usize, m: usize, d: usize) -> AxisCell
     requires { ⌜ (2 ≤ count) × (0 < m) × (d < 9223372036854775808) ⌝ }
-    ensures { λ r. ⌜ r ≡ placeOf count m d ⌝ }
+    ensures { λ r. ⌜ r ≡ axisCellOf count m d ⌝ }
 {
     let cell = d / m;
     if cell + 1 < count {
-        return Place {
+        return AxisCell {
             cell,
             offset: d % m,
         };
     }
-    Place {
+    AxisCell {
         cell: count - 2,
         offset: m,
     }
 }
 
 // The same of a number on an axis.
-fn along(start: i64, count: i64, m: i64, z: i64) -> Place
+fn along(start: i64, count: i64, m: i64, z: i64) -> AxisCell
     requires { ⌜ AxisOk start count m × (onAxis start count m z ≡ true) ⌝ }
     ensures { λ r. ⌜ r ≡ alongOf start count m z ⌝ }
 {
-    place(count as usize, m as usize, (z - start) as usize)
+    axis_cell(count as usize, m as usize, (z - start) as usize)
 }
 
 // The number of a node, by its row and column.

@@ -1,7 +1,7 @@
 // A point's motion, from a grid's text: the three parts there, and the velocity that they turn to.
 ghost use mathlib.Core.Path.{_≡_};
 ghost use lib.ListN.{length};
-ghost use Rattle.velocity_grid.specs.Motion.{moved, motionOn, motionOf};
+ghost use Rattle.velocity_grid.specs.Motion.{motionFrom, motionOn, motionOf};
 use crate::GridAnswer;
 use crate::Motion;
 use crate::MotionAnswer;
@@ -22,7 +22,7 @@ fn node_space() -> Nodes
 }
 
 fn both(velocity: VelocityAnswer, parts: PartsAnswer) -> MotionAnswer
-    ensures { λ r. ⌜ r ≡ moved velocity parts ⌝ }
+    ensures { λ r. ⌜ r ≡ motionFrom velocity parts ⌝ }
 {
     match velocity {
         VelocityAnswer::Refused(n) => MotionAnswer::Refused(n),

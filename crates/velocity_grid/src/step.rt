@@ -1,6 +1,6 @@
 // A velocity step out of a grid.
 ghost use mathlib.Core.Path.{_≡_};
-ghost use Rattle.velocity_grid.specs.Step.{velocityStep, velocityFor, velocityOf, asStep, stepOf};
+ghost use Rattle.velocity_grid.specs.Step.{velocityStep, velocityFor, velocityOf, asStep, velocityStepOf};
 use crate::PartsAnswer;
 use crate::StepAnswer;
 use crate::VelocityAnswer;
@@ -86,7 +86,7 @@ pub fn step_at(
     before: i64,
     after: i64,
 ) -> StepAnswer
-    ensures { λ r. ⌜ r ≡ stepOf g (now (nodes .entry)) latitude longitude datum before after ⌝ }
+    ensures { λ r. ⌜ r ≡ velocityStepOf g (now (nodes .entry)) latitude longitude datum before after ⌝ }
 {
     let answer = velocity_at(g, nodes, latitude, longitude, datum, before, after);
     as_step(answer, datum, before, after)

@@ -7,7 +7,7 @@ ghost use Rattle.line.specs.Lines.{lines};
 ghost use Rattle.line.specs.Readers.{readNode};
 ghost use Rattle.line.specs.declared.GridLine.the-variants as grid-line;
 ghost use Rattle.line.specs.declared.NodeLine.the-variants as node-line;
-ghost use Rattle.velocity_grid.specs.Text.{miscounted, faultless, onLine, nodeFault, nodesFault, headed, gridOf, unknown, valuesOf, three, nodesIn, numbersOf, laid};
+ghost use Rattle.velocity_grid.specs.Text.{miscounted, faultless, onLine, nodeFault, nodesFault, headed, gridOf, withoutValue, valuesOf, threeNumbers, nodesIn, gridNumbers, roomAfter};
 ghost use Rattle.velocity_grid.specs.Reading.{awaitedFault};
 use crate::GridAnswer;
 use crate::GridFault;
@@ -17,7 +17,7 @@ use line::Fault;
 use line::GridHeader;
 use line::GridLine;
 use line::NodeLine;
-use line::Parts;
+use line::VelocityParts;
 
 // A number for a node that has no value, past every part's range.
 const NO_VALUE: i64 = 9999;
@@ -54,7 +54,7 @@ fn on_line(line: u16, fault: Fault) -> GridFault
 }
 
 // What is wrong with the parts of a node on this line, if anything is.
-fn parts_fault(line: u16, p: Parts) -> GridFault
+fn parts_fault(line: u16, p: VelocityParts) -> GridFault
     ensures { λ r. ⌜ r ≡ nodeFault line (node-line.Parts p) ⌝ }
 {
     if ranges::three_within(-2500, p.east, p.north, p.up, 2500) {
@@ -140,10 +140,10 @@ pub fn check_grid(text: &[u8]) -> GridAnswer
     }
 }
 
-fn no_value() -> Parts
-    ensures { λ r. ⌜ r ≡ unknown ⌝ }
+fn no_value() -> VelocityParts
+    ensures { λ r. ⌜ r ≡ withoutValue ⌝ }
 {
-    Parts {
+    VelocityParts {
         east: NO_VALUE,
         north: NO_VALUE,
         up: NO_VALUE,
@@ -151,7 +151,7 @@ fn no_value() -> Parts
 }
 
 // The parts of a node's line, NO_VALUE where it has none.
-fn values(text: &[u8]) -> Parts
+fn values(text: &[u8]) -> VelocityParts
     ensures { λ r. ⌜ r ≡ valuesOf (readNode (now (text .entry))) ⌝ }
 {
     match line::read_node(text) {
@@ -164,7 +164,7 @@ fn values(text: &[u8]) -> Parts
 // Puts the three numbers of a node's line into the room from `at` on.
 fn put_node(nodes: &mut Nodes, at: usize, text: &[u8])
     requires { ⌜ at + 3 ≤ 12000 ⌝ }
-    ensures { λ r. ⌜ now (nodes .exit) ≡ sets (now (nodes .entry)) at (three (valuesOf (readNode (now (text .entry))))) ⌝ }
+    ensures { λ r. ⌜ now (nodes .exit) ≡ sets (now (nodes .entry)) at (threeNumbers (valuesOf (readNode (now (text .entry))))) ⌝ }
 {
     let p = values(text);
     let east = p.east;
@@ -193,7 +193,7 @@ fn fill(text: &[u8], start: usize, nodes: &mut Nodes)
 // A grid out of its text: the header, and into the room three numbers a node, 9,999 each for a node without a value; the rest of the room stays as it was.
 // Refused as check_grid refuses, and then nothing is written.
 pub fn read_grid(text: &[u8], nodes: &mut Nodes) -> GridAnswer
-    ensures { λ r. ⌜ (r ≡ gridOf (now (text .entry))) × (now (nodes .exit) ≡ laid (gridOf (now (text .entry))) (numbersOf (now (text .entry))) (now (nodes .entry))) ⌝ }
+    ensures { λ r. ⌜ (r ≡ gridOf (now (text .entry))) × (now (nodes .exit) ≡ roomAfter (gridOf (now (text .entry))) (gridNumbers (now (text .entry))) (now (nodes .entry))) ⌝ }
 {
     match check_grid(text) {
         GridAnswer::Refused(fault) => GridAnswer::Refused(fault),

@@ -10,7 +10,7 @@ use angle::radians;
 use chain::Velocity;
 use elementary::cosine;
 use elementary::sine;
-use line::Parts;
+use line::VelocityParts;
 use rounding::Rounded;
 use rounding::round_places;
 
@@ -29,7 +29,7 @@ fn turned(sin_phi: f64, cos_phi: f64, sin_l: f64, cos_l: f64, e: f64, n: f64, u:
 }
 
 // At a point's angles, in their ranges.
-pub(crate) fn turn(p: Parts, latitude: i64, longitude: i64) -> Turned
+pub(crate) fn turn(p: VelocityParts, latitude: i64, longitude: i64) -> Turned
     requires { ⌜ PartsOk p × (latitudeRange latitude ≡ true) × (longitudeRange longitude ≡ true) ⌝ }
     ensures { λ r. ⌜ r ≡ turnedAt p latitude longitude ⌝ }
 {

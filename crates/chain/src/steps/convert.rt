@@ -122,7 +122,7 @@ fn end_of(chain: Chain, r: Realization) -> Realization
     s.after
 }
 
-// Units: coordinates 0.00001 m; epochs 0.001 year, 0 for none; rotations 0.00001"; scale 10^-11. Ranges: those of ranges.rt, all ends allowed; every
+// Units: coordinates 0.00001 m; epochs 0.001 year, 0 for none; rotations 0.00001"; scale 10^-11. Ranges: those of crate ranges, all ends allowed; every
 // position, before the chain and after each step, lies in the area. Refusals, the first that applies: RANGE for the
 // profile; NINTH; of each step in turn RANGE, EPOCH, PROFILE, KIND, JOIN; of the point RANGE, EPOCH, PROFILE, START, AREA; then LEFT. The empty chain refuses no point with START.
 // A point forward by a chain (document 01: along): to the chain's end, or refused.
@@ -141,7 +141,7 @@ pub fn forward(chain: Chain, point: Point) -> Answer
     forward_walk(chain, point, end_of(chain, r))
 }
 
-// Units: coordinates 0.00001 m; epochs 0.001 year, 0 for none; rotations 0.00001"; scale 10^-11. Ranges: those of ranges.rt, all ends allowed; every
+// Units: coordinates 0.00001 m; epochs 0.001 year, 0 for none; rotations 0.00001"; scale 10^-11. Ranges: those of crate ranges, all ends allowed; every
 // position, before the chain and after each step, lies in the area. Refusals, the first that applies: RANGE for the
 // profile; NINTH; of each step in turn RANGE, EPOCH, PROFILE, KIND, JOIN; of the point RANGE, EPOCH, PROFILE, START, AREA; then LEFT. The empty chain refuses no point with START.
 // A point inverse by a chain (document 01: back): to the chain's start, or refused. START is then for a point that is not at the chain's end.

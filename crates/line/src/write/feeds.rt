@@ -12,7 +12,7 @@ ghost use mathlib.Core.List.{[], _∷_, _++_};
 ghost use Prim.Native.Nat.{_+_, _≤_, _<_, _%_};
 ghost use lib.ListN.{length};
 ghost use Rattle.line.specs.Text.{Put, two, Wrote};
-ghost use Rattle.line.specs.BareLines.{feedsText, Fed, Passes, Sooner};
+ghost use Rattle.line.specs.BareLines.{feedsText, AnswersFeeds, Passes, Sooner};
 
 // What ten lines with numbers of five digits take.
 const TEN_ROOM: usize = 130;
@@ -105,7 +105,7 @@ fn ten_at_once(room: usize, at: usize, line: u64) -> bool
 
 // One line feed, whatever its number and room.
 fn write_one(input: &[u8], from: usize, out: &mut [u8], at: usize, line: u64) -> Feeds
-    ensures { λ r. ⌜ Fed (now (input .entry)) from (now (out .entry)) at line (now (out .exit)) r ⌝ }
+    ensures { λ r. ⌜ AnswersFeeds (now (input .entry)) from (now (out .entry)) at line (now (out .exit)) r ⌝ }
 {
     if from < input.len() {
         if input[from] == LINE_FEED {
@@ -118,7 +118,7 @@ fn write_one(input: &[u8], from: usize, out: &mut [u8], at: usize, line: u64) ->
 
 // Answers bare line feeds from `from` on, where their program knows no such line and the first has the number `line`: at least one, if any stands there.
 pub fn write_feeds(input: &[u8], from: usize, out: &mut [u8], at: usize, line: u64) -> Feeds
-    ensures { λ r. ⌜ Fed (now (input .entry)) from (now (out .entry)) at line (now (out .exit)) r ⌝ }
+    ensures { λ r. ⌜ AnswersFeeds (now (input .entry)) from (now (out .entry)) at line (now (out .exit)) r ⌝ }
 {
     if ten_at_once(out.len(), at, line) {
         let past = past_feeds(input, from, 10 - ((line % 10) as usize));

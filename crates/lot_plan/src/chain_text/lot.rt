@@ -34,7 +34,7 @@ fn lay(o: OriginNumbers, label: Label, latitude: i64, longitude: i64) -> Lot
 }
 
 // A point at the chain's end: its position to latitude and longitude, and these onto the grid.
-fn place(o: OriginNumbers, point: Point) -> Lot
+fn lay_from(o: OriginNumbers, point: Point) -> Lot
     ensures { λ r. ⌜ r ≡ laidFrom o point ⌝ }
 {
     let at = point.position;
@@ -50,7 +50,7 @@ fn carry(o: OriginNumbers, numbers: &Prepared, point: Point) -> Lot
 {
     match chain::forward_prepared(numbers, point) {
         Answer::Refused(number) => Lot::Refused(number),
-        Answer::Converted(converted) => place(o, converted),
+        Answer::Converted(converted) => lay_from(o, converted),
     }
 }
 

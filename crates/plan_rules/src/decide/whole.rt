@@ -9,8 +9,7 @@ use crate::PlanOrigin;
 use crate::Reply;
 use crate::State;
 use crate::decide::decide;
-
-const LINE_FEED: u8 = 10;
+use line::LINE_FEED;
 
 // Nothing read yet.
 fn fresh() -> State

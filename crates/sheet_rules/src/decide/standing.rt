@@ -15,7 +15,7 @@ ghost use Rattle.line.specs.declared.StepLine.the-variants as step-line;
 ghost use Rattle.sheet_rules.specs.declared.Reply.the-variants as replies;
 ghost use Rattle.sheet_rules.specs.Sheet.{Sheet, replyOf, nextOf};
 ghost use Rattle.sheet_rules.specs.State.{Holds, Gave};
-ghost use Rattle.sheet_rules.specs.OneLine.{said, counted, chainWith, soundStanding, stepsAfter, Prepares, answeredTo, lineAnswered};
+ghost use Rattle.sheet_rules.specs.OneLine.{sheetAt, counted, chainWith, soundStanding, stepsAfter, PreparesChain, answeredTo, lineAnswered};
 use crate::Answered;
 use crate::Decided;
 use crate::Reply;
@@ -36,7 +36,7 @@ const MOST_LINES: u64 = 1000000;
 // Prepares a chain from no numbers, step by step, and answers whether it is good.
 fn prepare(chain: Chain, numbers: &mut Prepared) -> bool
     requires { ⌜ now numbers ≡ replicate 72 (pos 0) ⌝ }
-    ensures { λ r. ⌜ Prepares chain (now (numbers .exit)) r ⌝ }
+    ensures { λ r. ⌜ PreparesChain chain (now (numbers .exit)) r ⌝ }
 {
     let n = chain.length;
     let profile = chain.profile;

@@ -8,7 +8,7 @@ use lib.ListN.{length, take, length-take, length-set, length-map}
 use lib.Seq.{length-sets}
 use borrow.Author.Tests.{not-true, not-false}
 use Rattle.sheet_stream.specs.Fragments.{endsWith, fedAt, sound}
-use Rattle.sheet_stream.proofs.Laws.{feed-29}
+use Rattle.sheet_stream.proofs.Laws.{feed-state}
 use Rattle.sheet_stream.proofs.Scanning as L
 use borrow.Author.Needs.{needs}
 use Rattle.sheet_stream.proofs.feed.Statement.{statement}
@@ -74,7 +74,7 @@ returns-3 c =
 returns-4 : tie.Need-returns-4
 returns-4 c =
     let a = c .before .before .before .before .before .before .before .before .before .before .before .args in
-    c .refused2 .ensures ∙ sym (feed-29 (a .stream) (a .fragment .now) (L.sound-as (a .stream) (going (c .before .before .before .before .before .before .before)) _ (c .before .before .is-sound .ensures) ∙ not-true _ (c .before .if4 .taken)))
+    c .refused2 .ensures ∙ sym (feed-state (a .stream) (a .fragment .now) (L.sound-as (a .stream) (going (c .before .before .before .before .before .before .before)) _ (c .before .before .is-sound .ensures) ∙ not-true _ (c .before .if4 .taken)))
 
 returns-5 : tie.Need-returns-5
 returns-5 c =

@@ -3,7 +3,7 @@ use mathlib.Core.Path.{_≡_, sym, _∙_}
 use mathlib.Core.List.{[]}
 use native.Mathlib.Omega.{arith}
 use borrow.Author.Tests.{not-true, not-false}
-use Rattle.sheet_stream.proofs.Laws.{finish-29, finish-none}
+use Rattle.sheet_stream.proofs.Laws.{finish-state, finish-none}
 use Rattle.sheet_stream.proofs.Scanning as L
 use borrow.Author.Needs.{needs}
 use Rattle.sheet_stream.proofs.finish.Statement.{statement}
@@ -23,7 +23,7 @@ returns-2 : tie.Need-returns-2
 returns-2 c = L.finished-by (c .before .before .before .before .before .args .stream) (going (c .before .before)) _ (c .before .if2 .taken) (c .end-open .ensures)
 
 returns-3 : tie.Need-returns-3
-returns-3 c = c .refused2 .ensures ∙ sym (finish-29 (c .before .before .before .before .before .before .before .before .args .stream) (L.sound-as (c .before .before .before .before .before .before .before .before .args .stream) (going (c .before .before .before .before .before)) _ (c .before .before .is-sound .ensures) ∙ not-true _ (c .before .if3 .taken)))
+returns-3 c = c .refused2 .ensures ∙ sym (finish-state (c .before .before .before .before .before .before .before .before .args .stream) (L.sound-as (c .before .before .before .before .before .before .before .before .args .stream) (going (c .before .before .before .before .before)) _ (c .before .before .is-sound .ensures) ∙ not-true _ (c .before .if3 .taken)))
 
 returns-4 : tie.Need-returns-4
 returns-4 c = rw (c .no-bytes .ensures) (sym (finish-none (c .before .before .before .before .before .before .before .before .args .stream) (L.sound-as (c .before .before .before .before .before .before .before .before .args .stream) (going (c .before .before .before .before .before)) _ (c .before .before .is-sound .ensures) ∙ not-false _ (c .before .if3 .left)) (c .before .before .before .before .if2 .left)))

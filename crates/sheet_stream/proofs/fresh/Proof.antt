@@ -4,7 +4,7 @@ use Rattle.sheet_stream.proofs.fresh.Statement.{statement}
 use Rattle.sheet_stream.proofs.fresh.Tie as tie
 
 returns : tie.Need-returns
-returns c = rw (c .no-bytes .ensures, c .before .no-step .ensures)
+returns c = rw (c .no-bytes .ensures, c .before .spare-step .ensures)
 
 pub fresh-spec : {M : Type 1} → statement M
 fresh-spec = tie.close (tie.spec (search needs) (search needs) returns)

@@ -7,7 +7,7 @@ use mir.Syntax.{w64}
 use mir.Val.{SFits, toZ, ofZ}
 use mir.ValLaws.{toZ-ofZ}
 use Rattle.refusal.specs.Order.{first, unless}
-use Rattle.angle.specs.Ranges.{originTests, pointTests, originFault}
+use Rattle.angle.specs.Ranges.{originTests, anglesAndMeridianTests, originFault}
 use Rattle.angle.specs.Cassini.{originMade, cassiniAt, cassiniOf}
 use Rattle.angle.specs.declared.OriginNumbers.{OriginNumbers}
 use Rattle.angle.specs.declared.Projected.{Projected}
@@ -20,7 +20,7 @@ use Rattle.angle.proofs.projection.cassini.Tie as tie
 -- ---- the answer by the faults
 module _ (o : OriginNumbers) (lat lon : ℤ) where
   abbrev fault : ℕ
-  fault = first (pointTests (o .longitude) lat lon)
+  fault = first (anglesAndMeridianTests (o .longitude) lat lon)
 
   abbrev laid : Projected
   laid = cassiniAt (originMade o) lat lon
@@ -29,12 +29,12 @@ module _ (o : OriginNumbers) (lat lon : ℤ) where
   unfolding cassiniOf originFault
   by-origin h =
       sym (unless-some (first (originTests o)) Refused laid h)
-      ∙ ap (λ (f : ℕ). unless f Refused laid) (sym (stop (originTests o) (pointTests (o .longitude) lat lon) h))
+      ∙ ap (λ (f : ℕ). unless f Refused laid) (sym (stop (originTests o) (anglesAndMeridianTests (o .longitude) lat lon) h))
 
   -- where the origin has no fault the point decides
   by-point : originFault o ≡ 0 → unless fault Refused laid ≡ cassiniOf o lat lon
   unfolding cassiniOf originFault
-  by-point h = ap (λ (f : ℕ). unless f Refused laid) (sym (on (originTests o) (pointTests (o .longitude) lat lon) (passed (originTests o) tt h)))
+  by-point h = ap (λ (f : ℕ). unless f Refused laid) (sym (on (originTests o) (anglesAndMeridianTests (o .longitude) lat lon) (passed (originTests o) tt h)))
 
 returns : tie.Need-returns
 returns c =
@@ -46,11 +46,11 @@ returns c =
 sound : (c : tie.Else1) → originFault (c .before .before .args .o) ≡ 0
 sound c = sym (c .before .origin-fault .ensures) ∙ c .if1 .left
 
-module _ (c : tie.After-point-fault) where
+module _ (c : tie.After-meridian-fault) where
   point : ℕ
   point = let a = c .before .before .before .before .args in fault (a .o) (a .latitude) (a .longitude)
 
-  point-is : c .point-fault .result ≡ point
+  point-is : c .meridian-fault .result ≡ point
   unfolding point
   point-is =
       let d = c .before .before .before .before in
@@ -59,7 +59,7 @@ module _ (c : tie.After-point-fault) where
       let o : toZ w64 (ofZ w64 (a .o .longitude)) ≡ a .o .longitude = toZ-ofZ w64 (a .o .longitude) f in
       let lat : toZ w64 (ofZ w64 (a .latitude)) ≡ a .latitude = toZ-ofZ w64 (a .latitude) (d .fits .latitude) in
       let lon : toZ w64 (ofZ w64 (a .longitude)) ≡ a .longitude = toZ-ofZ w64 (a .longitude) (d .fits .longitude) in
-      cc (c .point-fault .ensures)
+      cc (c .meridian-fault .ensures)
 
 returns-2 : tie.Need-returns-2
 unfolding point
@@ -73,9 +73,9 @@ returns-2 c =
 none : (c : tie.Else2) → point (c .before) ≡ 0
 none c = sym (point-is (c .before)) ∙ c .if2 .left
 
-place-once-requires : tie.Need-place-once-requires
+project-once-requires : tie.Need-project-once-requires
 unfolding point
-place-once-requires c κs =
+project-once-requires c κs =
     let d = c .before .before .before in
     let s = d .before .before in
     let p = point-near (s .args .o .longitude) (s .args .latitude) (s .args .longitude) (none c) in
@@ -95,4 +95,4 @@ returns-3 c =
 pub cassini-spec : {M : Type 1} → statement M
 cassini-spec =
     tie.close
-    (tie.spec (search needs) returns (search needs) returns-2 place-once-requires returns-3)
+    (tie.spec (search needs) returns (search needs) returns-2 project-once-requires returns-3)

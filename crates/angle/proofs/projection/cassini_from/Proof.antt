@@ -6,7 +6,7 @@ use mir.Syntax.{w64}
 use mir.Val.{SFits, toZ, ofZ}
 use mir.ValLaws.{toZ-ofZ}
 use Rattle.refusal.specs.Order.{first}
-use Rattle.angle.specs.Ranges.{pointTests}
+use Rattle.angle.specs.Ranges.{anglesAndMeridianTests}
 use Rattle.angle.specs.Cassini.{cassiniAt, cassiniFromOf}
 use Rattle.angle.specs.declared.Projected.the-variants.{Refused}
 use Rattle.refusal.proofs.Orders.{unless-some, unless-none}
@@ -14,18 +14,18 @@ use Rattle.angle.proofs.NoFault.{point-near}
 use Rattle.angle.proofs.projection.cassini_from.Statement.{statement}
 use Rattle.angle.proofs.projection.cassini_from.Tie as tie
 
-module _ (c : tie.After-point-fault) where
+module _ (c : tie.After-meridian-fault) where
   abbrev fault : ℕ
-  fault = let a = c .before .before .args in first (pointTests (a .origin .longitude) (a .latitude) (a .longitude))
+  fault = let a = c .before .before .args in first (anglesAndMeridianTests (a .origin .longitude) (a .latitude) (a .longitude))
 
-  fault-is : c .point-fault .result ≡ fault
+  fault-is : c .meridian-fault .result ≡ fault
   fault-is =
       let d = c .before .before in
       let f : SFits w64 (d .args .origin .longitude) = search needs in
       let o : toZ w64 (ofZ w64 (d .args .origin .longitude)) ≡ d .args .origin .longitude = toZ-ofZ w64 (d .args .origin .longitude) f in
       let lat : toZ w64 (ofZ w64 (d .args .latitude)) ≡ d .args .latitude = toZ-ofZ w64 (d .args .latitude) (d .fits .latitude) in
       let lon : toZ w64 (ofZ w64 (d .args .longitude)) ≡ d .args .longitude = toZ-ofZ w64 (d .args .longitude) (d .fits .longitude) in
-      cc (c .point-fault .ensures)
+      cc (c .meridian-fault .ensures)
 
 returns : tie.Need-returns
 unfolding cassiniFromOf
@@ -38,8 +38,8 @@ returns c =
 none : (c : tie.Else1) → fault (c .before) ≡ 0
 none c = sym (fault-is (c .before)) ∙ c .if1 .left
 
-place-requires : tie.Need-place-requires
-place-requires c κs =
+project-requires : tie.Need-project-requires
+project-requires c κs =
     let d = c .before .before .before in
     rw (toZ-ofZ w64 (d .args .latitude) (d .fits .latitude), toZ-ofZ w64 (d .args .longitude) (d .fits .longitude))
     (point-near (d .args .origin .longitude) (d .args .latitude) (d .args .longitude) (none c))
@@ -56,4 +56,4 @@ returns-2 c =
 
 pub cassini-from-spec : {M : Type 1} → statement M
 cassini-from-spec =
-    tie.close (tie.spec (search needs) returns place-requires returns-2)
+    tie.close (tie.spec (search needs) returns project-requires returns-2)

@@ -10,7 +10,7 @@ use mir.Syntax.{w64}
 use mir.ValLaws.{toZ-pos}
 use Rattle.rounding.proofs.Machine.{told, fits}
 use Rattle.sheet_stream.proofs.Scanning.{within-line}
-use Rattle.capi.proofs.OpenCalls.{answered-as, open-29, open-kept}
+use Rattle.capi.proofs.OpenCalls.{answered-as, open-state, open-kept}
 use borrow.Author.Needs.{needs}
 use Rattle.capi.proofs.fragments.feed_open.Statement.{statement}
 use Rattle.capi.proofs.fragments.feed_open.Tie as tie
@@ -18,7 +18,7 @@ use Rattle.capi.proofs.fragments.feed_open.Tie as tie
 returns : tie.Need-returns
 returns c =
     let s = c .before .before .before .before .before .before in
-    open-29 (s .args .numbers .now) (s .args .bytes .now) (s .pre .0) (s .pre .1) (s .args .fragment .now) (s .args .told .now)
+    open-state (s .args .numbers .now) (s .args .bytes .now) (s .pre .0) (s .pre .1) (s .args .fragment .now) (s .args .told .now)
     (answered-as (s .args .numbers .now) (s .args .bytes .now) (s .pre .0) (s .pre .1) false (sym (not-true _ (c .before .if1 .taken)) ∙ c .before .before .is-answered .ensures))
     (told (c .minus .ok) ∙ c .minus .ensures)
 

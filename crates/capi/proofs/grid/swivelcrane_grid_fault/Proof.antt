@@ -17,7 +17,7 @@ unfolding gridFaultCall
 returns-2 c =
     by (c .before .give-grid-fault .ensures)
     (rw (eq-eqb _ _ (c .before .before .before .before .before .if1 .left))
-    (ap ofGridFault (sym (c .before .before .before .fault-in .ensures ∙ ap faultIn (c .before .before .before .before .check-grid .ensures)))))
+    (ap ofGridFault (sym (c .before .before .before .fault-of-grid .ensures ∙ ap faultIn (c .before .before .before .before .check-grid .ensures)))))
     (told (c .before .give-grid-fault .ok))
 
 pub swivelcrane-grid-fault-spec : {M : Type 1} → statement M

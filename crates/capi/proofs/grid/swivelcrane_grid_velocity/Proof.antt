@@ -9,7 +9,7 @@ use denote.Ref.{now}
 use Rattle.rounding.proofs.Machine.{rd, told}
 use Rattle.velocity_grid.specs.Motion.{motionOf}
 use Rattle.velocity_grid.specs.declared.MotionAnswer.{MotionAnswer}
-use Rattle.capi.specs.Outcome.{Outcome}
+use Rattle.capi.specs.Outcome.{CallOutcome}
 use Rattle.capi.specs.Grids.{ofMotion, gridVelocityCall}
 use Rattle.capi.proofs.Laws.{by, wrong}
 use Rattle.capi.proofs.grid.swivelcrane_grid_velocity.Statement.{statement}

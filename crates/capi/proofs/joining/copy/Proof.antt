@@ -1,4 +1,4 @@
--- `capi::joining::copy` meets its contract: what is left to store, from place at + i on, makes the whole. Assumes nothing.
+-- `capi::joining::copy` meets its contract: what is left to store, from index at + i on, makes the whole. Assumes nothing.
 use mathlib.Core.Path.{_≡_, refl, sym, _∙_, ap}
 use mathlib.Core.List.{List}
 use Prim.Native.Nat.{ℕ, suc, _+_, _-_, _<_, _≤_}

@@ -8,9 +8,9 @@ use mir.Syntax.{w64}
 use mir.Val.{toZ}
 use mir.ValLaws.{toZ-pos}
 use Rattle.rounding.proofs.Machine.{told}
-use Rattle.sheet_stream.proofs.Laws.{empty-is}
+use Rattle.sheet_stream.proofs.Laws.{no-bytes-is}
 use Rattle.capi.proofs.Streams.{two}
-use Rattle.capi.proofs.PointCalls.{point-29, point-told}
+use Rattle.capi.proofs.PointCalls.{point-state, point-told}
 use borrow.Author.Needs.{needs}
 use Rattle.capi.proofs.point_line.feed_point.Statement.{statement}
 use Rattle.capi.proofs.point_line.feed_point.Tie as tie
@@ -25,7 +25,7 @@ returns c =
     let a = c .before .before .before in
     let s = c .before .before .before .before .before .before .before .before in
     let n = s .args in
-    point-29 (n .numbers .now) (n .bytes .now) (s .pre .0) (s .pre .1) (s .pre .6) (n .text .now) (s .pre .7) (n .end) (a .answer-in .result) (a .answer-in .ensures) (n .out .now) (n .told .now) (c .before .enum-told .given .1) (told (c .minus .ok) ∙ c .minus .ensures)
+    point-state (n .numbers .now) (n .bytes .now) (s .pre .0) (s .pre .1) (s .pre .6) (n .text .now) (s .pre .7) (n .end) (a .answer-in .result) (a .answer-in .ensures) (n .out .now) (n .told .now) (c .before .enum-told .given .1) (told (c .minus .ok) ∙ c .minus .ensures)
 
 returns-2 : tie.Need-returns-2
 returns-2 c =
@@ -33,7 +33,7 @@ returns-2 c =
     let a = passed .before .before .before .before .before in
     let s = a .before .before .before .before .before in
     let n = s .args in
-    point-told (n .numbers .now) (n .bytes .now) (s .pre .0) (s .pre .1) (s .pre .6) (n .text .now) (s .pre .7) (n .end) (a .answer-in .result) (a .answer-in .ensures) (n .out .now) (n .told .now) _ (passed .before .before .before .response .given .1) (s .pre .3) (s .pre .4) (passed .put-passed .ensures) (c .before .before .before .before .before .before .put-bytes .ensures ∙ empty-is) (c .before .before .write-reply .ensures)
+    point-told (n .numbers .now) (n .bytes .now) (s .pre .0) (s .pre .1) (s .pre .6) (n .text .now) (s .pre .7) (n .end) (a .answer-in .result) (a .answer-in .ensures) (n .out .now) (n .told .now) _ (passed .before .before .before .response .given .1) (s .pre .3) (s .pre .4) (passed .put-passed .ensures) (c .before .before .before .before .before .before .put-bytes .ensures ∙ no-bytes-is) (c .before .before .write-reply .ensures)
     (two (n .told .now) (toZ w64 (n .end)) (pos 1) (s .pre .4) ∙ ap (λ (z : ℤ). z ∷ pos 1 ∷ []) (toZ-pos w64 (n .end) (s .pre .5)))
 
 pub feed-point-spec : {M : Type 1} → statement M

@@ -6,7 +6,7 @@ use lib.IntN.{ℤ, pos}
 use lib.Seq.{sets}
 use Rattle.rounding.proofs.Machine.{told}
 use Rattle.capi.specs.Chains.{pointNumbers}
-use Rattle.capi.specs.PointRow.{placeOf}
+use Rattle.capi.specs.PointRow.{answerNumbers}
 use Rattle.capi.proofs.row.put_answer.Statement.{statement}
 use Rattle.capi.proofs.row.put_answer.Tie as tie
 
@@ -18,7 +18,7 @@ returns c =
     let st = c .before .before in
     let s = st .before .before .before .before .before .args in
     c .before .put .ensures
-    ∙ ap (sets (s .out .now) (s .at)) (ap (λ (z : ℤ). z ∷ pos 0 ∷ pos 0 ∷ pos 0 ∷ pos 0 ∷ pos 0 ∷ pos 0 ∷ pos 0 ∷ []) (told (st .status .ok) ∙ st .status .ensures) ∙ ap placeOf (sym (st .before .before .before .answer .given .1)))
+    ∙ ap (sets (s .out .now) (s .at)) (ap (λ (z : ℤ). z ∷ pos 0 ∷ pos 0 ∷ pos 0 ∷ pos 0 ∷ pos 0 ∷ pos 0 ∷ pos 0 ∷ []) (told (st .status .ok) ∙ st .status .ensures) ∙ ap answerNumbers (sym (st .before .before .before .answer .given .1)))
 
 -- 0 and a point's numbers, each as it is read
 point : {a b c d e f g a' b' c' d' e' f' g' : ℤ} → a ≡ a' → b ≡ b' → c ≡ c' → d ≡ d' → e ≡ e' → f ≡ f' → g ≡ g'
@@ -37,7 +37,7 @@ returns-2 c =
     let s = a .before .before .args in
     c .before .put2 .ensures
     ∙ ap (sets (s .out .now) (s .at))
-    (point (told (l .0 .1)) (told (l .1 .0 .1)) (told (r .0 .1)) (told (r .1 .0 .1)) (told (x .0 .1)) (told (x .1 .0 .1)) (told (x .1 .1 .0 .1)) ∙ ap placeOf (sym (a .answer2 .given .1)))
+    (point (told (l .0 .1)) (told (l .1 .0 .1)) (told (r .0 .1)) (told (r .1 .0 .1)) (told (x .0 .1)) (told (x .1 .0 .1)) (told (x .1 .1 .0 .1)) ∙ ap answerNumbers (sym (a .answer2 .given .1)))
 
 pub put-answer-spec : {M : Type 1} → statement M
 put-answer-spec =

@@ -1,4 +1,4 @@
--- `capi::row::put_answers` meets its contract: what is left to put, from the i-th place on, makes the whole. Assumes nothing.
+-- `capi::row::put_answers` meets its contract: what is left to put, from the i-th answer on, makes the whole. Assumes nothing.
 use mathlib.Core.Path.{_≡_, refl, sym, _∙_, ap}
 use mathlib.Core.List.{List}
 use Prim.Native.Nat.{ℕ, _+_, _-_, _*_, _/_, _<_, _≤_}
@@ -9,7 +9,7 @@ use lib.ListN.{length, drop, length-drop}
 use lib.Seq.{sets, length-sets, take-all}
 use Rattle.chain.specs.PointRow.{convertReady}
 use Rattle.capi.specs.Chains.{pointFrom}
-use Rattle.capi.specs.PointRow.{placeOf, answersOf}
+use Rattle.capi.specs.PointRow.{answerNumbers, answersOf}
 use Rattle.capi.proofs.PointRows.{turn, no-answers}
 use Rattle.capi.proofs.row.put_answers.Statement.{statement}
 use Rattle.capi.proofs.row.put_answers.Tie as tie
@@ -48,7 +48,7 @@ loop-again c =
     let p : c .before .before .before .before .point-from .result ≡ pointFrom (drop (7 * k .i) (s .points .now)) = c .before .before .before .before .point-from .ensures ∙ ap pointFrom (take-all _ _ whole) in
     let rest = answersOf (convertReady (s .ready) (s .direction)) (length (s .points .now) / 7 - (k .i + 1)) (drop (7 * (k .i + 1)) (s .points .now)) in (
       omega (arith, l .loop-test .taken),
-      ap length e ∙ length-sets (k .out) (8 * k .i) (placeOf (a .result)) ∙ k .inv .1,
+      ap length e ∙ length-sets (k .out) (8 * k .i) (answerNumbers (a .result)) ∙ k .inv .1,
       ap (λ (o : List ℤ). sets o (8 * (k .i + 1)) rest) e
           ∙ turn (convertReady (s .ready) (s .direction)) (s .points .now) (k .out) (length (s .points .now) / 7) (k .i) (l .loop-test .taken) (a .ensures ∙ ap (convertReady (s .ready) (s .direction)) p)
           ∙ k .inv .2,

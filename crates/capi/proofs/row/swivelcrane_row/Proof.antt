@@ -9,7 +9,7 @@ use lib.IntN.{ℤ, pos}
 use lib.ListN.{length}
 use Rattle.refusal.specs.Order.{first}
 use Rattle.rounding.proofs.Machine.{told, rd}
-use Rattle.chain.specs.PointRow.{readyOf}
+use Rattle.chain.specs.PointRow.{readyChainOf}
 use Rattle.chain.proofs.Readying.{ready-fault}
 use Rattle.chain.specs.Numbers.{chainFrom}
 use Rattle.capi.specs.PointRow.{directionFrom, wholeRows, lentTests}
@@ -61,8 +61,8 @@ module _ (c : tie.After-ready-chain) where
   good : first (lentTests (direction at) (length (points at) / 7) (length (answers at) / 8)) ≡ 0
   good = sym (found at) ∙ c .before .before .if2 .left
 
-  ready : c .ready-chain .result ≡ readyOf (chainFrom (profile at) (steps at))
-  ready = c .ready-chain .ensures ∙ ap readyOf (c .before .chain-from .ensures ∙ ap (λ (y : ℤ). chainFrom y (steps at)) (rd (start at .fits .profile)))
+  ready : c .ready-chain .result ≡ readyChainOf (chainFrom (profile at) (steps at))
+  ready = c .ready-chain .ensures ∙ ap readyChainOf (c .before .chain-from .ensures ∙ ap (λ (y : ℤ). chainFrom y (steps at)) (rd (start at .fits .profile)))
 
 returns-3 : tie.Need-returns-3
 returns-3 c =

@@ -1,4 +1,4 @@
--- `chain::checks::steps_fault` meets its contract. The loop's invariant: what is left to examine from place i on decides what the whole does. Assumes nothing.
+-- `chain::checks::steps_fault` meets its contract. The loop's invariant: what is left to examine from index i on decides what the whole does. Assumes nothing.
 use mathlib.Core.Path.{_≡_, sym, _∙_, ap}
 use mathlib.Core.List.{List, [], _∷_, _++_}
 use Prim.Native.Nat.{ℕ, _+_, _-_, _≤_}
@@ -13,7 +13,7 @@ use Rattle.chain.specs.declared.Step.{Step}
 use lib.ListN.{length-map}
 use Rattle.chain.specs.Faults.{stepTests, joinTest, laterTests, stepsTests, stepFault}
 use Rattle.refusal.proofs.Orders.{orElse, orElse-left, orElse-right}
-use Rattle.chain.proofs.Places.{no-step, later-from, none-left, first-tests}
+use Rattle.chain.proofs.AtIndex.{no-step, later-from, none-left, first-tests}
 use Rattle.chain.proofs.checks.steps_fault.Statement.{statement}
 use Rattle.chain.proofs.checks.steps_fault.Tie as tie
 
@@ -76,7 +76,7 @@ loop-holds c =
 later-fault-requires : tie.Need-later-fault-requires Inv-loop μ-loop
 later-fault-requires c κs = tt
 
--- a turn: the step at place i, then the rest
+-- a turn: the step at index i, then the rest
 module _ (c : tie.After-later-fault Inv-loop μ-loop) where
   abbrev s : tie.Start Inv-loop μ-loop
   s = c .before .before .before .before .before .before .before .before .before .before

@@ -1,4 +1,4 @@
--- `chain::lent::are_good` meets its contract. The loop's invariant: what is left from place i on decides what the whole does. Assumes nothing.
+-- `chain::lent::are_good` meets its contract. The loop's invariant: what is left from index i on decides what the whole does. Assumes nothing.
 use mathlib.Core.Path.{_≡_, refl, sym, _∙_, ap, ap₂}
 use mathlib.Core.Bool.{Bool, true, false, _&&_}
 use mathlib.Core.List.{List, []}
@@ -12,8 +12,8 @@ use mir.Syntax.{w64}
 use mir.Val.{toZ, ofZ}
 use Rattle.rounding.proofs.Machine.{rd}
 use Rattle.chain.specs.declared.Realization.{Realization}
-use Rattle.chain.specs.Numbers.{stepFrom, placesFrom, stepsIn, dated, follows, allFollow, goodSteps}
-use Rattle.chain.proofs.Places.{none-left}
+use Rattle.chain.specs.Numbers.{stepFrom, eightFrom, stepsIn, dated, follows, allFollow, goodSteps}
+use Rattle.chain.proofs.AtIndex.{none-left}
 use Rattle.chain.proofs.LentSteps.{rest-is, good-begins, ends-there, goes-on}
 use Rattle.chain.proofs.lent.are_good.Statement.{statement}
 use Rattle.chain.proofs.lent.are_good.Tie as tie
@@ -26,7 +26,7 @@ abbrev μ-loop : tie.MeasureT-loop
 
 returns : tie.Need-returns Inv-loop μ-loop
 unfolding goodSteps
-returns c = let s = c .before .args in ap (λ (n : ℕ). goodSteps (s .profile) (take n (placesFrom (s .steps .now)))) (sym (c .if1 .taken))
+returns c = let s = c .before .args in ap (λ (n : ℕ). goodSteps (s .profile) (take n (eightFrom (s .steps .now)))) (sym (c .if1 .taken))
 
 -- whether the first step begins well
 first-end : (c : tie.After-is-dated Inv-loop μ-loop) (b : Bool) → c .is-dated .result ≡ b → dated (c .before .before .before .args .profile) (stepFrom (c .before .before .before .args .steps .now) .before) ≡ b
@@ -57,7 +57,7 @@ module _ (c : tie.Else2 Inv-loop μ-loop) where
 loop-holds : tie.Need-loop-holds Inv-loop μ-loop
 loop-holds c = (omega arith, refl)
 
--- a turn: the step at place i, then the rest
+-- a turn: the step at index i, then the rest
 module _ (c : tie.After-does-follow Inv-loop μ-loop) where
   abbrev from : tie.Else2 Inv-loop μ-loop
   from = c .before .before .before .before
@@ -94,7 +94,7 @@ returns-4 c =
     let i = c .before .loop .i in
     let n = length (ns e) / 13 in
     let last : i ≡ n = omega (arith, c .loop-test .left) in
-    let none : drop i (stepsIn (ns e)) ≡ [] = ap (λ (k : ℕ). drop k (stepsIn (ns e))) last ∙ none-left (placesFrom (ns e)) n in
+    let none : drop i (stepsIn (ns e)) ≡ [] = ap (λ (k : ℕ). drop k (stepsIn (ns e))) last ∙ none-left (eightFrom (ns e)) n in
     ap (allFollow (year e) (c .before .loop .end)) (sym none) ∙ c .before .loop .inv .1 ∙ sym (decided e)
 
 pub are-good-spec : {M : Type 1} → statement M

@@ -51,7 +51,7 @@ use Rattle.chain.specs.declared.Point.{Point}
 use Rattle.chain.specs.declared.Chain.{Chain}
 use Rattle.chain.specs.declared.Answer.{Answer}
 use Rattle.chain.specs.declared.Direction.{Direction}
-use Rattle.chain.specs.PointRow.{convertOf, readyOf, convertReady, rowFault, faultOf, rowOf}
+use Rattle.chain.specs.PointRow.{convertOf, readyChainOf, convertReady, rowFault, rowFaultOf, rowAnswers}
 use Rattle.frames.proofs.Walks.{Slot, empty, full, slots, from-on, Says, told, leaves, var, sets, sets-again, asks, fetches, stores, counts}
 use Rattle.chain.proofs.RowLaws as L
 use Rattle.chain.proofs.Readying.{ready-converts}
@@ -167,9 +167,9 @@ module _ {M : Type 1} (𝓤 : URA M) (H : Heap 𝓤) (A : Atoms 𝓤) (mem : Mem
     goes-make : ent 𝓤 (emp 𝓤) (Make .pre to-make)
     goes-make = qed W [] ∵ nothing ! $ owned ! Ch.the-row (Is Ch.the-row) (LL.makes Ch.the-type Ch′.the-plain 𝓤 H A) c _ ci $ join ! $ nothing ! $ join ! $ frame ! $ done !
 
-    says-make : (u : Val) → ent 𝓤 (Make .post to-make u) (Says 𝓤 H A Rd.the-row (λ w. w ≡ readyOf c) u)
-    says-make = told W Rd.the-row (λ w. w ≡ readyOf c) (sem 𝓤 H A ftrue) (ensured 𝓤 H A make.ended (make.clauses 𝓤 H A mem run) tt (c, tt) tt)
-        (λ w. exE 𝓤 _ (λ ws. snd∗ 𝓤 (sem 𝓤 H A (lasts make.ended tt (c, tt) ws)) (fact 𝓤 (w ≡ readyOf c))))
+    says-make : (u : Val) → ent 𝓤 (Make .post to-make u) (Says 𝓤 H A Rd.the-row (λ w. w ≡ readyChainOf c) u)
+    says-make = told W Rd.the-row (λ w. w ≡ readyChainOf c) (sem 𝓤 H A ftrue) (ensured 𝓤 H A make.ended (make.clauses 𝓤 H A mem run) tt (c, tt) tt)
+        (λ w. exE 𝓤 _ (λ ws. snd∗ 𝓤 (sem 𝓤 H A (lasts make.ended tt (c, tt) ws)) (fact 𝓤 (w ≡ readyChainOf c))))
 
   module _ (W : Given 𝓤 H A) (w : ReadyChain) (vw : Val) (wi : Is Rd.the-row w (vw ∷ [])) where
     module _ (d : Direction) (vd : Val) (di : Is Dr.the-row d (vd ∷ [])) where
@@ -239,8 +239,8 @@ module _ {M : Type 1} (𝓤 : URA M) (H : Heap 𝓤) (A : Atoms 𝓤) (W : Given
   record Ends (r : ℕ) (l : List Answer) : Type 0 where
     small : r < 2 ^ 8
     same : length l ≡ length ys
-    number : r ≡ faultOf c xs ys
-    answers : l ≡ rowOf c d xs ys
+    number : r ≡ rowFaultOf c xs ys
+    answers : l ≡ rowAnswers c d xs ys
 
   exits : (r : ℕ) (l : List Answer) → Ends r l → Room S.the-row (length ys) → ent 𝓤 (⋆ 𝓤 H A (Held-at l [])) (Post (vint w8 r))
   exits r l e room =
@@ -347,12 +347,12 @@ module _ {M : Type 1} (𝓤 : URA M) (H : Heap 𝓤) (A : Atoms 𝓤) (W : Given
         qed W (State empty empty empty empty empty empty empty empty ys) ∵ exec ! C Λ En code-mir.t-1 (atRet En Post) $
         sets ! (loc 8) refl (of-opd ! (load ! (from ! (fld ! refl (stop !))) (look-in ! (loc 3) (sub ! 1 refl (whole !))))) (tt, record { fits = gi .0 }) $
         sets ! (loc 9) refl (of-opd ! (load ! (from ! (fld ! refl (stop !))) (look-in ! (loc 4) (sub ! 1 refl (whole !))))) (tt, record { fits = go .0 }) $
-        asks ! fm u8 (vint w8) (uint-tells w8) (λ r. r ≡ faultOf c xs ys) (Fault 𝓤 H A mem run) known-fault (to-fault 𝓤 H A mem run W c vc ci n (length ys))
+        asks ! fm u8 (vint w8) (uint-tells w8) (λ r. r ≡ rowFaultOf c xs ys) (Fault 𝓤 H A mem run) known-fault (to-fault 𝓤 H A mem run W c vc ci n (length ys))
         (goes-fault 𝓤 H A mem run W c vc ci n (length ys) (gi .0) (go .0)) (says-fault 𝓤 H A mem run W c vc ci n (length ys)) (and-then ! (var ! (arg 1) refl) (and-then ! (var ! (arg 8) refl) (and-then ! (var ! (arg 9) refl) (no-more !)))) (λ r ir e.
         land ! (from ! (stop !)) (init ! (loc 5) refl (tt, record { fits = ir .1 })) $
         sets ! (loc 10) refl (bin ! (var ! (loc 5) refl) (lit ! tt) tt) (tt, tt) $
         first ! $ branches ! (var ! (loc 10) refl)
-        (λ h. asks ! fm Rd.the-row valr (LL.tells Rd.the-type Rd′.the-laws) (λ w. w ≡ readyOf c) (Make 𝓤 H A mem run) known-make (to-make 𝓤 H A mem run W c vc ci)
+        (λ h. asks ! fm Rd.the-row valr (LL.tells Rd.the-type Rd′.the-laws) (λ w. w ≡ readyChainOf c) (Make 𝓤 H A mem run) known-make (to-make 𝓤 H A mem run W c vc ci)
         (goes-make 𝓤 H A mem run W c vc ci) (says-make 𝓤 H A mem run W c vc ci) (and-then ! (var ! (arg 1) refl) (no-more !)) (λ w wi ew.
         land ! (from ! (stop !)) (init ! (loc 6) refl (typedR 𝓤 H A W w wi)) $
         sets ! (loc 7) refl (of-opd ! (lit ! tt)) (tt, record { fits = lit< tt }) $ blocks ! $
@@ -360,10 +360,10 @@ module _ {M : Type 1} (𝓤 : URA M) (H : Heap 𝓤) (A : Atoms 𝓤) (W : Given
         w wi (λ x. ap (λ (v : ReadyChain). convertReady v d x) ew ∙ ready-converts c d x))))
         (λ h. skips ! $ by ! (leave r empty empty (full (vint w64 n)) (full (vint w64 (length ys))) (full (vbool (eqb r 0))) empty empty ys (refused-well r ir e h))))
       where
-        done-well : (r : ℕ) → Is u8 r (vint w8 r ∷ []) → r ≡ faultOf c xs ys → Holds (eqb r 0) → Ends r (cur n)
+        done-well : (r : ℕ) → Is u8 r (vint w8 r ∷ []) → r ≡ rowFaultOf c xs ys → Holds (eqb r 0) → Ends r (cur n)
         done-well r ir e h = let f = sym e ∙ eqb→eq r 0 h in record { small = ir .1; same = L.cur-len (convertOf c d) n xs ys (omega arith) (L.row-long c d xs ys f); number = e; answers = L.row-done c d xs ys f }
 
-        refused-well : (r : ℕ) → Is u8 r (vint w8 r ∷ []) → r ≡ faultOf c xs ys → Holds (not (eqb r 0)) → Ends r ys
+        refused-well : (r : ℕ) → Is u8 r (vint w8 r ∷ []) → r ≡ rowFaultOf c xs ys → Holds (not (eqb r 0)) → Ends r ys
         refused-well r ir e h = record { small = ir .1; same = refl; number = e; answers = L.row-refused c d xs ys (λ f. subst (λ (m : ℕ). Holds (not (eqb m 0))) (e ∙ f) h) }
 
   walk : (𝓣 : Tables 𝓤 H) → FmC 𝓤 H (W .laws) (𝓣 .C) → Triple 𝓤 (𝓣 .C #convert-one) (One 𝓤 H A mem run) → Triple 𝓤 (𝓣 .C #ready-chain) (Make 𝓤 H A mem run) → Triple 𝓤 (𝓣 .C #row-fault) (Fault 𝓤 H A mem run) → Room P.the-row n → Room S.the-row (length ys)

@@ -11,7 +11,7 @@ use Rattle.chain.specs.declared.Step.{Step}
 use Rattle.chain.specs.Prepared.{extendedBy}
 use Rattle.chain.specs.PointRow.{noNumbers, extendedAll}
 use Rattle.chain.proofs.Accepted.{chain-passed}
-use Rattle.chain.proofs.Places.{no-step, from, none-left}
+use Rattle.chain.proofs.AtIndex.{no-step, from, none-left}
 use Rattle.chain.proofs.row.prepare_steps.Statement.{statement}
 use Rattle.chain.proofs.row.prepare_steps.Tie as tie
 
@@ -49,7 +49,7 @@ element-copy-out-step c = omega (arith, few (c .before .before .before))
 add-i : tie.Need-add-i Inv-loop μ-loop
 add-i c = omega (arith, few (c .before .before .before .before .before .before))
 
--- a turn: the step at place i is put to the numbers
+-- a turn: the step at index i is put to the numbers
 turn : (y : ℤ) (l m : List ℤ) (ss rest : List Step) (s : Step) → ss ≡ s ∷ rest → m ≡ extendedBy y l s → extendedAll y m rest ≡ extendedAll y l ss
 unfolding extendedAll
 turn y l m ss rest s e f = rw (e, f)

@@ -4,7 +4,7 @@ ghost use Prim.Native.Nat.{_+_, _<_, _≤_};
 ghost use lib.ListN.{getD, length};
 ghost use Rattle.refusal.specs.Order.{first as Order·first};
 ghost use Rattle.chain.specs.Faults.{stepsOf};
-ghost use Rattle.chain.specs.Join.{noStep, meet, pairTests, joinedSteps, joinedOf, noneOf, joinFault, joinOf};
+ghost use Rattle.chain.specs.Join.{pastSteps, meet, pairTests, joinedSteps, joinedOf, noneOf, joinFault, joinOf};
 use crate::Chain;
 use crate::Joined;
 use crate::Realization;
@@ -41,10 +41,10 @@ fn pair_fault(first: Chain, second: Chain) -> u8
     0
 }
 
-// The step at a place of the joined chain.
-fn place(first: Chain, second: Chain, index: usize) -> Step
+// The step at an index of the joined chain.
+fn joined_step(first: Chain, second: Chain, index: usize) -> Step
     requires { ⌜ (first .length + second .length ≤ 8) × (index < 8) ⌝ }
-    ensures { λ r. ⌜ r ≡ getD (joinedSteps first second) index noStep ⌝ }
+    ensures { λ r. ⌜ r ≡ getD (joinedSteps first second) index pastSteps ⌝ }
 {
     let n = first.length;
     if index < n {
@@ -65,14 +65,14 @@ fn joined(first: Chain, second: Chain) -> Chain
     let profile = first.profile;
     Chain {
         steps: [
-            place(first, second, 0),
-            place(first, second, 1),
-            place(first, second, 2),
-            place(first, second, 3),
-            place(first, second, 4),
-            place(first, second, 5),
-            place(first, second, 6),
-            place(first, second, 7),
+            joined_step(first, second, 0),
+            joined_step(first, second, 1),
+            joined_step(first, second, 2),
+            joined_step(first, second, 3),
+            joined_step(first, second, 4),
+            joined_step(first, second, 5),
+            joined_step(first, second, 6),
+            joined_step(first, second, 7),
         ],
         length,
         profile,

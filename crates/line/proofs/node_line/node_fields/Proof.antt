@@ -2,13 +2,13 @@
 use mathlib.Core.Path.{refl}
 use lib.IntN.{ℤ}
 use borrow.Author.Needs.{needs}
-use Rattle.line.specs.declared.Parts.{Parts}
+use Rattle.line.specs.declared.VelocityParts.{VelocityParts}
 use Rattle.line.specs.Forms.{nodeForm}
 use Rattle.line.proofs.InARow.{three}
 use Rattle.line.proofs.node_line.node_fields.Statement.{statement}
 use Rattle.line.proofs.node_line.node_fields.Tie as tie
 
-parts : ℤ → ℤ → ℤ → Parts
+parts : ℤ → ℤ → ℤ → VelocityParts
 parts x y z = record { east = x; north = y; up = z }
 
 returns : tie.Need-returns

@@ -8,8 +8,8 @@ use Rattle.oblique_mercator.specs.Reverse.{inUnits}
 use Rattle.oblique_mercator.proofs.from_plane.in_units.Statement.{statement}
 use Rattle.oblique_mercator.proofs.from_plane.in_units.Tie as tie
 
-placed-requires : tie.Need-placed-requires
-placed-requires c κs = let a = c .before .before in rw (toZ-ofZ w64 (a .args .centre) (a .fits .centre)) (a .pre)
+from-rounded-requires : tie.Need-from-rounded-requires
+from-rounded-requires c κs = let a = c .before .before in rw (toZ-ofZ w64 (a .args .centre) (a .fits .centre)) (a .pre)
 
 returns : tie.Need-returns
 unfolding inUnits
@@ -19,4 +19,4 @@ returns c =
     cc
 
 pub in-units-spec : {M : Type 1} → statement M
-in-units-spec = tie.close (tie.spec (search needs) (search needs) placed-requires returns)
+in-units-spec = tie.close (tie.spec (search needs) (search needs) from-rounded-requires returns)

@@ -23,14 +23,14 @@ returns-2 c =
     let e = sym (ap₂ _&&_ (c .before .before .in-plane .ensures) (c .before .in-plane2 .ensures)) ∙ not-true _ (c .if2 .taken) in
     rw (centre (c .before .before .before .before) true (not-false _ (c .before .before .before .if1 .left)), e)
 
-place-requires : tie.Need-place-requires
-place-requires c κs = centre (c .before .before .before .before) true (not-false _ (c .before .before .before .if1 .left))
+unproject-requires : tie.Need-unproject-requires
+unproject-requires c κs = centre (c .before .before .before .before) true (not-false _ (c .before .before .before .if1 .left))
 
 returns-3 : tie.Need-returns-3
 unfolding reverseFromOf
 returns-3 c =
     let e = sym (ap₂ _&&_ (c .before .before .before .in-plane .ensures) (c .before .before .in-plane2 .ensures)) ∙ not-false _ (c .before .if2 .left) in
-    rw (centre (c .before .before .before .before .before) true (not-false _ (c .before .before .before .before .if1 .left)), e) (c .place .ensures)
+    rw (centre (c .before .before .before .before .before) true (not-false _ (c .before .before .before .before .if1 .left)), e) (c .unproject .ensures)
 
 pub reverse-from-spec : {M : Type 1} → statement M
-reverse-from-spec = tie.close (tie.spec (search needs) returns (search needs) (search needs) returns-2 place-requires returns-3)
+reverse-from-spec = tie.close (tie.spec (search needs) returns (search needs) (search needs) returns-2 unproject-requires returns-3)

@@ -6,7 +6,7 @@ use mir.Val.{SFits}
 use mir.Syntax.{w64}
 use Rattle.rounding.proofs.Machine.{told}
 use Rattle.ranges.specs.Ranges.{ellipsoidRange, longitudeRange, offsetRange}
-use Rattle.oblique_mercator.specs.Parameters.{centreRange, angleRange, scaleRange, parametersRange}
+use Rattle.oblique_mercator.specs.Parameters.{centreRange, angleRange, centreScaleRange, parametersRange}
 use Rattle.oblique_mercator.proofs.limits.in_range.Statement.{statement}
 use Rattle.oblique_mercator.proofs.limits.in_range.Tie as tie
 
@@ -24,7 +24,7 @@ returns c =
     (c .before .before .before .before .before .before .before .before .before .before .is-longitude .ensures ∙ ap longitudeRange (told (t .1 .1 .0 .1))))
     (c .before .before .before .before .before .before .before .before .is-angle .ensures ∙ ap angleRange (told (t .1 .1 .1 .0 .1))))
     (c .before .before .before .before .before .before .is-angle2 .ensures ∙ ap angleRange (told (t .1 .1 .1 .1 .0 .1))))
-    (c .before .before .before .before .within2 .ensures ∙ ap scaleRange (told (t .1 .1 .1 .1 .1 .0 .1))))
+    (c .before .before .before .before .within2 .ensures ∙ ap centreScaleRange (told (t .1 .1 .1 .1 .1 .0 .1))))
     (c .before .before .is-offset .ensures ∙ ap offsetRange (told (t .1 .1 .1 .1 .1 .1 .0 .1))))
     (c .is-offset2 .ensures ∙ ap offsetRange (told (t .1 .1 .1 .1 .1 .1 .1 .0 .1)))
 

@@ -42,8 +42,8 @@ all : (c : tie.Else3)
     → (longitudeRange (c .before .before .before .before .before .before .before .args .p .centre) ≡ true) × (latitudeRange (c .before .before .before .before .before .before .before .args .latitude) ≡ true) × (longitudeRange (c .before .before .before .before .before .before .before .args .longitude) ≡ true)
 all c = (centre (c .before .before .before .before .before) true (not-false _ (c .before .before .before .before .if1 .left)), latitude (c .before .before .before) true (not-false _ (c .before .before .if2 .left)), longitude (c .before) true (not-false _ (c .if3 .left)))
 
-place-requires : tie.Need-place-requires
-place-requires c κs =
+project-requires : tie.Need-project-requires
+project-requires c κs =
     let a = c .before .before .before .before .before .before .before in
     let p = all c in
     rw (toZ-ofZ w64 (a .args .latitude) (a .fits .latitude), toZ-ofZ w64 (a .args .longitude) (a .fits .longitude)) (p .1, p .2, p .0)
@@ -58,4 +58,4 @@ returns-4 c =
     rw (p .0, p .1, p .2) (cc)
 
 pub forward-from-spec : {M : Type 1} → statement M
-forward-from-spec = tie.close (tie.spec (search needs) returns (search needs) returns-2 (search needs) returns-3 place-requires returns-4)
+forward-from-spec = tie.close (tie.spec (search needs) returns (search needs) returns-2 (search needs) returns-3 project-requires returns-4)

@@ -15,7 +15,7 @@ use Rattle.velocity_grid.specs.AtPoint.{gridTests, cellKnown, partsIn}
 use Rattle.velocity_grid.specs.OnGrid.{gridRange, onGrid, cellOf, CellIn}
 use Rattle.velocity_grid.specs.declared.Cell.{Cell}
 use Rattle.velocity_grid.specs.declared.PartsAnswer.the-variants.{Refused, Parts}
-use Rattle.velocity_grid.proofs.AtPoint.{by-grid, by-angles, by-place, by-nodes, by-none}
+use Rattle.velocity_grid.proofs.AtPoint.{by-grid, by-angles, by-off-grid, by-nodes, by-none}
 use Rattle.velocity_grid.proofs.OnGrid.{cell-in}
 use Rattle.velocity_grid.proofs.at_point.parts_at.Statement.{statement}
 use Rattle.velocity_grid.proofs.at_point.parts_at.Tie as tie
@@ -48,9 +48,9 @@ returns-2 c =
 on-grid-requires : tie.Need-on-grid-requires
 on-grid-requires c κs = not-false _ (grid-passed (c .before .before) .0)
 
-place : (c : tie.After-on-grid) (t : Bool) → c .on-grid .result ≡ t
+on-the-grid : (c : tie.After-on-grid) (t : Bool) → c .on-grid .result ≡ t
     → onGrid (c .before .before .before .before .before .args .g) (c .before .before .before .before .before .args .latitude) (c .before .before .before .before .before .args .longitude) ≡ t
-place c t h =
+on-the-grid c t h =
     let s = c .before .before .before .before .before in
     sym (ap₂ (onGrid (s .args .g)) (rd (s .fits .latitude)) (rd (s .fits .longitude))) ∙ sym (c .on-grid .ensures) ∙ h
 
@@ -58,13 +58,13 @@ returns-3 : tie.Need-returns-3
 returns-3 c =
     let e = c .before .before in
     let a = e .before .before .before .before .args in
-    by-place (a .g) (now (a .nodes)) (a .latitude) (a .longitude) (grid-passed (e .before .before)) (angles-passed e) (place (c .before) false (not-true _ (c .if3 .taken)))
+    by-off-grid (a .g) (now (a .nodes)) (a .latitude) (a .longitude) (grid-passed (e .before .before)) (angles-passed e) (on-the-grid (c .before) false (not-true _ (c .if3 .taken)))
 
 cell-requires : tie.Need-cell-requires
 cell-requires c κs =
     let e = c .before .before in
     let s = e .before .before .before .before in
-    (not-false _ (grid-passed (e .before .before) .0), ap₂ (onGrid (s .args .g)) (rd (s .fits .latitude)) (rd (s .fits .longitude)) ∙ place (c .before) true (not-false _ (c .if3 .left)))
+    (not-false _ (grid-passed (e .before .before) .0), ap₂ (onGrid (s .args .g)) (rd (s .fits .latitude)) (rd (s .fits .longitude)) ∙ on-the-grid (c .before) true (not-false _ (c .if3 .left)))
 
 -- the cell, and its nodes
 module _ (c : tie.After-cell) where
@@ -91,7 +91,7 @@ returns-4 c =
     let b = c .before .before in
     let e = b .before .before .before in
     let a = e .before .before .before .before .args in
-    by-nodes (a .g) (now (a .nodes)) (a .latitude) (a .longitude) (grid-passed (e .before .before)) (angles-passed e) (place (b .before .before) true (not-false _ (b .before .if3 .left)))
+    by-nodes (a .g) (now (a .nodes)) (a .latitude) (a .longitude) (grid-passed (e .before .before)) (angles-passed e) (on-the-grid (b .before .before) true (not-false _ (b .before .if3 .left)))
     (nodes (c .before) false (not-true _ (c .if4 .taken)))
 
 parts-in-requires : tie.Need-parts-in-requires
@@ -106,7 +106,7 @@ returns-5 c =
     let e = b .before .before .before in
     let a = e .before .before .before .before .args in
     ap Parts (c .parts-in .ensures ∙ ap (partsIn (now (a .nodes))) (cell-is b))
-    ∙ by-none (a .g) (now (a .nodes)) (a .latitude) (a .longitude) (grid-passed (e .before .before)) (angles-passed e) (place (b .before .before) true (not-false _ (b .before .if3 .left)))
+    ∙ by-none (a .g) (now (a .nodes)) (a .latitude) (a .longitude) (grid-passed (e .before .before)) (angles-passed e) (on-the-grid (b .before .before) true (not-false _ (b .before .if3 .left)))
     (nodes (d .before) true (not-false _ (d .if4 .left)))
 
 pub parts-at-spec : {M : Type 1} → statement M

@@ -11,7 +11,7 @@ use Rattle.rounding.specs.Nearest.{away, rounded}
 use Rattle.rounding.specs.Quotient.{quotientOf}
 use Rattle.rounding.proofs.Zn.{mul-le}
 use Rattle.rounding.proofs.Machine.{fits, rd, rd*, fit*, to₄, of₄, told, not-lt}
-use Rattle.velocity_grid.specs.Bilinear.{blend, weighed, bilinear, BlendOk}
+use Rattle.velocity_grid.specs.Bilinear.{blend, weightedSum, bilinear, BlendOk}
 use Rattle.velocity_grid.proofs.Bilinear.{blend-size, square-least}
 use Rattle.velocity_grid.proofs.between.bilinear.Statement.{statement}
 use Rattle.velocity_grid.proofs.between.bilinear.Tie as tie
@@ -84,7 +84,7 @@ mul-round-div-away : tie.Need-mul-round-div-away
 mul-round-div-away c = let s = start (c .before) in fit* (rd (s .fits .m)) (rd (s .fits .m)) (square-fits s)
 
 returns : tie.Need-returns
-unfolding bilinear weighed
+unfolding bilinear weightedSum
 returns c =
     let b = c .before in
     let s = start (b .before) in

@@ -8,8 +8,8 @@ use mir.Syntax.{w64}
 use mir.Val.{SFits, toZ, ofZ}
 use Rattle.rounding.proofs.Zn.{v, k, le, unle, lt, unlt, pos-abs}
 use Rattle.rounding.proofs.Machine.{fits, rd, rd-, fit-, of₃}
-use Rattle.velocity_grid.specs.OnGrid.{placeOf, alongOf}
-use Rattle.velocity_grid.specs.declared.Place.{Place}
+use Rattle.velocity_grid.specs.OnGrid.{axisCellOf, alongOf}
+use Rattle.velocity_grid.specs.declared.AxisCell.{AxisCell}
 use Rattle.velocity_grid.proofs.OnGrid.{On, on-axis, natural-of}
 use Rattle.velocity_grid.proofs.locate.along.Statement.{statement}
 use Rattle.velocity_grid.proofs.locate.along.Tie as tie
@@ -54,20 +54,20 @@ module _ (s : tie.Start) where
       let h = unle (s .pre .0 .small) (v (s .args .m)) (k 60000000) in
       omega arith
 
-cast-place : tie.Need-cast-place
-cast-place c = let h = count-in c in rw (count-is c) (tt, record { fits = omega arith })
+cast-axis-cell : tie.Need-cast-axis-cell
+cast-axis-cell c = let h = count-in c in rw (count-is c) (tt, record { fits = omega arith })
 
-cast-place-2 : tie.Need-cast-place-2
-cast-place-2 c = let h = m-in c in rw (m-is c) (tt, record { fits = omega arith })
+cast-axis-cell-2 : tie.Need-cast-axis-cell-2
+cast-axis-cell-2 c = let h = m-in c in rw (m-is c) (tt, record { fits = omega arith })
 
-sub-place : tie.Need-sub-place
-sub-place c = fit- (rd (c .fits .z)) (rd (c .fits .start)) (past-fits c)
+sub-axis-cell : tie.Need-sub-axis-cell
+sub-axis-cell c = fit- (rd (c .fits .z)) (rd (c .fits .start)) (past-fits c)
 
-cast-place-3 : tie.Need-cast-place-3
-cast-place-3 c = let h = on c .size in rw (past-is c) (tt, record { fits = omega arith })
+cast-axis-cell-3 : tie.Need-cast-axis-cell-3
+cast-axis-cell-3 c = let h = on c .size in rw (past-is c) (tt, record { fits = omega arith })
 
-place-requires : tie.Need-place-requires
-place-requires c κs =
+axis-cell-requires : tie.Need-axis-cell-requires
+axis-cell-requires c κs =
     let h = count-in c in
     let m = m-in c in
     let p = on c .size in
@@ -77,7 +77,7 @@ returns : tie.Need-returns
 unfolding alongOf
 returns c =
     let s = c .before in
-    c .place .ensures ∙ of₃ (λ (a b d : ℤ). placeOf (natAbs a) (natAbs b) (natAbs d)) (count-is s) (m-is s) (past-is s)
+    c .axis-cell .ensures ∙ of₃ (λ (a b d : ℤ). axisCellOf (natAbs a) (natAbs b) (natAbs d)) (count-is s) (m-is s) (past-is s)
 
 pub along-spec : {M : Type 1} → statement M
-along-spec = tie.close (tie.spec cast-place cast-place-2 sub-place cast-place-3 place-requires returns)
+along-spec = tie.close (tie.spec cast-axis-cell cast-axis-cell-2 sub-axis-cell cast-axis-cell-3 axis-cell-requires returns)

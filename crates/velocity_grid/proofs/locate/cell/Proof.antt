@@ -1,4 +1,4 @@
--- `velocity_grid::locate::cell` meets its contract: the two places, and the number of the node. Assumes nothing.
+-- `velocity_grid::locate::cell` meets its contract: the cells along the two axes, and the number of the node. Assumes nothing.
 use mathlib.Core.Bool.{true}
 use mathlib.Core.Path.{_≡_, sym, _∙_, ap, ap₂, subst}
 use Prim.Native.Nat.{_≤_, ℕ, _+_, _*_}
@@ -10,8 +10,8 @@ use Rattle.rounding.proofs.Machine.{fits, rd, to₄, of₄, told}
 use Rattle.velocity_grid.specs.OnGrid.{meshRange, meshOf, onAxis, alongOf, cellOf, AxisOk}
 use Rattle.velocity_grid.specs.declared.Cell.{Cell}
 use Rattle.line.specs.declared.GridHeader.{GridHeader}
-use Rattle.velocity_grid.specs.declared.Place.{Place}
-use Rattle.velocity_grid.proofs.OnGrid.{Header, header, rows-axis, columns-axis, size-is, on-both, Placed, along-placed}
+use Rattle.velocity_grid.specs.declared.AxisCell.{AxisCell}
+use Rattle.velocity_grid.proofs.OnGrid.{Header, header, rows-axis, columns-axis, size-is, on-both, AxisCellIn, along-in}
 use Rattle.velocity_grid.proofs.locate.cell.Statement.{statement}
 use Rattle.velocity_grid.proofs.locate.cell.Tie as tie
 
@@ -55,7 +55,7 @@ along-requires-2 c κs =
     let t = c .struct-told5 .given in
     to₄ Asked (told {z = grid m .longitude} (t .1 .0 .1)) (told {z = grid m .columns} (t .1 .1 .1 .0 .1)) (mesh-is m) (rd (start m .fits .longitude)) (columns-axis (grid m) (head m), on m .1)
 
--- the two places
+-- the cells along the two axes
 module _ (c : tie.After-along2) where
   abbrev made : tie.After-mesh-units
   made = c .before .before .before .before .before .before
@@ -73,11 +73,11 @@ module _ (c : tie.After-along2) where
       let t = c .before .struct-told5 .given in
       c .along2 .ensures ∙ of₄ alongOf (told {z = g .longitude} (t .1 .0 .1)) (told {z = g .columns} (t .1 .1 .1 .0 .1)) (mesh-is made) (rd (start made .fits .longitude))
 
-  north-in : Placed (natAbs (g .rows)) (natAbs (meshOf g)) (c .before .before .before .along .result)
-  north-in = subst (λ (p : Place). Placed (natAbs (g .rows)) (natAbs (meshOf g)) p) (sym north-is) (along-placed (rows-axis g (head made)) (start made .args .latitude))
+  north-in : AxisCellIn (natAbs (g .rows)) (natAbs (meshOf g)) (c .before .before .before .along .result)
+  north-in = subst (λ (p : AxisCell). AxisCellIn (natAbs (g .rows)) (natAbs (meshOf g)) p) (sym north-is) (along-in (rows-axis g (head made)) (start made .args .latitude))
 
-  east-in : Placed (natAbs (g .columns)) (natAbs (meshOf g)) (c .along2 .result)
-  east-in = subst (λ (p : Place). Placed (natAbs (g .columns)) (natAbs (meshOf g)) p) (sym east-is) (along-placed (columns-axis g (head made)) (start made .args .longitude))
+  east-in : AxisCellIn (natAbs (g .columns)) (natAbs (meshOf g)) (c .along2 .result)
+  east-in = subst (λ (p : AxisCell). AxisCellIn (natAbs (g .columns)) (natAbs (meshOf g)) p) (sym east-is) (along-in (columns-axis g (head made)) (start made .args .longitude))
 
   rows-in : natAbs (g .rows) ≤ 2000
   rows-in = size-is (head made .size .rows)
@@ -138,10 +138,10 @@ returns c =
     let g = grid (made m) in
     cells
     (c .before .before .node-number .ensures
-    ∙ numbered (ap (λ (p : Place). p .cell) (north-is m)) (ap natAbs (columns-told m)) (ap (λ (p : Place). p .cell) (east-is m)))
+    ∙ numbered (ap (λ (p : AxisCell). p .cell) (north-is m)) (ap natAbs (columns-told m)) (ap (λ (p : AxisCell). p .cell) (east-is m)))
     (ap natAbs (columns-told m)) (mesh-is (made m))
-    (rd (east-fits m) ∙ ap (λ (p : Place). pos (p .offset)) (east-is m))
-    (rd (north-fits m) ∙ ap (λ (p : Place). pos (p .offset)) (north-is m))
+    (rd (east-fits m) ∙ ap (λ (p : AxisCell). pos (p .offset)) (east-is m))
+    (rd (north-fits m) ∙ ap (λ (p : AxisCell). pos (p .offset)) (north-is m))
 
 pub cell-spec : {M : Type 1} → statement M
 cell-spec = tie.close (tie.spec mesh-units-requires along-requires along-requires-2 cast-columns node-number-requires cast-t9 cast-t10 returns)

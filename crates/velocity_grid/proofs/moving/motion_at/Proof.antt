@@ -13,7 +13,7 @@ use mir.Val.{toZ, ofZ}
 use Rattle.rounding.proofs.Machine.{rd, told}
 use Rattle.line.specs.declared.GridHeader.{GridHeader}
 use Rattle.velocity_grid.specs.OnGrid.{sizeRange, nodesOf}
-use Rattle.velocity_grid.specs.Text.{gridOf, numbersOf, laid}
+use Rattle.velocity_grid.specs.Text.{gridOf, gridNumbers, roomAfter}
 use Rattle.velocity_grid.specs.Motion.{motionWith, motionOf}
 use Rattle.velocity_grid.specs.declared.GridAnswer.{GridAnswer}
 use Rattle.velocity_grid.specs.declared.GridAnswer.the-variants.{Grid}
@@ -62,16 +62,16 @@ module _ (c : tie.After-count) where
   abbrev held : List ℤ
   held = c .before .before .before .before .before .before .read-grid .last .1 .0
 
-  held-is : held ≡ sets fresh 0 (numbersOf (text before-count))
-  held-is = c .before .before .before .before .before .before .read-grid .ensures .1 ∙ ap (λ (w : GridAnswer). laid w (numbersOf (text before-count)) fresh) (is-grid before-count)
+  held-is : held ≡ sets fresh 0 (gridNumbers (text before-count))
+  held-is = c .before .before .before .before .before .before .read-grid .ensures .1 ∙ ap (λ (w : GridAnswer). roomAfter w (gridNumbers (text before-count)) fresh) (is-grid before-count)
 
   roomy : c .count .result ≤ length held
-  roomy = omega (arith, few, ap length held-is, length-sets fresh 0 (numbersOf (text before-count)), c .before .before .before .before .before .before .before .before .node-space .ensures)
+  roomy = omega (arith, few, ap length held-is, length-sets fresh 0 (gridNumbers (text before-count)), c .before .before .before .before .before .before .before .before .node-space .ensures)
 
-  first : take (c .count .result) held ≡ numbersOf (text before-count)
+  first : take (c .count .result) held ≡ gridNumbers (text before-count)
   first =
       ap (take (c .count .result)) held-is
-      ∙ at-start (numbersOf (text before-count)) fresh (c .count .result) (T.numbers-many (text before-count) (grid before-count) (is-grid before-count) ∙ sym counted)
+      ∙ at-start (gridNumbers (text before-count)) fresh (c .count .result) (T.numbers-many (text before-count) (grid before-count) (is-grid before-count) ∙ sym counted)
       (omega (arith, few, c .before .before .before .before .before .before .before .before .node-space .ensures))
 
 array-share-prefix-nodes : tie.Need-array-share-prefix-nodes
@@ -85,7 +85,7 @@ unfolding motionOf motionWith
 returns c =
     let r = c .before .before .before in
     let s = r .before .before .before .before in
-    ap (λ (w : GridAnswer). motionWith w (numbersOf (now (s .args .text))) (s .args .latitude) (s .args .longitude) (s .args .datum) (s .args .before) (s .args .after))
+    ap (λ (w : GridAnswer). motionWith w (gridNumbers (now (s .args .text))) (s .args .latitude) (s .args .longitude) (s .args .datum) (s .args .before) (s .args .after))
     (sym (sym (r .read-grid .ensures .0) ∙ c .before .fault .given .1))
 
 returns-2 : tie.Need-returns-2
@@ -95,7 +95,7 @@ returns-2 c =
     let s = c .before .before .before .before .before .before .before .before .before .before .before .before in
     c .motion-on .ensures
     ∙ same-motion (grid (before-count k)) (first k) (rd (s .fits .latitude)) (rd (s .fits .longitude)) (rd (s .fits .datum)) (rd (s .fits .before)) (rd (s .fits .after))
-    ∙ ap (λ (w : GridAnswer). motionWith w (numbersOf (now (s .args .text))) (s .args .latitude) (s .args .longitude) (s .args .datum) (s .args .before) (s .args .after))
+    ∙ ap (λ (w : GridAnswer). motionWith w (gridNumbers (now (s .args .text))) (s .args .latitude) (s .args .longitude) (s .args .datum) (s .args .before) (s .args .after))
     (sym (is-grid (before-count k)))
 
 pub motion-at-spec : {M : Type 1} → statement M

@@ -3,14 +3,14 @@ use borrow.Author.Needs.{needs}
 use mathlib.Core.Path.{_≡_, _∙_, ap}
 use denote.Ref.{now}
 use Rattle.rounding.proofs.Machine.{rd, of₃}
-use Rattle.velocity_grid.specs.Step.{asStep, stepOf}
+use Rattle.velocity_grid.specs.Step.{asStep, velocityStepOf}
 use Rattle.velocity_grid.specs.declared.VelocityAnswer.{VelocityAnswer}
 use Rattle.velocity_grid.proofs.Motions.{same-velocity}
 use Rattle.velocity_grid.proofs.step.step_at.Statement.{statement}
 use Rattle.velocity_grid.proofs.step.step_at.Tie as tie
 
 returns : tie.Need-returns
-unfolding stepOf
+unfolding velocityStepOf
 returns c =
     let s = c .before .before in
     c .as-step .ensures

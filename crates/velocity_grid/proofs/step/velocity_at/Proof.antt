@@ -7,27 +7,27 @@ use mir.ValLaws.{toZ-ofZ}
 use denote.Ref.{now}
 use Rattle.ranges.specs.Ranges.{latitudeRange, longitudeRange}
 use Rattle.rounding.proofs.Machine.{rd, of₃}
-use Rattle.velocity_grid.specs.AtPoint.{partsOf}
+use Rattle.velocity_grid.specs.AtPoint.{partsAt}
 use Rattle.velocity_grid.specs.Step.{velocityFor, velocityWith, velocityOf}
 use Rattle.velocity_grid.specs.Turn.{turnedAt, inUnits}
 use Rattle.velocity_grid.specs.declared.PartsAnswer.{PartsAnswer}
 use Rattle.velocity_grid.specs.declared.Turned.{Turned}
 use Rattle.velocity_grid.specs.declared.VelocityAnswer.{VelocityAnswer}
-use Rattle.velocity_grid.proofs.AtPoint.{Answered, answered}
+use Rattle.velocity_grid.proofs.AtPoint.{PartsFound, parts-found}
 use Rattle.velocity_grid.proofs.step.velocity_at.Statement.{statement}
 use Rattle.velocity_grid.proofs.step.velocity_at.Tie as tie
 
 -- what the grid gave
-found : (c : tie.After-parts-at) → partsOf (c .before .args .g) (now (c .before .args .nodes)) (c .before .args .latitude) (c .before .args .longitude) ≡ c .parts-at .result
+found : (c : tie.After-parts-at) → partsAt (c .before .args .g) (now (c .before .args .nodes)) (c .before .args .latitude) (c .before .args .longitude) ≡ c .parts-at .result
 found c =
     let s = c .before in
-    sym (c .parts-at .ensures ∙ ap₂ (partsOf (s .args .g) (now (s .args .nodes))) (rd (s .fits .latitude)) (rd (s .fits .longitude)))
+    sym (c .parts-at .ensures ∙ ap₂ (partsAt (s .args .g) (now (s .args .nodes))) (rd (s .fits .latitude)) (rd (s .fits .longitude)))
 
 turn-requires : tie.Need-turn-requires
 turn-requires c κs =
     let b = c .before .before .before in
     let s = b .before in
-    let h = answered (s .args .g) (now (s .args .nodes)) (s .args .latitude) (s .args .longitude) (c .before .p .given .0 .0) (found b ∙ c .before .p .given .1) in
+    let h = parts-found (s .args .g) (now (s .args .nodes)) (s .args .latitude) (s .args .longitude) (c .before .p .given .0 .0) (found b ∙ c .before .p .given .1) in
     (h .parts, ap latitudeRange (rd (s .fits .latitude)) ∙ h .latitude, ap longitudeRange (rd (s .fits .longitude)) ∙ h .longitude)
 
 returns : tie.Need-returns

@@ -9,13 +9,13 @@ use lib.ListN.{set}
 use lib.Seq.{sets}
 use Rattle.rounding.proofs.Machine.{told}
 use Rattle.line.specs.Readers.{readNode}
-use Rattle.line.specs.declared.Parts.{Parts}
-use Rattle.velocity_grid.specs.Text.{valuesOf, three}
+use Rattle.line.specs.declared.VelocityParts.{VelocityParts}
+use Rattle.velocity_grid.specs.Text.{valuesOf, threeNumbers}
 use Rattle.velocity_grid.proofs.text.put_node.Statement.{statement}
 use Rattle.velocity_grid.proofs.text.put_node.Tie as tie
 
 -- three stores, one after the other
-put : (l : List ℤ) (i : ℕ) (p q : Parts) {x y z : ℤ} → x ≡ p .east → y ≡ p .north → z ≡ p .up → p ≡ q → set (set (set l i x) (i + 1) y) (i + 2) z ≡ sets l i (three q)
+put : (l : List ℤ) (i : ℕ) (p q : VelocityParts) {x y z : ℤ} → x ≡ p .east → y ≡ p .north → z ≡ p .up → p ≡ q → set (set (set l i x) (i + 1) y) (i + 2) z ≡ sets l i (threeNumbers q)
 put l i p q ex ey ez e =
     let one : i + 1 ≡ suc i = omega arith in
     let two : i + 2 ≡ suc (suc i) = omega arith in

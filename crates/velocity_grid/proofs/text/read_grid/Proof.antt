@@ -5,7 +5,7 @@ use mathlib.Core.List.{List}
 use Prim.Native.Nat.{ℕ}
 use lib.IntN.{ℤ}
 use lib.Seq.{sets}
-use Rattle.velocity_grid.specs.Text.{gridOf, nodesIn, numbersOf, laid}
+use Rattle.velocity_grid.specs.Text.{gridOf, nodesIn, gridNumbers, roomAfter}
 use Rattle.velocity_grid.specs.declared.GridAnswer.{GridAnswer}
 use Rattle.velocity_grid.specs.declared.GridAnswer.the-variants.{Grid, Refused}
 use Rattle.velocity_grid.proofs.Texts as T
@@ -23,7 +23,7 @@ returns c =
     let r = c .before .before .before in
     let f = c .before .fault .given in
     let e = sym (sym (r .check-grid .ensures) ∙ f .1) in
-    (e, ap (λ (w : GridAnswer). laid w (numbersOf (r .before .before .args .text .now)) (r .before .before .args .nodes .now)) e)
+    (e, ap (λ (w : GridAnswer). roomAfter w (gridNumbers (r .before .before .args .text .now)) (r .before .before .args .nodes .now)) e)
 
 returns-2 : tie.Need-returns-2
 returns-2 c =
@@ -31,7 +31,7 @@ returns-2 c =
     let g = c .before .before .before .before .g .given in
     let a = r .before .before .args in
     let e = sym (r .check-grid .ensures) ∙ g .1 in
-    (sym e, c .fill .ensures ∙ ap (sets (a .nodes .now) 0) (sym (T.numbers-after _ _ (c .before .before .line-end .ensures) (g .0 .0) e)) ∙ ap (λ (w : GridAnswer). laid w (numbersOf (a .text .now)) (a .nodes .now)) (sym e))
+    (sym e, c .fill .ensures ∙ ap (sets (a .nodes .now) 0) (sym (T.numbers-after _ _ (c .before .before .line-end .ensures) (g .0 .0) e)) ∙ ap (λ (w : GridAnswer). roomAfter w (gridNumbers (a .text .now)) (a .nodes .now)) (sym e))
 
 pub read-grid-spec : {M : Type 1} → statement M
 read-grid-spec = tie.close (tie.spec (search needs) (search needs) (search needs) (search needs) fill-requires returns returns-2)

@@ -13,17 +13,17 @@ use Rattle.rounding.proofs.Machine.{told}
 use Rattle.line.specs.Lines.{lines}
 use Rattle.line.specs.declared.GridHeader.{GridHeader}
 use Rattle.velocity_grid.specs.OnGrid.{sizeRange, gridRange, nodesOf}
-use Rattle.velocity_grid.specs.Text.{nodesFault, unlessFault, headed}
+use Rattle.velocity_grid.specs.Text.{nodesFault, unlessGridFault, headed}
 use Rattle.velocity_grid.specs.declared.GridFault.{GridFault}
 use Rattle.velocity_grid.specs.declared.GridAnswer.the-variants.{Grid, Refused}
 use Rattle.velocity_grid.proofs.OnGrid.{header}
 use Rattle.velocity_grid.proofs.text.with_header.Statement.{statement}
 use Rattle.velocity_grid.proofs.text.with_header.Tie as tie
 
-refused : (f : GridFault) (g : GridHeader) → (f .number ≡ 0 → ⊥) → Refused f ≡ unlessFault f g
+refused : (f : GridFault) (g : GridHeader) → (f .number ≡ 0 → ⊥) → Refused f ≡ unlessGridFault f g
 refused f g z = rw (ne-eqb (f .number) 0 z)
 
-given : (f : GridFault) (g : GridHeader) → f .number ≡ 0 → Grid g ≡ unlessFault f g
+given : (f : GridFault) (g : GridHeader) → f .number ≡ 0 → Grid g ≡ unlessGridFault f g
 given f g z = rw (eq-eqb (f .number) 0 z)
 
 returns : tie.Need-returns
@@ -62,14 +62,14 @@ unfolding headed
 returns-2 c =
     let n = c .before .before in
     let g = begun n .args .g in
-    rw (in-range n) (refused (n .nodes-fault .result) g (c .if2 .taken) ∙ ap (λ (f : GridFault). unlessFault f g) (fault-is n))
+    rw (in-range n) (refused (n .nodes-fault .result) g (c .if2 .taken) ∙ ap (λ (f : GridFault). unlessGridFault f g) (fault-is n))
 
 returns-3 : tie.Need-returns-3
 unfolding headed
 returns-3 c =
     let n = c .before .before in
     let g = begun n .args .g in
-    rw (in-range n) (given (n .nodes-fault .result) g (c .if2 .left) ∙ ap (λ (f : GridFault). unlessFault f g) (fault-is n))
+    rw (in-range n) (given (n .nodes-fault .result) g (c .if2 .left) ∙ ap (λ (f : GridFault). unlessGridFault f g) (fault-is n))
 
 pub with-header-spec : {M : Type 1} → statement M
 with-header-spec = tie.close (tie.spec (search needs) returns nodes-requires nodes-fault-requires returns-2 returns-3)

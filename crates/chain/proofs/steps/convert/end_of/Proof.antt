@@ -7,7 +7,7 @@ use lib.ListN.{length, take}
 use Rattle.rounding.proofs.Zn.{k}
 use lib.ListN.{length-map}
 use Rattle.chain.specs.Convert.{endOf}
-use Rattle.chain.proofs.Places.{end-at}
+use Rattle.chain.proofs.AtIndex.{end-at}
 use Rattle.chain.proofs.steps.convert.end_of.Statement.{statement}
 use Rattle.chain.proofs.steps.convert.end_of.Tie as tie
 

@@ -1,4 +1,4 @@
--- `chain::steps::convert::forward_walk` meets its contract. The loop's invariant: what is left to walk from place i on leads where the whole does. Assumes nothing.
+-- `chain::steps::convert::forward_walk` meets its contract. The loop's invariant: what is left to walk from index i on leads where the whole does. Assumes nothing.
 use borrow.Author.Needs.{needs}
 use mathlib.Core.Path.{_≡_, refl, sym, _∙_, ap}
 use mathlib.Core.Bool.{Bool, true, false}
@@ -18,7 +18,7 @@ use Rattle.chain.specs.Faults.{inArea, stepsOf}
 use Rattle.chain.specs.Convert.{Walk, at, onward, arrive, walk, forwardStep, answerOf}
 use Rattle.chain.proofs.Walk.{stays, leaves}
 use Rattle.chain.proofs.Accepted.{Sound, chain-holds}
-use Rattle.chain.proofs.Places.{no-step, walk-from, none-left, sound-at}
+use Rattle.chain.proofs.AtIndex.{no-step, walk-from, none-left, sound-at}
 use Rattle.chain.proofs.steps.convert.forward_walk.Statement.{statement}
 use Rattle.chain.proofs.steps.convert.forward_walk.Tie as tie
 
@@ -62,7 +62,7 @@ forward-step-requires c κs =
 in-area-requires : tie.Need-in-area-requires Inv-loop μ-loop
 in-area-requires c κs = tt
 
--- a turn: the step at place i, then the rest
+-- a turn: the step at index i, then the rest
 module _ (c : tie.After-in-area Inv-loop μ-loop) where
   abbrev s : tie.Start Inv-loop μ-loop
   s = c .before .before .before .before .before .before

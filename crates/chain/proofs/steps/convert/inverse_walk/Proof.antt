@@ -1,4 +1,4 @@
--- `chain::steps::convert::inverse_walk` meets its contract. The loop's invariant: the steps below place i, last first, lead where the whole does. Assumes nothing.
+-- `chain::steps::convert::inverse_walk` meets its contract. The loop's invariant: the steps below index i, last first, lead where the whole does. Assumes nothing.
 use borrow.Author.Needs.{needs}
 use mathlib.Core.Path.{_≡_, refl, sym, _∙_, ap}
 use mathlib.Core.Bool.{Bool, true, false}
@@ -19,7 +19,7 @@ use Rattle.chain.specs.Faults.{inArea, stepsOf}
 use Rattle.chain.specs.Convert.{Walk, at, onward, arrive, walk, inverseStep, answerOf}
 use Rattle.chain.proofs.Walk.{stays, leaves}
 use Rattle.chain.proofs.Accepted.{Sound, chain-holds}
-use Rattle.chain.proofs.Places.{no-step, walk-down, sound-at}
+use Rattle.chain.proofs.AtIndex.{no-step, walk-down, sound-at}
 use Rattle.chain.proofs.steps.convert.inverse_walk.Statement.{statement}
 use Rattle.chain.proofs.steps.convert.inverse_walk.Tie as tie
 
@@ -65,7 +65,7 @@ inverse-step-requires c κs =
 in-area-requires : tie.Need-in-area-requires Inv-loop μ-loop
 in-area-requires c κs = tt
 
--- a turn: the step at place i − 1, then those below it
+-- a turn: the step at index i − 1, then those below it
 module _ (c : tie.After-in-area Inv-loop μ-loop) where
   abbrev s : tie.Start Inv-loop μ-loop
   s = c .before .before .before .before .before .before

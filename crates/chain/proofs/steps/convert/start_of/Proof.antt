@@ -6,7 +6,7 @@ use borrow.Author.Needs.{needs}
 use lib.ListN.{length, take}
 use lib.ListN.{length-map}
 use Rattle.chain.specs.Convert.{startOf}
-use Rattle.chain.proofs.Places.{start-at}
+use Rattle.chain.proofs.AtIndex.{start-at}
 use Rattle.chain.proofs.steps.convert.start_of.Statement.{statement}
 use Rattle.chain.proofs.steps.convert.start_of.Tie as tie
 

@@ -16,7 +16,7 @@ returns c =
     let c11 = c7 .before .before .before .before in
     let z = c11 .before .before .before .args .z in
     let e : toZ w64 (ofZ w64 z) ≡ z = search needs in
-    T.named 22 (T.after (rw e at (c11 .sign .ensures)) (T.after (c6 .mostly-one .ensures) (c2 .put .ensures))) (omega arith) (T.signed z _ _ (rw e at (c7 .size .ensures)))
+    T.named 22 (T.after (rw e at (c11 .sign .ensures)) (T.after (c6 .mostly-one .ensures) (c2 .put .ensures))) (omega arith) (T.sign-then-digits z _ _ (rw e at (c7 .size .ensures)))
 
 pub number-spec : {M : Type 1} → statement M
 number-spec = tie.close (tie.spec (search needs) (search needs) (search needs) (search needs) (search needs) returns)

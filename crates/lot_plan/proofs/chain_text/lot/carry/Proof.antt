@@ -8,7 +8,7 @@ returns : tie.Need-returns
 returns c = rw (sym (c .before .before .before .forward-prepared .ensures) ∙ c .before .number .given .1)
 
 returns-2 : tie.Need-returns-2
-returns-2 c = rw (sym (c .before .before .before .before .forward-prepared .ensures) ∙ c .before .before .converted .given .1) (c .place .ensures)
+returns-2 c = rw (sym (c .before .before .before .before .forward-prepared .ensures) ∙ c .before .before .converted .given .1) (c .lay-from .ensures)
 
 pub carry-spec : {M : Type 1} → statement M
 carry-spec =

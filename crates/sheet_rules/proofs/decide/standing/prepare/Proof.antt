@@ -11,8 +11,8 @@ use lib.ListN.{length, length-map, take}
 use Rattle.ranges.specs.Ranges.{profileRange}
 use Rattle.chain.specs.declared.Step.{Step}
 use Rattle.chain.specs.Prepared as prepared
-use Rattle.chain.proofs.Places.{no-step}
-use Rattle.sheet_rules.specs.OneLine.{Prepares}
+use Rattle.chain.proofs.AtIndex.{no-step}
+use Rattle.sheet_rules.specs.OneLine.{PreparesChain}
 use Rattle.sheet_rules.proofs.Preparing.{no-profile, long-chain, none-prepared, refused-step, next-step, all-prepared}
 use borrow.Author.Needs.{needs}
 use Rattle.sheet_rules.proofs.decide.standing.prepare.Statement.{statement}

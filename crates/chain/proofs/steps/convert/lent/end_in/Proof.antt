@@ -5,14 +5,14 @@ use native.Mathlib.Omega.{arith}
 use borrow.Author.Needs.{needs}
 use lib.ListN.{length, take}
 use Rattle.chain.specs.Convert.{endOf}
-use Rattle.chain.specs.Numbers.{placesFrom}
+use Rattle.chain.specs.Numbers.{eightFrom}
 use Rattle.chain.proofs.LentSteps.{ends-at}
 use Rattle.chain.proofs.steps.convert.lent.end_in.Statement.{statement}
 use Rattle.chain.proofs.steps.convert.lent.end_in.Tie as tie
 
 returns : tie.Need-returns
 unfolding endOf
-returns c = let s = c .before .args in ap (λ (n : ℕ). endOf (s .r) (take n (placesFrom (s .steps .now)))) (sym (c .if1 .taken))
+returns c = let s = c .before .args in ap (λ (n : ℕ). endOf (s .r) (take n (eightFrom (s .steps .now)))) (sym (c .if1 .taken))
 
 returns-2 : tie.Need-returns-2
 returns-2 c =

@@ -1,4 +1,4 @@
--- `chain::steps::convert::lent::forward_walk` meets its contract. The loop's invariant: what is left to walk from place i on leads where the whole does. Assumes nothing.
+-- `chain::steps::convert::lent::forward_walk` meets its contract. The loop's invariant: what is left to walk from index i on leads where the whole does. Assumes nothing.
 use mathlib.Core.Path.{_≡_, refl, sym, _∙_, ap, subst⁻¹}
 use mathlib.Core.Bool.{Bool, true, false}
 use mathlib.Core.List.{List, []}
@@ -12,10 +12,10 @@ use Rattle.chain.specs.declared.Step.{Step}
 use Rattle.chain.specs.declared.Answer.the-variants.{Converted}
 use Rattle.chain.specs.Faults.{inArea, StepOk}
 use Rattle.chain.specs.Convert.{Walk, left, walk, forwardStep, answerOf}
-use Rattle.chain.specs.Numbers.{stepFrom, placesFrom, stepsIn}
+use Rattle.chain.specs.Numbers.{stepFrom, eightFrom, stepsIn}
 use Rattle.chain.proofs.Accepted.{Sound}
-use Rattle.chain.proofs.Places.{no-step, left-there, on-from-there, none-left}
-use Rattle.chain.proofs.LentSteps.{eight-places, step-is, whole, sound-step, lent-holds}
+use Rattle.chain.proofs.AtIndex.{no-step, left-there, on-from-there, none-left}
+use Rattle.chain.proofs.LentSteps.{eight-steps, step-is, whole, sound-step, lent-holds}
 use Rattle.chain.proofs.steps.convert.lent.forward_walk.Statement.{statement}
 use Rattle.chain.proofs.steps.convert.lent.forward_walk.Tie as tie
 
@@ -28,7 +28,7 @@ abbrev μ-loop : tie.MeasureT-loop
 loop-holds : tie.Need-loop-holds Inv-loop μ-loop
 loop-holds c = (omega arith, c .before .pre .1, refl)
 
--- the step at the place that the loop has come to
+-- the step at the index that the loop has come to
 module _ (c : tie.In-loop Inv-loop μ-loop) where
   abbrev start : tie.Start Inv-loop μ-loop
   start = c .before .before .before
@@ -51,8 +51,8 @@ module _ (c : tie.In-loop Inv-loop μ-loop) where
   below : i < length ns / 13
   below = c .loop-test .taken
 
-  inside : i < length (placesFrom ns)
-  inside = omega (arith, below, holds .0, eight-places ns)
+  inside : i < length (eightFrom ns)
+  inside = omega (arith, below, holds .0, eight-steps ns)
 
 step-at-requires : tie.Need-step-at-requires Inv-loop μ-loop
 step-at-requires c κs = whole (ns c) (holds c .0) (i c) (below c)
@@ -67,17 +67,17 @@ module _ (c : tie.After-in-area Inv-loop μ-loop) where
   abbrev l : tie.In-loop Inv-loop μ-loop
   l = c .before .before .before
 
-  is-next : c .before .forward-step .result ≡ forwardStep (getD (placesFrom (ns l)) (i l) no-step) (at l .loop .p)
+  is-next : c .before .forward-step .result ≡ forwardStep (getD (eightFrom (ns l)) (i l) no-step) (at l .loop .p)
   is-next = c .before .forward-step .ensures ∙ ap (λ (s : Step). forwardStep s (at l .loop .p)) (c .before .before .step-at .ensures ∙ sym (step-is (ns l) (holds l .0) (i l) (below l)))
 
   area : (b : Bool) → c .in-area .result ≡ b → inArea (c .before .forward-step .result) ≡ b
   area b e = sym (c .in-area .ensures) ∙ e
 
   gone : inArea (c .before .forward-step .result) ≡ false → left ≡ walked l
-  gone = left-there (placesFrom (ns l)) (length (ns l) / 13) (i l) (below l) (inside l) forwardStep (at l .loop .p) (c .before .forward-step .result) (walked l) (at l .loop .inv .2) is-next
+  gone = left-there (eightFrom (ns l)) (length (ns l) / 13) (i l) (below l) (inside l) forwardStep (at l .loop .p) (c .before .forward-step .result) (walked l) (at l .loop .inv .2) is-next
 
   onward : inArea (c .before .forward-step .result) ≡ true → walk forwardStep (drop (i l + 1) (stepsIn (ns l))) (c .before .forward-step .result) ≡ walked l
-  onward = on-from-there (placesFrom (ns l)) (length (ns l) / 13) (i l) (below l) (inside l) forwardStep (at l .loop .p) (c .before .forward-step .result) (walked l) (at l .loop .inv .2) is-next
+  onward = on-from-there (eightFrom (ns l)) (length (ns l) / 13) (i l) (below l) (inside l) forwardStep (at l .loop .p) (c .before .forward-step .result) (walked l) (at l .loop .inv .2) is-next
 
 returns : tie.Need-returns Inv-loop μ-loop
 unfolding answerOf
@@ -96,7 +96,7 @@ returns-2 c =
     let at = c .before .before .loop in
     let ns = s .args .steps .now in
     let last : at .i ≡ length ns / 13 = omega (arith, c .before .loop-test .left) in
-    let none : drop (at .i) (stepsIn ns) ≡ [] = ap (λ (k : ℕ). drop k (stepsIn ns)) last ∙ none-left (placesFrom ns) (length ns / 13) in
+    let none : drop (at .i) (stepsIn ns) ≡ [] = ap (λ (k : ℕ). drop k (stepsIn ns)) last ∙ none-left (eightFrom ns) (length ns / 13) in
     ap Converted (c .moved-to .ensures) ∙ ap (answerOf (s .args .point) (s .args .reached)) (ap (λ (ss : List Step). walk forwardStep ss (at .p)) (sym none) ∙ at .inv .2)
 
 pub forward-walk-spec : {M : Type 1} → statement M

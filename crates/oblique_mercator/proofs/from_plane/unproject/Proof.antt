@@ -1,4 +1,4 @@
--- `oblique_mercator::from_plane::place` meets its contract: the gate decides, and then the result. Assumes nothing.
+-- `oblique_mercator::from_plane::unproject` meets its contract: the gate decides, and then the result. Assumes nothing.
 use borrow.Author.Needs.{needs}
 use mathlib.Core.Path.{_≡_, sym, ap, ap₂, _∙_}
 use borrow.Author.Tests.{not-true, not-false}
@@ -6,8 +6,8 @@ use mir.Syntax.{w64}
 use mir.Val.{SFits, toZ, ofZ}
 use mir.ValLaws.{toZ-ofZ}
 use Rattle.oblique_mercator.specs.Reverse.{turnedOf, gateOf, foundOf, inUnits, reverseAt}
-use Rattle.oblique_mercator.proofs.from_plane.place.Statement.{statement}
-use Rattle.oblique_mercator.proofs.from_plane.place.Tie as tie
+use Rattle.oblique_mercator.proofs.from_plane.unproject.Statement.{statement}
+use Rattle.oblique_mercator.proofs.from_plane.unproject.Tie as tie
 
 returns : tie.Need-returns
 unfolding reverseAt
@@ -30,5 +30,5 @@ returns-2 c =
     let i : toZ w64 (ofZ w64 (a .args .p .centre)) ≡ a .args .p .centre = toZ-ofZ w64 (a .args .p .centre) f in
     rw e (cc (c .in-units .ensures, c .before .before .find .ensures, c .before .before .before .before .before .turn .ensures))
 
-pub place-spec : {M : Type 1} → statement M
-place-spec = tie.close (tie.spec (search needs) (search needs) returns (search needs) in-units-requires returns-2)
+pub unproject-spec : {M : Type 1} → statement M
+unproject-spec = tie.close (tie.spec (search needs) (search needs) returns (search needs) in-units-requires returns-2)

@@ -1,4 +1,4 @@
--- `oblique_mercator::to_plane::place` meets its contract: the numbers are f64s exactly. Assumes nothing.
+-- `oblique_mercator::to_plane::project` meets its contract: the numbers are f64s exactly. Assumes nothing.
 use borrow.Author.Needs.{needs}
 use mathlib.Core.Path.{_≡_, sym, ap₂, subst}
 use lib.Dec.{T}
@@ -13,8 +13,8 @@ use Rattle.angle.proofs.Tests.{read-back}
 use Rattle.angle.proofs.Wholes.{natural-upto, in-float}
 use Rattle.oblique_mercator.specs.Forward.{planeAt}
 use Rattle.oblique_mercator.proofs.Wholes.{floats, apart, apart-fits}
-use Rattle.oblique_mercator.proofs.to_plane.place.Statement.{statement}
-use Rattle.oblique_mercator.proofs.to_plane.place.Tie as tie
+use Rattle.oblique_mercator.proofs.to_plane.project.Statement.{statement}
+use Rattle.oblique_mercator.proofs.to_plane.project.Tie as tie
 
 module _ (c : tie.Start) where
   latitude : T (inFloat binary64 (c .args .latitude))
@@ -58,5 +58,5 @@ returns c =
     let w : toZ w64 (ofZ w64 (difference a)) ≡ difference a = toZ-ofZ w64 (difference a) (difference-fits a) in
     cc (radians-is (a .args .latitude), radians-is (difference a))
 
-pub place-spec : {M : Type 1} → statement M
-place-spec = tie.close (tie.spec int-to-float-radians (search needs) sub-radians int-to-float-radians-2 (search needs) (search needs) returns)
+pub project-spec : {M : Type 1} → statement M
+project-spec = tie.close (tie.spec int-to-float-radians (search needs) sub-radians int-to-float-radians-2 (search needs) (search needs) returns)

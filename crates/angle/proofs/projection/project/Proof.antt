@@ -1,4 +1,4 @@
--- `angle::projection::place` meets its contract: with what the ellipsoid and the latitude decide, the formulas are the printed ones. Assumes nothing.
+-- `angle::projection::project` meets its contract: with what the ellipsoid and the latitude decide, the formulas are the printed ones. Assumes nothing.
 use borrow.Author.Needs.{needs}
 use mathlib.Core.Path.{ap, ap₂, _∙_}
 use lib.IntN.{ℤ, _-ℤ_}
@@ -8,8 +8,8 @@ use mir.ValLaws.{toZ-ofZ}
 use Rattle.angle.specs.Units.{radians}
 use Rattle.angle.specs.Terms.{parallelOf}
 use Rattle.angle.proofs.Arcs.{at-is}
-use Rattle.angle.proofs.projection.place.Statement.{statement}
-use Rattle.angle.proofs.projection.place.Tie as tie
+use Rattle.angle.proofs.projection.project.Statement.{statement}
+use Rattle.angle.proofs.projection.project.Tie as tie
 
 parallel-at-requires : tie.Need-parallel-at-requires
 parallel-at-requires c κs =
@@ -42,7 +42,7 @@ returns c =
     (c .before .before .before .meridian-arc .ensures)
     (c .before .apart-radians .ensures ∙ ap₂ (λ (x y : ℤ). radians (x -ℤ y)) (toZ-ofZ w64 lon (a .fits .longitude)) (toZ-ofZ w64 (o .longitude) f))
 
-pub place-spec : {M : Type 1} → statement M
-place-spec =
+pub project-spec : {M : Type 1} → statement M
+project-spec =
     tie.close
     (tie.spec (search needs) parallel-at-requires meridian-arc-requires apart-radians-requires lay-requires returns)

@@ -1,4 +1,4 @@
--- `lot_plan::chain_text::lot::place` meets its contract. Assumes nothing.
+-- `lot_plan::chain_text::lot::lay_from` meets its contract. Assumes nothing.
 use mathlib.Core.Path.{_≡_, sym, _∙_}
 use mir.Syntax.{w64}
 use mir.Val.{toZ, ofZ}
@@ -6,8 +6,8 @@ use Rattle.angle.specs.declared.GeodeticUnits.{GeodeticUnits}
 use Rattle.angle.specs.Geodetic.{geodeticUnitsOf}
 use Rattle.chain.specs.declared.Position.{Position}
 use borrow.Author.Needs.{needs}
-use Rattle.lot_plan.proofs.chain_text.lot.place.Statement.{statement}
-use Rattle.lot_plan.proofs.chain_text.lot.place.Tie as tie
+use Rattle.lot_plan.proofs.chain_text.lot.lay_from.Statement.{statement}
+use Rattle.lot_plan.proofs.chain_text.lot.lay_from.Tie as tie
 
 -- the ellipsoid and the position, as the machine reads them
 module _ (s : tie.Start) where
@@ -43,7 +43,7 @@ returns-2 c =
     let longitude : toZ w64 (ofZ w64 (g .0 .1 .0)) ≡ g .0 .1 .0 = search needs in
     rw (said (c .before .before .before .before) ∙ g .1) (rw (latitude, longitude) at (c .lay .ensures))
 
-pub place-spec : {M : Type 1} → statement M
-place-spec =
+pub lay-from-spec : {M : Type 1} → statement M
+lay-from-spec =
     tie.close
     (tie.spec (λ c κs. search needs) (λ c. search needs) (λ c. search needs) (λ c κs. search needs) returns returns-2)

@@ -1,10 +1,10 @@
--- `chain::steps::convert::join::place` meets its contract. Assumes nothing.
+-- `chain::steps::convert::join::joined_step` meets its contract. Assumes nothing.
 use mathlib.Core.Path.{_≡_, sym, _∙_}
 use borrow.Author.Needs.{needs}
 use lib.ListN.{length, length-map}
 use Rattle.chain.proofs.Joins.{in-first, in-second, in-neither}
-use Rattle.chain.proofs.steps.convert.join.place.Statement.{statement}
-use Rattle.chain.proofs.steps.convert.join.place.Tie as tie
+use Rattle.chain.proofs.steps.convert.join.joined_step.Statement.{statement}
+use Rattle.chain.proofs.steps.convert.join.joined_step.Tie as tie
 
 long-first : (s : tie.Start) → length (s .args .t1 .steps) ≡ 8
 long-first s = sym (length-map (s .args .t1 .steps) _) ∙ s .good .0 .1 .1 .0 .1 .0 .1
@@ -27,7 +27,7 @@ returns-3 c =
     let s = c .before .before .before in
     in-neither (s .args .t1) (s .args .t2) (long-first s) (long-second s) (s .pre .0) (s .args .index) (c .before .before .if1 .left) (c .before .if2 .left)
 
-pub place-spec : {M : Type 1} → statement M
-place-spec =
+pub joined-step-spec : {M : Type 1} → statement M
+joined-step-spec =
     tie.close
     (tie.spec (search needs) (search needs) returns (search needs) (search needs) returns-2 (search needs) (search needs) returns-3)

@@ -1,4 +1,4 @@
--- `angle::projection::place_once` meets its contract: the origin and its ellipsoid's terms are those that `make_origin` and `place` work out. Assumes nothing.
+-- `angle::projection::project_once` meets its contract: the origin and its ellipsoid's terms are those that `make_origin` and `project` work out. Assumes nothing.
 use borrow.Author.Needs.{needs}
 use mathlib.Core.Path.{_≡_, sym, ap, ap₂, _∙_}
 use lib.IntN.{ℤ, _-ℤ_}
@@ -12,8 +12,8 @@ use Rattle.angle.specs.Cassini.{originMade, cassiniAt}
 use Rattle.angle.specs.declared.Origin.{Origin}
 use Rattle.angle.proofs.Arcs.{at-is}
 use Rattle.angle.proofs.NoFault.{origin-latitude}
-use Rattle.angle.proofs.projection.place_once.Statement.{statement}
-use Rattle.angle.proofs.projection.place_once.Tie as tie
+use Rattle.angle.proofs.projection.project_once.Statement.{statement}
+use Rattle.angle.proofs.projection.project_once.Tie as tie
 
 -- the origin's longitude is an i64
 held : (c : tie.Start) → SFits w64 (c .args .o .longitude)
@@ -79,7 +79,7 @@ returns c =
     (toZ-ofZ w64 (o .longitude) (held a) ∙ sym (ap (λ (q : Origin). q .longitude) (e .made .ensures))))
     ∙ ap (λ (q : Origin). cassiniAt q lat lon) (e .made .ensures)
 
-pub place-once-spec : {M : Type 1} → statement M
-place-once-spec =
+pub project-once-spec : {M : Type 1} → statement M
+project-once-spec =
     tie.close
     (tie.spec origin-arc-requires made-requires (search needs) parallel-at-requires meridian-arc-requires apart-radians-requires lay-requires returns)

@@ -1,4 +1,4 @@
--- `angle::projection::point_fault` meets its contract: each return has the tests that led there. Assumes nothing.
+-- `angle::projection::meridian_fault` meets its contract: each return has the tests that led there. Assumes nothing.
 use borrow.Author.Needs.{needs}
 use borrow.Author.Tests.{not-true, not-false}
 use mathlib.Core.Path.{_≡_, sym, ap, ap₂, _∙_, subst}
@@ -17,8 +17,8 @@ use Rattle.angle.specs.Ranges.{nearby, angleTests, anglesFault}
 use Rattle.refusal.proofs.Orders.{Passed, passed, stop, on}
 use Rattle.ranges.proofs.Ranges.{Natural, natural}
 use Rattle.angle.proofs.Wholes.{fits, sub-pos, apart-is}
-use Rattle.angle.proofs.projection.point_fault.Statement.{statement}
-use Rattle.angle.proofs.projection.point_fault.Tie as tie
+use Rattle.angle.proofs.projection.meridian_fault.Statement.{statement}
+use Rattle.angle.proofs.projection.meridian_fault.Tie as tie
 
 angles : (c : tie.After-angles-fault) → c .angles-fault .result ≡ first (angleTests (c .before .args .latitude) (c .before .args .longitude))
 unfolding anglesFault
@@ -100,6 +100,6 @@ returns-3 c =
     let p = passed-angles (c .before .before) in
     sym (on (ahead d) (after d) p ∙ ap (λ (t : Bool). first ((not t gives numbers.apart) ∷ [])) (apart (c .before) true (not-false _ (c .if2 .left))))
 
-pub point-fault-spec : {M : Type 1} → statement M
-point-fault-spec =
+pub meridian-fault-spec : {M : Type 1} → statement M
+meridian-fault-spec =
     tie.close (tie.spec (search needs) returns sub-within add-within (search needs) returns-2 returns-3)

@@ -1,4 +1,4 @@
--- The steps of a chain by their places: what is left to examine or to walk from a place on. Assumes nothing.
+-- The steps of a chain by their index: what is left to examine or to walk from an index on. Assumes nothing.
 use mathlib.Core.Path.{_≡_, refl, sym, _∙_, ap}
 use mathlib.Core.Bool.{true, false}
 use mathlib.Core.List.{List, [], _∷_, _++_, reverse, reverse-append}
@@ -14,15 +14,15 @@ use Rattle.chain.specs.declared.Position.{Position}
 use Rattle.chain.specs.declared.Realization.{Realization}
 use Rattle.chain.specs.declared.Step.{Step}
 use Rattle.chain.specs.Faults.{inArea, StepOk, stepTests, joinTest, laterTests, stepsTests}
-use Rattle.chain.specs.Join.{noStep}
+use Rattle.chain.specs.Join.{pastSteps}
 use Rattle.chain.specs.Convert.{Walk, left, onward, arrive, walk, startOf, endOf}
 use Rattle.refusal.proofs.Orders.{orElse, first-append}
 use Rattle.chain.proofs.Walk.{stays, leaves}
 use Rattle.chain.proofs.Accepted.{Sound}
 
--- what a place past the end reads as
+-- what an index past the end reads as
 abbrev pub no-step : Step
-no-step = noStep
+no-step = pastSteps
 
 -- a step that follows another: its tests and the join, then the rest
 pub later-first : (y : ℤ) (s t : Step) (ts : List Step) → first (laterTests y s (t ∷ ts)) ≡ orElse (first (stepTests y t ++ (joinTest s t ∷ []))) (first (laterTests y t ts))
@@ -32,7 +32,7 @@ module _ (l : List Step) (n i : ℕ) (below : i < n) (inside : i < length l) whe
   abbrev here : Step
   here = getD l i no-step
 
-  -- the steps from place i on, below n
+  -- the steps from index i on, below n
   pub from : drop i (take n l) ≡ here ∷ drop (i + 1) (take n l)
   from =
       let long : i < length (take n l) = simp length-take (omega arith) in
@@ -47,7 +47,7 @@ module _ (l : List Step) (n i : ℕ) (below : i < n) (inside : i < length l) whe
   unfolding walk
   walk-from f p = ap (λ (ss : List Step). walk f ss p) from
 
-  -- a turn of a walk: what is left from place i on leads to w, and so does what is left after it
+  -- a turn of a walk: what is left from index i on leads to w, and so does what is left after it
   module _ (f : Step → Position → Position) (p q : Position) (w : Walk) (rest : walk f (drop i (take n l)) p ≡ w) (is : q ≡ f here p) where
     stepped : onward (arrive q) (walk f (drop (i + 1) (take n l))) ≡ w
     stepped = ap (λ (x : Position). onward (arrive x) (walk f (drop (i + 1) (take n l)))) is ∙ sym (walk-from f p) ∙ rest
@@ -64,7 +64,7 @@ none-left l zero = refl
 none-left [] (suc n) = refl
 none-left (x ∷ xs) (suc n) = none-left xs n
 
--- from the last place of i + 1 steps down
+-- from the last of i + 1 steps down
 pub walk-down : (l : List Step) (i : ℕ) (f : Step → Position → Position) (p : Position) → i < length l → walk f (reverse (take (i + 1) l)) p ≡ onward (arrive (f (getD l i no-step) p)) (walk f (reverse (take i l)))
 unfolding walk
 walk-down l i f p h =

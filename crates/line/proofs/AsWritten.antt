@@ -20,7 +20,7 @@ use Rattle.line.specs.Forms.{pointForm}
 use Rattle.line.specs.declared.Fault.{Fault}
 use Rattle.line.specs.Malformed.{pointShape, faultOf}
 use Rattle.line.specs.Number.{isDigit, digits, plain, positive, negative, numberOf}
-use Rattle.line.specs.Readers.{judged, readAs, readPoint, placeOf, datumPlace}
+use Rattle.line.specs.Readers.{judged, readAs, readPoint, placeOf, datumPlace, placedPoint}
 use Rattle.line.specs.Text.{decimal, integer, nameText, lineText, labelText, pointText}
 use Rattle.line.proofs.Capped.{never}
 use Rattle.line.proofs.Texts as T
@@ -223,3 +223,12 @@ point-text y line p e = point-said-text line p (said-point y line p e)
 pub point-place : (y : ℤ) (line : List ℕ) (p : Point) → readPoint y line ≡ P.Point p → datumPlace line ≡ length (labelText (p .label))
 unfolding datumPlace
 point-place y line p e = rw (said-point y line p e)
+
+-- what is told of a line with its place
+pub placed-line : (y : ℤ) (line : List ℕ) → placedPoint y line .line ≡ readPoint y line
+unfolding placedPoint
+placed-line y line = refl
+
+pub placed-place : (y : ℤ) (line : List ℕ) → placedPoint y line .place ≡ datumPlace line
+unfolding placedPoint
+placed-place y line = refl

@@ -26,9 +26,10 @@ returns c = λ s h. let q : s .refused ≡ true = sym (h .refused) ∙ c .before
 
 returns-2 : tie.Need-returns-2
 returns-2 c = λ s h.
-    let a = c .before .before .before .before .before .before .before .before .before .before in
-    let q : s .refused ≡ false = sym (h .refused) ∙ c .before .before .before .before .before .before .before .before .if1 .left in
-    let e = answered h (a .args .point) (a .pre .1) (c .before .before .before .before .before .before .before .forward-prepared .ensures) (c .before .before .before .before .before .number .given .1) in
+    let c8 = c .before .before .before .before .before .before .before .before in
+    let a = c8 .before .before .before in
+    let q : s .refused ≡ false = sym (h .refused) ∙ c8 .if1 .left in
+    let e = answered h (a .args .point) (point-sound _ _ _ (a .pre .1)) (c .before .before .before .before .before .before .before .forward-prepared .ensures) (c .before .before .before .before .before .number .given .1) in
     rw (q, e) (shown (gave-refusal h _ _ _ _ refl (sym (or-true (s .closed))) _ _ _ refl) (c .before .before .print-refusal2 .ensures))
 
 -- a conversion keeps the label, which stands in the line as it is written
@@ -40,14 +41,17 @@ relabel {r} {q} l y p line read e f {before} {after} {at} {past} w =
 
 returns-3 : tie.Need-returns-3
 returns-3 c = λ s h.
-    let a = c .before .before .before .before .before .before .before .before .before .before .before .before .before .before in
-    let q : s .refused ≡ false = sym (h .refused) ∙ c .before .before .before .before .before .before .before .before .before .before .before .before .if1 .left in
-    let f = c .before .before .before .before .before .before .before .before .before .before .before .forward-prepared .ensures in
-    let g = c .before .before .before .before .before .before .before .before .before .converted .given .1 in
-    let e = answered h (a .args .point) (a .pre .1) f g in
+    let c3 = c .before .before .before in
+    let c8 = c3 .before .before .before .before .before in
+    let c11 = c8 .before .before .before in
+    let a = c11 .before .before .before in
+    let q : s .refused ≡ false = sym (h .refused) ∙ c11 .if1 .left in
+    let f = c8 .before .before .forward-prepared .ensures in
+    let g = c8 .converted .given .1 in
+    let e = answered h (a .args .point) (point-sound _ _ _ (a .pre .1)) f g in
     rw (q, e)
     (shown (gave-point h _ _ _ _ refl (sym (or-true (s .closed))) _ (record { reply = reply.Point _; state = _ }) refl (c .after .ensures))
-    (relabel (a .args .numbers .now) (a .args .point) f g (c .before .before .before .write-labelled .ensures), refl))
+    (relabel (a .args .numbers .now) (a .args .state .profile) (a .args .point) (a .args .text .now) (a .pre .1) f g (rw (a .pre .2) at (c3 .write-moved .ensures)), refl))
 
 pub print-converted-spec : {M : Type 1} → statement M
 print-converted-spec =

@@ -69,7 +69,7 @@ module _ {A R : Type 0} (faultOf : A → ℕ) (good : A → R) (refused : ℕ �
   judge-some a n e z = ap refused e ∙ sym (judged-some a (λ q. z (e ∙ q)))
 
   module _ {carried : A → A} (careful : Careful faultOf carried) where
-    judged-same : (a : A) → judged faultOf good refused (carried a) ≡ judged faultOf good refused a
+    pub judged-same : (a : A) → judged faultOf good refused (carried a) ≡ judged faultOf good refused a
     judged-same a = go (ℕ-discrete (faultOf a) 0)
       where
         go : Dec (faultOf a ≡ 0) → judged faultOf good refused (carried a) ≡ judged faultOf good refused a

@@ -25,3 +25,6 @@ pub mod Counted
 pub mod Words
 pub mod Unread
 pub mod InARow
+pub mod AsWritten
+pub mod Places
+pub mod Moved

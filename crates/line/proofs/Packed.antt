@@ -174,7 +174,7 @@ over-all (t ∷ ts) (w ∷ ws) l i h =
     (ap (λ (m : List ℕ). set m i w) (over-set ts l i (suc i) t (omega arith)) ∙ set-set (sets l (suc i) ts) i t w ∙ sym (over-set ts l i (suc i) w (omega arith)))
     ∙ over-all ts ws (set l i w) (suc i) (omega arith)
 
-over : (vs ts ws l : List ℕ) (at : ℕ) → length ts ≤ length ws → sets (sets l at (vs ++ ts)) (at + length vs) ws ≡ sets l at (vs ++ ws)
+pub over : (vs ts ws l : List ℕ) (at : ℕ) → length ts ≤ length ws → sets (sets l at (vs ++ ts)) (at + length vs) ws ≡ sets l at (vs ++ ws)
 over vs ts ws l at h =
     ap (λ (m : List ℕ). sets m (at + length vs) ws) (T.sets-append vs ts l at)
     ∙ over-all ts ws (sets l at vs) (at + length vs) h

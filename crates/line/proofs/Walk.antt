@@ -17,7 +17,7 @@ pub from-past : (s : List ℕ) (at : ℕ) → length s < at → from s at ≡ []
 unfolding from
 from-past s at h = rw (lt-leb at (length s) h)
 
-from-here : (s : List ℕ) (at : ℕ) → at ≤ length s → from s at ≡ fields (drop at s)
+pub from-here : (s : List ℕ) (at : ℕ) → at ≤ length s → from s at ≡ fields (drop at s)
 unfolding from
 from-here s at h = rw (le-leb at (length s) h)
 

@@ -121,3 +121,16 @@ name-back id n = go (leb 1 (length f)) (leb (length f) 16) (allNameBytes f) refl
     go true true false b c e = cc
     go true false v b c e = cc
     go false u v b c e = cc
+
+-- and a field that is read as a name is that name as it is written
+pub name-text : (f : List ℕ) (id : Id) → nameOf f ≡ some id → nameText id ≡ f
+unfolding nameOf
+name-text f id = go (leb 1 (length f)) (leb (length f) 16) (allNameBytes f) refl refl
+  where
+    go : (t u v : Bool) → leb (length f) 16 ≡ u → allNameBytes f ≡ v → pick t (pick u (pick v (some (packed f)) none) none) none ≡ some id → nameText id ≡ f
+    go true true true b c e =
+        let i : packed f ≡ id = cc in
+        rw (← i) (packed-back f (leb-true (length f) 16 b) c)
+    go true true false b c e = cc
+    go true false v b c e = cc
+    go false u v b c e = cc

@@ -11,7 +11,9 @@ use Rattle.refusal.specs.Order.{pick}
 use Rattle.chain.specs.Faults.{pointFault, stepFault}
 use Rattle.angle.specs.Ranges.{originFault, anglesFault}
 use Rattle.line.specs.declared.Fault.{Fault}
+use Rattle.chain.specs.declared.Point.{Point}
 use Rattle.line.specs.declared.PointLine.{PointLine}
+use Rattle.line.specs.declared.PlacedLine.{PlacedLine}
 use Rattle.line.specs.declared.PointLine.the-variants as P
 use Rattle.line.specs.declared.StepLine.{StepLine}
 use Rattle.line.specs.declared.StepLine.the-variants as S
@@ -33,6 +35,7 @@ use Rattle.line.specs.Fields.{said}
 use Rattle.line.specs.Forms.{pointForm, stepForm, originForm, geodeticForm, editionForm, gridForm, nodeForm}
 use Rattle.line.specs.Malformed.{pointShape, stepShape, originShape, geodeticShape, editionShape, gridShape, nodeShape, unknownShape, faultOf}
 use Rattle.line.specs.Reading.{cappedZ, cappedHeader, cappedParts}
+use Rattle.line.specs.Text.{labelText}
 
 -- a line whose first letter its program does not know
 abbrev pub strangeFault : List ℕ → Fault
@@ -50,6 +53,17 @@ readAs wrong good refused malformed (some a) = judged wrong good refused a
 -- under a profile: 18 to 22, 2, 3, 25
 unfoldable pub readPoint : ℤ → List ℕ → PointLine
 readPoint y line = readAs (pointFault y) P.Point P.Refused (P.Malformed (faultOf pointShape line)) (said pointForm line)
+
+-- where the datum of a point begins in its line: after the label, as it is written
+abbrev pub placeOf : Option Point → ℕ
+placeOf none = 0
+placeOf (some p) = length (labelText (p .label))
+
+unfoldable pub datumPlace : List ℕ → ℕ
+datumPlace line = placeOf (said pointForm line)
+
+unfoldable pub placedPoint : ℤ → List ℕ → PlacedLine
+placedPoint y line = record { line = readPoint y line; place = datumPlace line }
 
 -- under a profile: 18 to 22, 2, 3, 25, 4
 unfoldable pub readStep : ℤ → List ℕ → StepLine

@@ -21,6 +21,7 @@ use Rattle.line.specs.Fields.{fields, front, head, Form, filled}
 use Rattle.line.specs.Name.{word, allNameBytes, isNameByte}
 use Rattle.line.specs.Bytes.{tab, zeroByte, nineByte}
 use Rattle.line.specs.Number.{digits}
+use Rattle.line.specs.Text.{labelText}
 
 -- the fields of s from place `at` on; none past the end
 unfoldable pub from : List ℕ → ℕ → List (List ℕ)
@@ -158,6 +159,10 @@ pub record Packed (s : List ℕ) (at v next : ℕ) : Type 0 where
 -- ---- records with their numbers as they are carried
 abbrev pub cappedPoint : Point → Point
 cappedPoint = carriedPoint cappedZ
+
+-- a point, and how long its label is written: its datum begins there
+abbrev pub cappedPlaced : Point → Point × ℕ
+cappedPlaced p = (cappedPoint p, length (labelText (p .label)))
 
 abbrev pub cappedKind : Kind → Kind
 cappedKind = carriedKind cappedZ

@@ -65,6 +65,18 @@ pointText p =
     ∷ integer (p .position .z)
     ∷ [])
 
+-- what stands before the datum on a point's line: P, id, issue, order, each with the tab after it
+unfoldable pub labelText : Label → List ℕ
+labelText l =
+    (letterP ∷ tab ∷ [])
+    ++ ((nameText (l .id) ++ (tab ∷ []))
+    ++ ((integer (l .issue) ++ (tab ∷ []))
+    ++ (integer (l .order) ++ (tab ∷ []))))
+
+-- from the datum on: datum, epoch, X, Y, Z
+unfoldable pub movedText : Realization → Position → List ℕ
+movedText r p = lineText (integer (r .datum) ∷ integer (r .epoch) ∷ integer (p .x) ∷ integer (p .y) ∷ integer (p .z) ∷ [])
+
 -- C, id, E, N
 unfoldable pub projectedText : Id → ℤ → ℤ → List ℕ
 projectedText id e n = lineText ((letterC ∷ []) ∷ nameText id ∷ integer e ∷ integer n ∷ [])
@@ -151,3 +163,9 @@ pub record Begun (l : List ℕ) (at : ℕ) (vs m : List ℕ) (r : ℕ) : Type 0 
   pub most : length vs ≤ 4
   pub size : length m ≡ length l
   pub on : (ws : List ℕ) → 3 ≤ length ws → sets m r ws ≡ sets l at (vs ++ ws)
+
+-- 32 bytes of a line can stand for those before a place: there are so many, and what follows takes away what is too much
+pub record Copied (line : List ℕ) (place : ℕ) (p : Position) : Type 0 where
+  pub enough : 32 ≤ length line
+  pub few : place ≤ 32
+  pub long : (r : Realization) → 32 ≤ length (movedText r p)

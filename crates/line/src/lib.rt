@@ -30,11 +30,12 @@ pub use grid_line::read_grid_header;
 pub use node_line::read_node;
 pub use origin_line::read_origin;
 pub use other_line::strange;
+pub use point_line::read_placed;
 pub use point_line::read_point;
 pub use step_line::read_step;
 pub use write::feeds::write_feeds;
 pub use write::lot::write_lot;
-pub use write::write_labelled;
+pub use write::write_moved;
 pub use write::write_point;
 pub use write::write_projected;
 pub use write::write_refusal;
@@ -60,6 +61,13 @@ pub enum PointLine {
     Point(chain::Point),
     Malformed(Fault),
     Refused(u8),
+}
+
+// P: a point line as it is read, and the place in it where the datum begins: what stands before it is the point's label, as it is written. The place is 0 where the
+// line is malformed.
+pub struct PlacedLine {
+    pub line: PointLine,
+    pub place: usize,
 }
 
 // S: a step of a chain.

@@ -88,7 +88,7 @@ fn other_four(s: &[u8], at: usize) -> bool
 }
 
 // Eight bytes as one number, the first lowest: one load in the compiled code.
-fn word(s: &[u8], at: usize) -> u64
+pub(crate) fn word(s: &[u8], at: usize) -> u64
     requires { ⌜ at + 8 ≤ length (now s) ⌝ }
     ensures { λ r. ⌜ Word (now (s .entry)) at r ⌝ }
 {

@@ -1,4 +1,5 @@
 // P, id, issue, order, datum, epoch, X, Y, Z.
+use crate::PlacedLine;
 use crate::PointLine;
 use crate::field::body_end;
 use crate::field::letter;
@@ -10,19 +11,20 @@ use crate::number::number;
 use crate::second_look::fault_of;
 ghost use mathlib.Core.Path.{_≡_};
 ghost use Rattle.line.specs.Forms.{pointForm};
-ghost use Rattle.line.specs.Readers.{readPoint, judged};
-ghost use Rattle.line.specs.Reading.{Told, cappedPoint};
+ghost use Rattle.line.specs.Readers.{readPoint, placedPoint, judged};
+ghost use Rattle.line.specs.Reading.{Told, cappedPlaced};
 ghost use Rattle.chain.specs.Faults.{pointFault};
 
-// A point as its fields say it, with numbers up to the cap, and where the field after them would begin.
+// A point as its fields say it, with numbers up to the cap, where its datum begins, and where the field after them would begin.
 struct PointFields {
     point: chain::Point,
+    place: usize,
     next: usize,
 }
 
 // The fields of a point line.
 fn point_fields(s: &[u8]) -> PointFields
-    ensures { λ r. ⌜ Told (now (s .entry)) cappedPoint pointForm 0 (r .point) (r .next) ⌝ }
+    ensures { λ r. ⌜ Told (now (s .entry)) cappedPlaced pointForm 0 (r .point, r .place) (r .next) ⌝ }
 {
     let at = letter(s, 0, b'P');
     let named = name(s, at);
@@ -51,6 +53,7 @@ fn point_fields(s: &[u8]) -> PointFields
                 z: z.value,
             },
         },
+        place: order.next,
         next: z.next,
     }
 }
@@ -66,9 +69,9 @@ fn judge_point(profile: i64, p: chain::Point) -> PointLine
     }
 }
 
-// A point line under a profile (2009 or 2021): its point; malformed (LENGTH, LETTER, COUNT, ID, PLAIN); or RANGE, EPOCH, PROFILE.
-pub fn read_point(profile: i64, line: &[u8]) -> PointLine
-    ensures { λ r. ⌜ r ≡ readPoint profile (now (line .entry)) ⌝ }
+// A point line under a profile (2009 or 2021), as `read_point` reads it, and where its datum begins.
+pub fn read_placed(profile: i64, line: &[u8]) -> PlacedLine
+    ensures { λ r. ⌜ r ≡ placedPoint profile (now (line .entry)) ⌝ }
 {
     let end = body_end(line);
     if end < line.len() {
@@ -76,9 +79,23 @@ pub fn read_point(profile: i64, line: &[u8]) -> PointLine
         let r = point_fields(s);
         if r.next == end + 1 {
             let p = r.point;
-            return judge_point(profile, p);
+            return PlacedLine {
+                line: judge_point(profile, p),
+                place: r.place,
+            };
         }
     }
     let fault = fault_of(line, b'P');
-    PointLine::Malformed(fault)
+    PlacedLine {
+        line: PointLine::Malformed(fault),
+        place: 0,
+    }
+}
+
+// A point line under a profile (2009 or 2021): its point; malformed (LENGTH, LETTER, COUNT, ID, PLAIN); or RANGE, EPOCH, PROFILE.
+pub fn read_point(profile: i64, line: &[u8]) -> PointLine
+    ensures { λ r. ⌜ r ≡ readPoint profile (now (line .entry)) ⌝ }
+{
+    let r = read_placed(profile, line);
+    r.line
 }

@@ -4,9 +4,11 @@
 use crate::field::LINE_FEED;
 use crate::field::TAB;
 ghost use mathlib.Core.Path.{_≡_};
+ghost use mathlib.Core.Bool.{true};
 ghost use mathlib.Core.List.{[], _∷_, _++_};
 ghost use lib.IntN.{natAbs};
-ghost use Rattle.line.specs.Text.{decimal, integer, letters, nameText, pointOf, pointText, projectedText, refusalText, Wrote};
+ghost use lib.ListN.{take};
+ghost use Rattle.line.specs.Text.{decimal, integer, letters, nameText, pointText, movedText, projectedText, refusalText, Wrote, Copied};
 
 mod roomy;
 
@@ -122,11 +124,36 @@ fn cut_point(out: &mut [u8], at: usize, p: chain::Point) -> usize
     let b = name(out, a, p.label.id);
     let c = whole(out, b, p.label.issue, TAB);
     let d = whole(out, c, p.label.order, TAB);
-    let e = whole(out, d, p.realization.datum, TAB);
-    let f = whole(out, e, p.realization.epoch, TAB);
-    let g = whole(out, f, p.position.x, TAB);
-    let h = whole(out, g, p.position.y, TAB);
-    whole(out, h, p.position.z, LINE_FEED)
+    let r = p.realization;
+    let q = p.position;
+    cut_moved(out, d, r, q)
+}
+
+// The bytes of a line before a place, or all of them where it has no more, as far as there is room.
+fn cut_copy(out: &mut [u8], at: usize, line: &[u8], place: usize) -> usize
+    ensures { λ r. ⌜ Wrote (now (out .entry)) at (take place (now (line .entry))) (now (out .exit)) r ⌝ }
+{
+    let mut p = at;
+    let mut i: usize = 0;
+    while i < place {
+        if line.len() <= i {
+            break;
+        }
+        p = byte(out, p, line[i]);
+        i = i + 1;
+    }
+    p
+}
+
+// Datum, epoch, X, Y, Z, as far as there is room.
+fn cut_moved(out: &mut [u8], at: usize, r: chain::Realization, p: chain::Position) -> usize
+    ensures { λ e. ⌜ Wrote (now (out .entry)) at (movedText r p) (now (out .exit)) e ⌝ }
+{
+    let a = whole(out, at, r.datum, TAB);
+    let b = whole(out, a, r.epoch, TAB);
+    let c = whole(out, b, p.x, TAB);
+    let d = whole(out, c, p.y, TAB);
+    whole(out, d, p.z, LINE_FEED)
 }
 
 // A projected point's line, as far as there is room.
@@ -152,41 +179,57 @@ fn cut_refusal(out: &mut [u8], at: usize, line: u64, number: u8, place: u8) -> u
     byte(out, f, LINE_FEED)
 }
 
-// P, id, issue, order, datum, epoch, X, Y, Z, of a point whose parts stand apart: after a conversion the label is still where it was read, and need not be copied.
-pub fn write_labelled(
-    out: &mut [u8],
-    at: usize,
-    l: chain::Label,
-    r: chain::Realization,
-    p: chain::Position,
-) -> usize
-    ensures { λ e. ⌜ Wrote (now (out .entry)) at (pointText (pointOf l r p)) (now (out .exit)) e ⌝ }
+// P, id, issue, order, datum, epoch, X, Y, Z.
+pub fn write_point(out: &mut [u8], at: usize, p: chain::Point) -> usize
+    ensures { λ r. ⌜ Wrote (now (out .entry)) at (pointText p) (now (out .exit)) r ⌝ }
 {
     let room = out.len();
     if POINT_ROOM <= room {
         if at <= room - POINT_ROOM {
-            return roomy::point(out, at, l, r, p);
+            return roomy::point(out, at, p);
         }
     }
-    cut_point(
-        out,
-        at,
-        chain::Point {
-            label: l,
-            realization: r,
-            position: p,
-        },
-    )
+    cut_point(out, at, p)
 }
 
-// The same of a point by itself.
-pub fn write_point(out: &mut [u8], at: usize, p: chain::Point) -> usize
-    ensures { λ r. ⌜ Wrote (now (out .entry)) at (pointText p) (now (out .exit)) r ⌝ }
+// Whether 32 bytes of a line may be copied for those before a place: there are so many, and what follows them is as long as what is too much.
+fn is_copied_whole(line: &[u8], place: usize, p: chain::Position) -> bool
+    ensures { λ r. ⌜ (r ≡ true → Copied (now (line .entry)) place p) ⌝ }
 {
-    let label = p.label;
-    let realization = p.realization;
-    let position = p.position;
-    write_labelled(out, at, label, realization, position)
+    if line.len() < 32 {
+        return false;
+    }
+    if 32 < place {
+        return false;
+    }
+    if -10000000000 < p.x {
+        return false;
+    }
+    100000000000 <= p.y
+}
+
+// The line of a point that was moved: the bytes of its line before a place, which is where the datum begins (`read_placed`), then datum, epoch, X, Y, Z. What stands
+// before the datum is as it was read, and need not be made again.
+pub fn write_moved(
+    out: &mut [u8],
+    at: usize,
+    line: &[u8],
+    place: usize,
+    r: chain::Realization,
+    p: chain::Position,
+) -> usize
+    ensures { λ e. ⌜ Wrote (now (out .entry)) at (take place (now (line .entry)) ++ movedText r p) (now (out .exit)) e ⌝ }
+{
+    let room = out.len();
+    if POINT_ROOM <= room {
+        if at <= room - POINT_ROOM {
+            if is_copied_whole(line, place, p) {
+                return roomy::relabelled(out, at, line, place, r, p);
+            }
+        }
+    }
+    let a = cut_copy(out, at, line, place);
+    cut_moved(out, a, r, p)
 }
 
 // C, id, E, N; millimetres.

@@ -26,6 +26,10 @@ NumberBack = (z : ℤ) → numberOf (integer z) ≡ some z
 abbrev pub PointBack : Type 0
 PointBack = (y : ℤ) (p : Point) (name : List ℕ) → nameOf name ≡ some (p .label .id) → pointFault y p ≡ 0 → readPoint y (pointText p) ≡ line.Point p
 
+-- and a line that is read as a point is, byte for byte, the line that is written for it: no point has two lines
+abbrev pub PointText : Type 0
+PointText = (y : ℤ) (text : List ℕ) (p : Point) → readPoint y text ≡ line.Point p → text ≡ pointText p
+
 -- ---- how long a written line is, its line feed counted
 pub record Lengths : Type 0 where
   pub point : (y : ℤ) (p : Point) → pointFault y p ≡ 0 → length (pointText p) ≤ 80
@@ -42,6 +46,7 @@ PlanFits = (input : List ℕ) → length (planOf input) ≤ roomFor (length inpu
 pub record Texts : Type 0 where
   pub number : NumberBack
   pub point : PointBack
+  pub text : PointText
   pub lengths : Lengths
   pub sheet : SheetFits
   pub plan : PlanFits

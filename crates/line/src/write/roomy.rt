@@ -4,6 +4,7 @@ use crate::field::TAB;
 use crate::write::HIGHEST;
 use crate::write::MINUS;
 use crate::write::natural;
+use crate::write::roomy::packed::copied;
 use crate::write::roomy::packed::eight_digits;
 use crate::write::roomy::packed::four_digits;
 use crate::write::roomy::packed::leading;
@@ -11,8 +12,8 @@ use crate::write::size;
 use crate::write::wide;
 ghost use mathlib.Core.List.{[], _∷_, _++_};
 ghost use Prim.Native.Nat.{_+_, _≤_, _<_};
-ghost use lib.ListN.{length};
-ghost use Rattle.line.specs.Text.{decimal, integer, letters, nameText, pointOf, pointText, projectedText, refusalText, Put, two, signOf};
+ghost use lib.ListN.{length, take};
+ghost use Rattle.line.specs.Text.{decimal, integer, letters, nameText, pointText, movedText, projectedText, refusalText, Put, Copied, two, signOf};
 
 mod packed;
 
@@ -192,21 +193,42 @@ fn position(out: &mut [u8], at: usize, p: chain::Position) -> usize
     two_numbers(out, a, p.y, p.z, LINE_FEED)
 }
 
+// Datum, epoch, X, Y, Z.
+fn moved(out: &mut [u8], at: usize, r: chain::Realization, p: chain::Position) -> usize
+    requires { ⌜ at + 110 ≤ length (now out) ⌝ }
+    ensures { λ e. ⌜ Put 110 (now (out .entry)) at (movedText r p) (now (out .exit)) e ⌝ }
+{
+    let a = two_numbers(out, at, r.datum, r.epoch, TAB);
+    position(out, a, p)
+}
+
 // P, id, issue, order, datum, epoch, X, Y, Z.
-pub fn point(
+pub fn point(out: &mut [u8], at: usize, p: chain::Point) -> usize
+    requires { ⌜ at + 173 ≤ length (now out) ⌝ }
+    ensures { λ r. ⌜ Put 173 (now (out .entry)) at (pointText p) (now (out .exit)) r ⌝ }
+{
+    let a = letter(out, at, b'P');
+    let l = p.label;
+    let b = label(out, a, l);
+    let r = p.realization;
+    let q = p.position;
+    moved(out, b, r, q)
+}
+
+// The bytes of a line before a place, then datum, epoch, X, Y, Z: 32 bytes are copied whatever the place, with no branch by it.
+pub fn relabelled(
     out: &mut [u8],
     at: usize,
-    l: chain::Label,
+    line: &[u8],
+    place: usize,
     r: chain::Realization,
     p: chain::Position,
 ) -> usize
-    requires { ⌜ at + 173 ≤ length (now out) ⌝ }
-    ensures { λ e. ⌜ Put 173 (now (out .entry)) at (pointText (pointOf l r p)) (now (out .exit)) e ⌝ }
+    requires { ⌜ (at + 173 ≤ length (now out)) × Copied (now line) place p ⌝ }
+    ensures { λ e. ⌜ Put 142 (now (out .entry)) at (take place (now (line .entry)) ++ movedText r p) (now (out .exit)) e ⌝ }
 {
-    let a = letter(out, at, b'P');
-    let b = label(out, a, l);
-    let c = two_numbers(out, b, r.datum, r.epoch, TAB);
-    position(out, c, p)
+    copied(out, at, line);
+    moved(out, at + place, r, p)
 }
 
 // C, id, E, N; millimetres.

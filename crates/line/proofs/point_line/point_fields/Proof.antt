@@ -6,6 +6,7 @@ use lib.Signed.{mag}
 use mir.Syntax.{w64}
 use mir.Val.{toZ, ofZ}
 use mir.Facts.{toZ-ofZ}
+use Rattle.line.proofs.Places as L
 use Rattle.line.proofs.Walk as W
 use Rattle.line.specs.Forms.{pointForm}
 use borrow.Author.Needs.{needs}
@@ -44,16 +45,17 @@ returns c =
     let l2 = W.lost-on (n3 .ensures) l3 in
     let l1 = W.lost-on (n2 .ensures) l2 in
     let l0 = W.lost-on (n1 .ensures) l1 in
-    W.more (c12 .before .before .before .before .letter .ensures) l0 λ _ _ _.
-    W.more (n1 .ensures) l1 λ z1 q1 _.
-    W.more (n2 .ensures) l2 λ z2 q2 _.
-    W.more (n3 .ensures) l3 λ z3 q3 _.
+    L.more (c12 .before .before .before .before .letter .ensures) l0 λ z0 f0 r0 d0 _.
+    L.more (n1 .ensures) l1 λ z1 f1 r1 d1 q1.
+    L.more (n2 .ensures) l2 λ z2 f2 r2 d2 q2.
+    L.more (n3 .ensures) l3 λ z3 f3 r3 d3 q3.
     W.more (n4 .ensures) l4 λ z4 q4 _.
     W.more (n5 .ensures) l5 λ z5 q5 _.
     W.more (n6 .ensures) l6 λ z6 q6 _.
     W.more (n7 .ensures) l7 λ z7 q7 _.
     W.more (n8 .ensures) (λ h. h) λ z8 q8 b.
-    W.done (rw (q1, e2 ∙ q2, e3 ∙ q3, e4 ∙ q4, e5 ∙ q5, e6 ∙ q6, e7 ∙ q7, e8 ∙ q8)) b
+    let place = L.label-place z0 f0 f1 f2 f3 (record { id = z1; issue = z2; order = z3 }) r0 r1 r2 r3 d0 d1 d2 d3 in
+    W.done (rw (q1, e2 ∙ q2, e3 ∙ q3, e4 ∙ q4, e5 ∙ q5, e6 ∙ q6, e7 ∙ q7, e8 ∙ q8, place)) b
 
 pub point-fields-spec : {M : Type 1} → statement M
 point-fields-spec =

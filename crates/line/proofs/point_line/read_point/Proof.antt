@@ -1,42 +1,18 @@
 -- `line::point_line::read_point` meets its contract. Assumes nothing.
-use mathlib.Core.Path.{sym, _∙_, ap}
+use mathlib.Core.Path.{_≡_, ap, _∙_}
 use lib.IntN.{ℤ}
 use mir.Facts.{toZ-ofZ}
-use mathlib.Core.Logic.{⊎-elim}
-use native.Mathlib.Omega.{arith}
-use lib.Seq.{length-take-le}
-use Rattle.line.specs.declared.PointLine.the-variants.{Malformed}
-use Rattle.chain.specs.Faults.{pointFault}
-use Rattle.line.specs.declared.PointLine.the-variants as line
-use Rattle.line.specs.Readers.{judged, readPoint}
-use Rattle.line.proofs.Answers as A
-use Rattle.line.proofs.Faults as F
+use Rattle.line.specs.declared.PlacedLine.{PlacedLine}
+use Rattle.line.specs.Readers.{readPoint, placedPoint}
 use borrow.Author.Needs.{needs}
 use Rattle.line.proofs.point_line.read_point.Statement.{statement}
 use Rattle.line.proofs.point_line.read_point.Tie as tie
 
-slice-aggregate-s : tie.Need-slice-aggregate-s
-slice-aggregate-s c = sym (length-take-le _ _ (omega arith))
-
 returns : tie.Need-returns
-unfolding readPoint
+unfolding placedPoint
 returns c =
-    let c2 = c .before .before in
-    let c4 = c2 .before .before in
-    let c7 = c4 .before .before .before in
-    A.good-form _ _ _ (F.careful-point (c7 .before .before .args .profile)) _ _ _ _ (c7 .body-end .ensures) (omega arith) (c4 .point-fields .ensures) _ (c2 .if2 .taken)
-    (c .judge-point .ensures ∙ ap (λ (y : ℤ). judged (pointFault y) line.Point line.Refused (c4 .point-fields .result .point)) (toZ-ofZ (c7 .before .before .fits .profile)))
-
-returns-2 : tie.Need-returns-2
-unfolding readPoint
-returns-2 c =
-    let framed = c .before .before .body-end .ensures in
-    let careful = F.careful-point (c .before .before .before .before .args .profile) in
-    ap Malformed (c .fault-of .ensures)
-    ∙ ⊎-elim (λ w. A.bad-form _ _ _ careful _ _ _ _ framed (omega arith) (w .2 .ensures) (w .4 .left))
-    (λ w. A.bad-frame _ _ _ careful _ _ _ _ framed (omega arith)) (c .before .if1 .came)
+    let s = c .before .before in
+    ap (λ (r : PlacedLine). r .line) (c .read-placed .ensures) ∙ ap (λ (y : ℤ). readPoint y (s .args .line .now)) (toZ-ofZ (s .fits .profile))
 
 pub read-point-spec : {M : Type 1} → statement M
-read-point-spec =
-    tie.close
-    (tie.spec (search needs) slice-aggregate-s (search needs) (search needs) (search needs) returns (search needs) returns-2)
+read-point-spec = tie.close (tie.spec (search needs) returns)

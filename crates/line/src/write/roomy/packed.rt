@@ -1,8 +1,9 @@
 // Digits side by side in one number: pairs of them in sixteen bits each, then each in a byte, and all are one store in the compiled code. The leading digits of a
 // number are written four bytes at a time whatever their count, so that no branch goes by it: what is too much is taken away by the digits after them.
+use crate::number::word;
 ghost use mathlib.Core.Path.{_≡_};
 ghost use Prim.Native.Nat.{_+_, _≤_, _<_};
-ghost use lib.ListN.{length};
+ghost use lib.ListN.{length, take, drop};
 ghost use Rattle.line.specs.Text.{decimal, Put, four, eight, pairBytes, halfBytes, wordBytes, Pairs, pairsOf, Spread, Further, Begun};
 
 // 127 in each half of a number; 15 in each quarter; the digit 0 in each byte.
@@ -35,6 +36,25 @@ fn put_word(out: &mut [u8], at: usize, w: u64) -> usize
 {
     let a = put_half(out, at, w);
     put_half(out, a, w / 4294967296)
+}
+
+// Eight bytes of a line as they are: one load and one store in the compiled code.
+fn copy_word(out: &mut [u8], at: usize, line: &[u8], from: usize) -> usize
+    requires { ⌜ (at + 8 ≤ length (now out)) × (from + 8 ≤ length (now line)) ⌝ }
+    ensures { λ r. ⌜ Put 8 (now (out .entry)) at (take 8 (drop from (now (line .entry)))) (now (out .exit)) r ⌝ }
+{
+    put_word(out, at, word(line, from))
+}
+
+// The first 32 bytes of a line.
+pub fn copied(out: &mut [u8], at: usize, line: &[u8]) -> usize
+    requires { ⌜ (at + 32 ≤ length (now out)) × (32 ≤ length (now line)) ⌝ }
+    ensures { λ r. ⌜ Put 32 (now (out .entry)) at (take 32 (now (line .entry))) (now (out .exit)) r ⌝ }
+{
+    let a = copy_word(out, at, line, 0);
+    let b = copy_word(out, a, line, 8);
+    let c = copy_word(out, b, line, 16);
+    copy_word(out, c, line, 24)
 }
 
 // Eight digits as four pairs: 10486/2^20 is 1/100 for numbers of four digits, and no product reaches its neighbour.

@@ -1,8 +1,7 @@
 // A line that begins with P, decided and printed at once: most lines of a sheet are points, and what is decided on one is not carried through memory.
 ghost use mathlib.Core.Path.{_≡_};
 ghost use Prim.Native.Nat.{_≤_};
-ghost use Rattle.chain.specs.Faults.{pointFault};
-ghost use Rattle.line.specs.Readers.{readPoint};
+ghost use Rattle.line.specs.Readers.{readPoint, datumPlace};
 ghost use Rattle.line.specs.declared.PointLine.the-variants as point-line;
 ghost use Rattle.sheet_rules.specs.Sheet.{Sheet, pointReply, afterPoint};
 ghost use Rattle.sheet_rules.specs.State.{Holds, refusedIn, Shows, Shown};
@@ -35,15 +34,17 @@ fn print_refusal(
     }
 }
 
-// A point whose line is good by itself.
+// A point whose line is good by itself, and where its datum begins in the line: what stands before it is written as it stands.
 fn print_converted(
     state: State,
     numbers: &Prepared,
+    text: &[u8],
     point: Point,
+    place: usize,
     out: &mut [u8],
     at: usize,
 ) -> Printed
-    requires { ⌜ (state .line ≤ 1000000) × (pointFault (state .profile) point ≡ 0) ⌝ }
+    requires { ⌜ (state .line ≤ 1000000) × (readPoint (state .profile) (now text) ≡ point-line.Point point) × (place ≡ datumPlace (now text)) ⌝ }
     ensures { λ r. ⌜ ((s : Sheet) → Holds state (now (numbers .entry)) s → Shown (pointReply s (point-line.Point point)) (afterPoint s (point-line.Point point)) (now (numbers .entry)) (now (out .entry)) at (now (out .exit)) r) ⌝ }
 {
     if state.refused {
@@ -52,10 +53,9 @@ fn print_converted(
     match chain::forward_prepared(numbers, point) {
         Answer::Refused(number) => print_refusal(state, number, 0, false, true, out, at),
         Answer::Converted(converted) => {
-            let label = point.label;
             let realization = converted.realization;
             let position = converted.position;
-            let past = line::write_labelled(out, at, label, realization, position);
+            let past = line::write_moved(out, at, text, place, realization, position);
             let next = after(state, false, true);
             Printed {
                 at: past,
@@ -76,7 +76,10 @@ pub fn print_point(
     requires { ⌜ state .line ≤ 1000000 ⌝ }
     ensures { λ r. ⌜ ((s : Sheet) → Holds state (now (numbers .entry)) s → Shown (pointReply s (readPoint (s .profile) (now (text .entry)))) (afterPoint s (readPoint (s .profile) (now (text .entry)))) (now (numbers .entry)) (now (out .entry)) at (now (out .exit)) r) ⌝ }
 {
-    match line::read_point(state.profile, text) {
+    let placed = line::read_placed(state.profile, text);
+    let read = placed.line;
+    let place = placed.place;
+    match read {
         PointLine::Malformed(fault) => print_refusal(
             state,
             fault.number,
@@ -87,6 +90,6 @@ pub fn print_point(
             at,
         ),
         PointLine::Refused(number) => print_refusal(state, number, 0, state.refused, true, out, at),
-        PointLine::Point(point) => print_converted(state, numbers, point, out, at),
+        PointLine::Point(point) => print_converted(state, numbers, text, point, place, out, at),
     }
 }

@@ -23,5 +23,6 @@ pub mod Back
 pub mod Ahead
 pub mod Counted
 pub mod Words
+pub mod Sums
 pub mod Unread
 pub mod InARow

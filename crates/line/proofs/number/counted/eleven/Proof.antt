@@ -1,0 +1,28 @@
+-- `line::number::counted::eleven` meets its contract. Assumes nothing.
+use Prim.Native.Nat.{_≤_}
+use native.Mathlib.Omega.{arith}
+use borrow.Author.Tests.{leb-true}
+use Rattle.line.proofs.Ahead as L
+use Rattle.line.proofs.Capped.{never}
+use Rattle.line.proofs.Words as W
+use Rattle.line.proofs.Sums as S
+use borrow.Author.Needs.{needs}
+use Rattle.line.proofs.number.counted.eleven.Statement.{statement}
+use Rattle.line.proofs.number.counted.eleven.Tie as tie
+
+seven-requires : tie.Need-seven-requires
+seven-requires c κs = S.seven-small (W.first-seven (W.spelt (c .before .before .before .before .word .ensures) (c .before .before .other-eight .ensures (L.or-left (c .before .before .other-eight .result) (c .before .other-eight2 .result) (c .if1 .left)))))
+
+last-four-requires : tie.Need-last-four-requires
+last-four-requires c κs = S.eight-small (W.spelt (c .before .before .before .before .word2 .ensures) (c .before .before .other-eight2 .ensures (L.or-right (c .before .before .before .other-eight .result) (c .before .before .other-eight2 .result) (c .before .if1 .left))))
+
+returns-2 : tie.Need-returns-2
+returns-2 c = λ e. (
+    let y = W.first-seven (W.spelt (c .before .before .before .before .before .before .word .ensures) (c .before .before .before .before .other-eight .ensures (L.or-left (c .before .before .before .before .other-eight .result) (c .before .before .before .other-eight2 .result) (c .before .before .if1 .left)))) in
+    let z = W.spelt (c .before .before .before .before .before .word2 .ensures) (c .before .before .before .other-eight2 .ensures (L.or-right (c .before .before .before .before .other-eight .result) (c .before .before .before .other-eight2 .result) (c .before .before .if1 .left))) in
+    let p = c .before .before .before .before .before .before .before .before .pre in
+    let l : 1000000 ≤ c .before .seven .result = leb-true _ _ e in
+    rw (c .before .seven .ensures, c .last-four .ensures) (S.longer 7 10000000 (S.seven-counted y (omega arith) (rw (c .before .seven .ensures) at l)) z (omega arith) (omega arith)))
+
+pub eleven-spec : {M : Type 1} → statement M
+eleven-spec = tie.close (tie.spec (search needs) (search needs) (search needs) (search needs) (search needs) (λ c e. absurd (never e)) seven-requires (search needs) last-four-requires (search needs) returns-2)

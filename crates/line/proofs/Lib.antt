@@ -8,6 +8,7 @@ pub mod Capped
 pub mod Faults
 pub mod Texts
 pub mod Packed
+pub mod Leading
 pub mod BareLines
 pub mod Compared
 pub mod Lengths

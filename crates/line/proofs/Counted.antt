@@ -49,7 +49,8 @@ unspared {s} {at} {v} {next} g h lo hi =
     record { tells = rw (one, ← two) (g .tells) }
 
 -- what k digits say, if the field ends after them
-closing : (k scale : ℕ) {s : List ℕ} {at v next : ℕ} → Say k scale s at v → Alone k s at → Got s itself empty (at + k) tt next → v ≤ cap → Got s capped (digits 0) at v next
+closing : (k scale : ℕ) {s : List ℕ} {at v next : ℕ} → Say k scale s at v → Alone k s at → Got s itself empty (at + k) tt next → v ≤ cap
+    → Got s capped (digits 0) at v next
 closing k scale {s} {at} {v} {next} y a g c =
     let z : 0 * scale + v ≡ v = omega arith in
     y .says 0 v next (N.digits-close (0 * scale + v) g (omega arith) (λ l. N.low (omega (arith, a .ends l))))
@@ -67,17 +68,20 @@ one-digit {s} {at} {next} a g =
     go h lo hi (no e) = unspared (closing 1 10 (L.digit s at h (a .digits)) a g (omega arith)) h (omega arith) hi
 
 -- several, the first of them no 0
-unsigned : (k scale : ℕ) {s : List ℕ} {at v next : ℕ} → Say k scale s at v → Alone k s at → 0 < k → Got s itself empty (at + k) tt next → v ≤ cap → Led s at → Got s capped plain at v next
+unsigned : (k scale : ℕ) {s : List ℕ} {at v next : ℕ} → Say k scale s at v → Alone k s at → 0 < k → Got s itself empty (at + k) tt next → v ≤ cap → Led s at
+    → Got s capped plain at v next
 unsigned k scale {s} {at} {v} {next} y a p g c z =
     let lo = first-low a p in
     unspared (closing k scale y a g c) (omega (arith, a .inside)) (omega arith) (first-high a p)
 
-several : (k scale : ℕ) {s : List ℕ} {at v next : ℕ} → Say k scale s at v → Alone k s at → 0 < k → Got s itself empty (at + k) tt next → v ≤ cap → Led s at → Got s cappedZ numberOf at (pos v) next
+several : (k scale : ℕ) {s : List ℕ} {at v next : ℕ} → Say k scale s at v → Alone k s at → 0 < k → Got s itself empty (at + k) tt next → v ≤ cap → Led s at
+    → Got s cappedZ numberOf at (pos v) next
 several k scale {s} {at} {v} {next} y a p g c z =
     let lo = first-low a p in
     N.above (omega (arith, a .inside)) (unsigned k scale y a p g c z) (λ q. omega arith)
 
-pub two-digits : {s : List ℕ} {at next : ℕ} → Alone 2 s at → Led s at → Got s itself empty (at + 2) tt next → Got s cappedZ numberOf at (pos (getD s at 0 * 10 + getD s (at + 1) 0 - 528)) next
+pub two-digits : {s : List ℕ} {at next : ℕ} → Alone 2 s at → Led s at → Got s itself empty (at + 2) tt next
+    → Got s cappedZ numberOf at (pos (getD s at 0 * 10 + getD s (at + 1) 0 - 528)) next
 two-digits {s} {at} {next} a l g =
     let y = two-say s at (omega (arith, a .inside)) (a .digits) in
     several 2 100 y a (omega arith) g (omega (arith, y .less)) l
@@ -90,7 +94,8 @@ after {k} {s} {at} next a e = rw e (W.ends-here (go (decLt (at + k) (length s)))
     go (yes l) = W.from-tab s (at + k) l (a .ends l)
     go (no l) = W.from-end s (at + k) (omega (arith, a .inside))
 
-pub counted : (k scale : ℕ) {s : List ℕ} {at v : ℕ} (next : ℕ) → Counted k scale s at v → Alone k s at → 0 < k → scale ≤ cap → next ≡ at + k + 1 → Got s cappedZ numberOf at (pos v) next
+pub counted : (k scale : ℕ) {s : List ℕ} {at v : ℕ} (next : ℕ) → Counted k scale s at v → Alone k s at → 0 < k → scale ≤ cap → next ≡ at + k + 1
+    → Got s cappedZ numberOf at (pos v) next
 counted k scale next y a p c e = several k scale (y .says) a p (after next a e) (omega (arith, y .says .less)) (y .led)
 
 -- the tab after a field that begins at another place
@@ -98,6 +103,7 @@ pub tabbed : {s : List ℕ} {at k q v scale : ℕ} → at + k < length s → get
 tabbed {s} {at} {k} {q} h t e y = record { inside = omega arith; ends = λ l. rw e at t; digits = y .digits }
 
 -- with a minus in front
-pub minus-counted : (k scale : ℕ) {s : List ℕ} {at v : ℕ} (next : ℕ) → at < length s → getD s at 0 ≡ 45 → Counted k scale s (at + 1) v → Alone k s (at + 1) → 0 < k → scale ≤ cap → next ≡ at + 1 + k + 1 → Got s cappedZ numberOf at (negℤ (pos v)) next
+pub minus-counted : (k scale : ℕ) {s : List ℕ} {at v : ℕ} (next : ℕ) → at < length s → getD s at 0 ≡ 45 → Counted k scale s (at + 1) v → Alone k s (at + 1)
+    → 0 < k → scale ≤ cap → next ≡ at + 1 + k + 1 → Got s cappedZ numberOf at (negℤ (pos v)) next
 minus-counted k scale next h m y a p c e =
     N.below h (unsigned k scale (y .says) a p (after next a e) (omega (arith, y .says .less)) (y .led)) m (λ q. absurd (omega (arith, y .some))) (λ q. refl)

@@ -21,7 +21,8 @@ over-all [] ws l i h = refl
 over-all (t ∷ ts) [] l i h = absurd (omega arith)
 over-all (t ∷ ts) (w ∷ ws) l i h =
     ap (λ (m : List ℕ). sets m (suc i) ws)
-    (ap (λ (m : List ℕ). set m i w) (over-set ts l i (suc i) t (omega arith)) ∙ set-set (sets l (suc i) ts) i t w ∙ sym (over-set ts l i (suc i) w (omega arith)))
+    (ap (λ (m : List ℕ). set m i w) (over-set ts l i (suc i) t (omega arith))
+    ∙ set-set (sets l (suc i) ts) i t w ∙ sym (over-set ts l i (suc i) w (omega arith)))
     ∙ over-all ts ws (set l i w) (suc i) (omega arith)
 
 over : (vs ts ws l : List ℕ) (at : ℕ) → length ts ≤ length ws → sets (sets l at (vs ++ ts)) (at + length vs) ws ≡ sets l at (vs ++ ws)
@@ -82,7 +83,8 @@ lead-four n w g l h =
     record { ts = []; text = rw d (half-text h); few = omega arith; count = rw d }
 
 -- what was written begins with the text
-pub begins : {k : ℕ} (j : ℕ) {l m : List ℕ} {at r q : ℕ} {us vs : List ℕ} (ts : List ℕ) → Put k l at us m r → us ≡ vs ++ ts → length ts ≤ j → length vs ≤ k → q ≡ at + length vs → Begun k j l at vs m q
+pub begins : {k : ℕ} (j : ℕ) {l m : List ℕ} {at r q : ℕ} {us vs : List ℕ} (ts : List ℕ) → Put k l at us m r → us ≡ vs ++ ts → length ts ≤ j → length vs ≤ k
+    → q ≡ at + length vs → Begun k j l at vs m q
 begins j {l} {m} {at} {vs = vs} ts p t few most e =
     let is = p .wrote .list ∙ ap (sets l at) t in
     record {
@@ -108,7 +110,8 @@ lead n w more l h f = go (decLt n 10) (decLt n 100) (decLt n 1000)
         by-one x = omega arith
 
 -- what follows takes away what is too much
-pub after : {k j : ℕ} {l m : List ℕ} {at r : ℕ} {vs ws o : List ℕ} {q : ℕ} (i : ℕ) → Begun k j l at vs m r → Put i m r ws o q → j ≤ length ws → at + k + length ws ≤ length l → Put (k + i) l at (vs ++ ws) o q
+pub after : {k j : ℕ} {l m : List ℕ} {at r : ℕ} {vs ws o : List ℕ} {q : ℕ} (i : ℕ) → Begun k j l at vs m r → Put i m r ws o q → j ≤ length ws
+    → at + k + length ws ≤ length l → Put (k + i) l at (vs ++ ws) o q
 after {k} {j} {l} {m} {at} {r} {vs} {ws} {o} {q} i a b h room =
     record {
       wrote = record {

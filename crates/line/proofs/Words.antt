@@ -12,24 +12,40 @@ use borrow.Author.Tests.{lt-ltb, le-ltb}
 use Rattle.refusal.specs.Order.{pick}
 use Rattle.line.specs.Reading.{together, byteFrom, Word, Digits, Clear, higherHalves, sixes, sevenHalvesAndByte, sevenSixes, sevenAfterZero}
 
-pub word-is : (s : List ℕ) (p : ℕ) → getD s (p + 7) 0 * 72057594037927936 + getD s (p + 6) 0 * 281474976710656 + getD s (p + 5) 0 * 1099511627776 + getD s (p + 4) 0 * 4294967296 + getD s (p + 3) 0 * 16777216 + getD s (p + 2) 0 * 65536 + getD s (p + 1) 0 * 256 + getD s p 0 ≡ together 8 (byteFrom s p)
+pub word-is : (s : List ℕ) (p : ℕ)
+    → getD s (p + 7) 0 * 72057594037927936
+    + getD s (p + 6) 0 * 281474976710656
+    + getD s (p + 5) 0 * 1099511627776
+    + getD s (p + 4) 0 * 4294967296
+    + getD s (p + 3) 0 * 16777216
+    + getD s (p + 2) 0 * 65536
+    + getD s (p + 1) 0 * 256
+    + getD s p 0
+    ≡ together 8 (byteFrom s p)
 unfolding together
 word-is s p = let e = add-zero p in rw e (omega arith)
 
+-- numbers below 256, as far as k of them
+abbrev Bytes : ℕ → (ℕ → ℕ) → Type 0
+Bytes k f = (i : ℕ) → i < k → f i < 256
+
+further : {k : ℕ} {f : ℕ → ℕ} → Bytes (suc k) f → Bytes k (λ i. f (suc i))
+further b i h = b (suc i) (omega arith)
+
 -- ---- byte by byte
-and-each : (k : ℕ) (f m : ℕ → ℕ) → ((i : ℕ) → i < k → f i < 256) → ((i : ℕ) → i < k → m i < 256) → bitAnd (together k f) (together k m) ≡ together k (λ i. bitAnd (f i) (m i))
+and-each : (k : ℕ) (f m : ℕ → ℕ) → Bytes k f → Bytes k m → bitAnd (together k f) (together k m) ≡ together k (λ i. bitAnd (f i) (m i))
 unfolding together
 and-each zero f m b c = refl
 and-each (suc k) f m b c =
     and-block 8 (together k (λ i. f (suc i))) (together k (λ i. m (suc i))) (f 0) (m 0) (b 0 (omega arith)) (c 0 (omega arith))
-    ∙ ap (λ (n : ℕ). n * 256 + bitAnd (f 0) (m 0)) (and-each k (λ i. f (suc i)) (λ i. m (suc i)) (λ i h. b (suc i) (omega arith)) (λ i h. c (suc i) (omega arith)))
+    ∙ ap (λ (n : ℕ). n * 256 + bitAnd (f 0) (m 0)) (and-each k (λ i. f (suc i)) (λ i. m (suc i)) (further b) (further c))
 
-xor-each : (k : ℕ) (f t : ℕ → ℕ) → ((i : ℕ) → i < k → f i < 256) → ((i : ℕ) → i < k → t i < 256) → bitXor (together k f) (together k t) ≡ together k (λ i. bitXor (f i) (t i))
+xor-each : (k : ℕ) (f m : ℕ → ℕ) → Bytes k f → Bytes k m → bitXor (together k f) (together k m) ≡ together k (λ i. bitXor (f i) (m i))
 unfolding together
-xor-each zero f t b c = refl
-xor-each (suc k) f t b c =
-    xor-block 8 (together k (λ i. f (suc i))) (together k (λ i. t (suc i))) (f 0) (t 0) (b 0 (omega arith)) (c 0 (omega arith))
-    ∙ ap (λ (n : ℕ). n * 256 + bitXor (f 0) (t 0)) (xor-each k (λ i. f (suc i)) (λ i. t (suc i)) (λ i h. b (suc i) (omega arith)) (λ i h. c (suc i) (omega arith)))
+xor-each zero f m b c = refl
+xor-each (suc k) f m b c =
+    xor-block 8 (together k (λ i. f (suc i))) (together k (λ i. m (suc i))) (f 0) (m 0) (b 0 (omega arith)) (c 0 (omega arith))
+    ∙ ap (λ (n : ℕ). n * 256 + bitXor (f 0) (m 0)) (xor-each k (λ i. f (suc i)) (λ i. m (suc i)) (further b) (further c))
 
 add-each : (k : ℕ) (f x : ℕ → ℕ) → together k f + together k x ≡ together k (λ i. f i + x i)
 unfolding together
@@ -42,11 +58,11 @@ none-each zero f e i h = absurd (omega arith)
 none-each (suc k) f e zero h = omega arith
 none-each (suc k) f e (suc i) h = none-each k (λ i. f (suc i)) (omega arith) i (omega arith)
 
-below : (k : ℕ) (f : ℕ → ℕ) → ((i : ℕ) → i < k → f i < 256) → together k f < 256 ^ k
+below : (k : ℕ) (f : ℕ → ℕ) → Bytes k f → together k f < 256 ^ k
 unfolding together
 below zero f b = omega arith
 below (suc k) f b =
-    let e = below k (λ i. f (suc i)) (λ i h. b (suc i) (omega arith)) in
+    let e = below k (λ i. f (suc i)) (further b) in
     let l = b 0 (omega arith) in
     let p = pow-suc 256 k in
     omega arith
@@ -60,22 +76,36 @@ pub none-set : (a b : ℕ) → bitOr a b ≡ 0 → (a ≡ 0) × (b ≡ 0)
 none-set a b e = (omega (arith, or-add-and a b, and-le-l a b, and-le-r a b), omega (arith, or-add-and a b, and-le-l a b, and-le-r a b))
 
 -- ---- eight bytes, without the bits of others, that are clear
-module _ (f t m x : ℕ → ℕ) (bf : (i : ℕ) → i < 8 → f i < 256) (bt : (i : ℕ) → i < 8 → t i < 256) (bm : (i : ℕ) → i < 8 → m i < 256) (c : Clear (together 8 m) (together 8 x) (bitXor (together 8 f) (together 8 t))) where
-  apart-small : (i : ℕ) → i < 8 → bitXor (f i) (t i) < 256
-  apart-small i h = xor-lt 8 (f i) (t i) (bf i h) (bt i h)
+abbrev apart : (ℕ → ℕ) → (ℕ → ℕ) → ℕ → ℕ
+apart f t i = bitXor (f i) (t i)
 
-  apart-is : bitXor (together 8 f) (together 8 t) ≡ together 8 (λ i. bitXor (f i) (t i))
-  apart-is = xor-each 8 f t bf bt
+abbrev ClearEach : (ℕ → ℕ) → (ℕ → ℕ) → Type 0
+ClearEach g m = (i : ℕ) → i < 8 → bitAnd (g i) (m i) ≡ 0
 
-  plain-each : (i : ℕ) → i < 8 → bitAnd (bitXor (f i) (t i)) (m i) ≡ 0
-  plain-each = none-each 8 (λ i. bitAnd (bitXor (f i) (t i)) (m i)) (sym (and-each 8 (λ i. bitXor (f i) (t i)) m apart-small bm) ∙ ap (λ (n : ℕ). bitAnd n (together 8 m)) (sym apart-is) ∙ c .plain)
+record Parted (f t m x : ℕ → ℕ) : Type 0 where
+  small : Bytes 8 (apart f t)
+  is : bitXor (together 8 f) (together 8 t) ≡ together 8 (apart f t)
+  plain : ClearEach (apart f t) m
+  raised : Bytes 8 (λ i. apart f t i + x i) → ClearEach (λ i. apart f t i + x i) m
 
-  raised-each : ((i : ℕ) → i < 8 → bitXor (f i) (t i) + x i < 256) → (i : ℕ) → i < 8 → bitAnd (bitXor (f i) (t i) + x i) (m i) ≡ 0
-  raised-each b =
-      let e : bitXor (together 8 f) (together 8 t) + together 8 x ≡ together 8 (λ i. bitXor (f i) (t i) + x i) = ap (λ (n : ℕ). n + together 8 x) apart-is ∙ add-each 8 (λ i. bitXor (f i) (t i)) x in
-      let l = below 8 (λ i. bitXor (f i) (t i) + x i) b in
-      let q : (bitXor (together 8 f) (together 8 t) + together 8 x) % 2 ^ 64 ≡ together 8 (λ i. bitXor (f i) (t i) + x i) = omega arith in
-      none-each 8 (λ i. bitAnd (bitXor (f i) (t i) + x i) (m i)) (sym (and-each 8 (λ i. bitXor (f i) (t i) + x i) m b bm) ∙ ap (λ (n : ℕ). bitAnd n (together 8 m)) (sym q) ∙ c .raised)
+parted : (f t m x : ℕ → ℕ) → Bytes 8 f → Bytes 8 t → Bytes 8 m → Clear (together 8 m) (together 8 x) (bitXor (together 8 f) (together 8 t)) → Parted f t m x
+parted f t m x bf bt bm c = record { small = small; is = is; plain = each (apart f t) small (sym is) (c .plain); raised = raised }
+  where
+    small : Bytes 8 (apart f t)
+    small i h = xor-lt 8 (f i) (t i) (bf i h) (bt i h)
+
+    is : bitXor (together 8 f) (together 8 t) ≡ together 8 (apart f t)
+    is = xor-each 8 f t bf bt
+
+    each : (g : ℕ → ℕ) {n : ℕ} → Bytes 8 g → together 8 g ≡ n → bitAnd n (together 8 m) ≡ 0 → ClearEach g m
+    each g b e z = none-each 8 (λ i. bitAnd (g i) (m i)) (sym (and-each 8 g m b bm) ∙ ap (λ (n : ℕ). bitAnd n (together 8 m)) e ∙ z)
+
+    raised : Bytes 8 (λ i. apart f t i + x i) → ClearEach (λ i. apart f t i + x i) m
+    raised b =
+        let e = ap (λ (n : ℕ). n + together 8 x) is ∙ add-each 8 (apart f t) x in
+        let l = below 8 (λ i. apart f t i + x i) b in
+        let q : together 8 (λ i. apart f t i + x i) ≡ (bitXor (together 8 f) (together 8 t) + together 8 x) % 2 ^ 64 = omega arith in
+        each (λ i. apart f t i + x i) b q (c .raised)
 
 -- ---- one byte
 under : (b : ℕ) → b < 256 → bitAnd b 240 ≡ 0 → b < 16
@@ -98,12 +128,22 @@ apart-byte b =
     ∙ xor-block 4 (b / 16) 3 (b % 16) 0 (omega arith) (omega arith)
     ∙ ap (λ (n : ℕ). bitXor (b / 16) 3 * 16 + n) (xor-zero-r (b % 16))
 
-pub digit-byte : (b : ℕ) → bitXor b 48 ≤ 9 → (48 ≤ b) × (b ≤ 57) × (bitXor b 48 ≡ b - 48)
+-- a byte that is a digit, and its number
+pub record Digit (b : ℕ) : Type 0 where
+  pub low : 48 ≤ b
+  pub high : b ≤ 57
+  pub is : bitXor b 48 ≡ b - 48
+
+digit-byte : (b : ℕ) → bitXor b 48 ≤ 9 → Digit b
 digit-byte b h =
     let e = apart-byte b in
     let z : bitXor (b / 16) 3 ≡ 0 = omega arith in
     let q = third (b / 16) z in
-    (omega arith, omega arith, omega arith)
+    record { low = omega arith; high = omega arith; is = omega arith }
+
+-- below 16, and still with 6 more
+nine-byte : (b : ℕ) → bitXor b 48 < 16 → bitAnd (bitXor b 48 + 6) 240 ≡ 0 → Digit b
+nine-byte b l e = digit-byte b (omega (arith, under (bitXor b 48 + 6) (omega arith) e))
 
 tab-byte : (b : ℕ) → bitXor b 9 ≡ 0 → b ≡ 9
 tab-byte b e = omega (arith, xor-add-and b 9, and-le-l b 9, and-le-r b 9)
@@ -118,16 +158,12 @@ pub spelt : {s : List ℕ} {p w : ℕ} → Word s p w → Clear higherHalves six
 unfolding together
 spelt {s} {p} {w} d c =
     let f = byteFrom s p in
-    let t : (i : ℕ) → i < 8 → 48 < 256 = λ i h. omega arith in
-    let m : (i : ℕ) → i < 8 → 240 < 256 = λ i h. omega arith in
-    let b : (i : ℕ) → i < 8 → byteFrom s p i < 256 = λ i h. d .small (p + i) in
-    let k = rw (d .is) at c in
-    let u : (i : ℕ) → i < 8 → bitXor (byteFrom s p i) 48 < 16 = λ i h. under (bitXor (byteFrom s p i) 48) (apart-small f (λ i. 48) (λ i. 240) (λ i. 6) b t m k i h) (plain-each f (λ i. 48) (λ i. 240) (λ i. 6) b t m k i h) in
-    let r = raised-each f (λ i. 48) (λ i. 240) (λ i. 6) b t m k (λ i h. omega (arith, u i h)) in
-    let n : (i : ℕ) → i < 8 → (48 ≤ byteFrom s p i) × (byteFrom s p i ≤ 57) × (bitXor (byteFrom s p i) 48 ≡ byteFrom s p i - 48) = λ i h. digit-byte (byteFrom s p i) (omega (arith, under (bitXor (byteFrom s p i) 48 + 6) (omega (arith, u i h)) (r i h))) in
+    let k = parted f (λ i. 48) (λ i. 240) (λ i. 6) (λ i h. d .small (p + i)) (λ i h. omega arith) (λ i h. omega arith) (rw (d .is) at c) in
+    let u : (i : ℕ) → i < 8 → bitXor (byteFrom s p i) 48 < 16 = λ i h. under (bitXor (byteFrom s p i) 48) (k .small i h) (k .plain i h) in
+    let n : (i : ℕ) → i < 8 → Digit (byteFrom s p i) = λ i h. nine-byte (byteFrom s p i) (u i h) (k .raised (λ j l. omega (arith, u j l)) i h) in
     record {
-      digits = record { low = λ i h. n i h .0; high = λ i h. n i h .1 };
-      is = ap (λ (n : ℕ). bitXor n 3472328296227680304) (d .is) ∙ xor-each 8 f (λ i. 48) b t ∙ same-each 8 (λ i. bitXor (byteFrom s p i) 48) (λ i. byteFrom s p i - 48) (λ i h. n i h .2);
+      digits = record { low = λ i h. n i h .low; high = λ i h. n i h .high };
+      is = ap (λ (n : ℕ). bitXor n 3472328296227680304) (d .is) ∙ k .is ∙ same-each 8 (apart f (λ i. 48)) (λ i. byteFrom s p i - 48) (λ i h. n i h .is);
     }
 
 -- ---- seven digits
@@ -173,55 +209,49 @@ then-small a b ha hb i h = go (decLt i 7)
 
 -- with a tab after them
 module _ {s : List ℕ} {p w : ℕ} (d : Word s p w) (c : Clear sevenHalvesAndByte sevenSixes (bitXor w 662082128748490800)) where
-  abbrev apart : ℕ → ℕ
-  apart i = bitXor (byteFrom s p i) (then-last 48 9 i)
+  abbrev bytes : ℕ → ℕ
+  bytes = byteFrom s p
 
-  bytes : (i : ℕ) → i < 8 → byteFrom s p i < 256
-  bytes i h = d .small (p + i)
-
-  clear : Clear (together 8 (then-last 240 255)) (together 8 (then-last 6 0)) (bitXor (together 8 (byteFrom s p)) (together 8 (then-last 48 9)))
+  parts : Parted bytes (then-last 48 9) (then-last 240 255) (then-last 6 0)
   unfolding together
-  clear = rw (d .is) at c
+  parts =
+      parted bytes (then-last 48 9) (then-last 240 255) (then-last 6 0) (λ i h. d .small (p + i))
+      (then-small 48 9 (omega arith) (omega arith)) (then-small 240 255 (omega arith) (omega arith)) (rw (d .is) at c)
 
-  apart-bytes : (i : ℕ) → i < 8 → apart i < 256
-  apart-bytes i h = apart-small (byteFrom s p) (then-last 48 9) (then-last 240 255) (then-last 6 0) bytes (then-small 48 9 (omega arith) (omega arith)) (then-small 240 255 (omega arith) (omega arith)) clear i h
+  under-each : (i : ℕ) → i < 7 → bitXor (bytes i) 48 < 16
+  under-each i h =
+      let b = rw (early 48 9 i h) at (parts .small i (omega arith)) in
+      under (bitXor (bytes i) 48) b (rw (early 48 9 i h, early 240 255 i h) at (parts .plain i (omega arith)))
 
-  plain-bytes : (i : ℕ) → i < 8 → bitAnd (apart i) (then-last 240 255 i) ≡ 0
-  plain-bytes i h = plain-each (byteFrom s p) (then-last 48 9) (then-last 240 255) (then-last 6 0) bytes (then-small 48 9 (omega arith) (omega arith)) (then-small 240 255 (omega arith) (omega arith)) clear i h
-
-  under-bytes : (i : ℕ) → i < 7 → bitXor (byteFrom s p i) 48 < 16
-  under-bytes i h = under (bitXor (byteFrom s p i) 48) (rw (early 48 9 i h) at (apart-bytes i (omega arith))) (rw (early 48 9 i h, early 240 255 i h) at (plain-bytes i (omega arith)))
-
-  last-none : bitXor (byteFrom s p 7) 9 ≡ 0
+  last-none : bitXor (bytes 7) 9 ≡ 0
   last-none =
-      let l : bitXor (byteFrom s p 7) 9 < 256 = apart-bytes 7 (omega arith) in
-      let e : bitXor (byteFrom s p 7) 9 % 256 ≡ 0 = sym (and-mask (bitXor (byteFrom s p 7) 9) 8) ∙ plain-bytes 7 (omega arith) in
+      let l : bitXor (bytes 7) 9 < 256 = parts .small 7 (omega arith) in
+      let e : bitXor (bytes 7) 9 % 256 ≡ 0 = sym (and-mask (bitXor (bytes 7) 9) 8) ∙ parts .plain 7 (omega arith) in
       omega arith
 
   pub tab-last : getD s (p + 7) 0 ≡ 9
-  tab-last = tab-byte (byteFrom s p 7) last-none
+  tab-last = tab-byte (bytes 7) last-none
 
-  room : (i : ℕ) → i < 8 → apart i + then-last 6 0 i < 256
+  room : (i : ℕ) → i < 8 → apart bytes (then-last 48 9) i + then-last 6 0 i < 256
   room i h = go (decLt i 7)
     where
-      go : Dec (i < 7) → apart i + then-last 6 0 i < 256
-      go (yes l) = rw (early 48 9 i l, early 6 0 i l) (omega (arith, under-bytes i l))
+      go : Dec (i < 7) → apart bytes (then-last 48 9) i + then-last 6 0 i < 256
+      go (yes l) = rw (early 48 9 i l, early 6 0 i l) (omega (arith, under-each i l))
       go (no l) =
           let e : i ≡ 7 = omega arith in
           rw e (omega (arith, last-none))
 
-  each : (i : ℕ) → i < 7 → (48 ≤ byteFrom s p i) × (byteFrom s p i ≤ 57) × (bitXor (byteFrom s p i) 48 ≡ byteFrom s p i - 48)
-  each i h =
-      let r = raised-each (byteFrom s p) (then-last 48 9) (then-last 240 255) (then-last 6 0) bytes (then-small 48 9 (omega arith) (omega arith)) (then-small 240 255 (omega arith) (omega arith)) clear room i (omega arith) in
-      digit-byte (byteFrom s p i) (omega (arith, under (bitXor (byteFrom s p i) 48 + 6) (omega (arith, under-bytes i h)) (rw (early 48 9 i h, early 240 255 i h, early 6 0 i h) at r)))
+  each : (i : ℕ) → i < 7 → Digit (bytes i)
+  each i h = nine-byte (bytes i) (under-each i h) (rw (early 48 9 i h, early 240 255 i h, early 6 0 i h) at (parts .raised room i (omega arith)))
 
   seven-is : sevenAfterZero (bitXor w 662082128748490800) ≡ together 8 (after (λ i. byteFrom s p i - 48))
   unfolding together after
   seven-is =
       ap (λ (n : ℕ). sevenAfterZero (bitXor n 662082128748490800)) (d .is)
-      ∙ ap sevenAfterZero (xor-each 8 (byteFrom s p) (then-last 48 9) bytes (then-small 48 9 (omega arith) (omega arith)))
-      ∙ last-off apart (λ i h. apart-bytes i (omega arith))
-      ∙ ap (λ (n : ℕ). n * 256 + 0) (same-each 7 apart (λ i. byteFrom s p i - 48) (λ i h. ap (bitXor (byteFrom s p i)) (early 48 9 i h) ∙ each i h .2))
+      ∙ ap sevenAfterZero (parts .is)
+      ∙ last-off (apart bytes (then-last 48 9)) (λ i h. parts .small i (omega arith))
+      ∙ ap (λ (n : ℕ). n * 256 + 0)
+      (same-each 7 (apart bytes (then-last 48 9)) (λ i. byteFrom s p i - 48) (λ i h. ap (bitXor (bytes i)) (early 48 9 i h) ∙ each i h .is))
 
   pub seven-and-tab : Seven s p (bitXor w 662082128748490800)
-  seven-and-tab = record { digits = record { low = λ i h. each i h .0; high = λ i h. each i h .1 }; is = seven-is }
+  seven-and-tab = record { digits = record { low = λ i h. each i h .low; high = λ i h. each i h .high }; is = seven-is }

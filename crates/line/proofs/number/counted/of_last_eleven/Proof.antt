@@ -20,7 +20,9 @@ returns c =
     let z = c .above-zero .result in
     let e : toZ w64 (ofZ w64 z) ≡ z = search needs in
     let r = c .before .before .before .before .before .reaches .ensures (c .before .before .before .before .if1 .taken) in
-    rw (e, c .above-zero .ensures) (K.counted 11 100000000000 _ y (record { inside = omega arith; ends = λ h. absurd (omega arith); digits = y .digits }) (omega arith) (omega arith) (omega arith))
+    rw (e, c .above-zero .ensures)
+    (K.counted 11 100000000000 _ y (record { inside = omega arith; ends = λ h. absurd (omega arith); digits = y .digits }) (omega arith) (omega arith)
+    (omega arith))
 
 pub of-last-eleven-spec : {M : Type 1} → statement M
 of-last-eleven-spec = tie.close (tie.spec (search needs) sub-if2 (search needs) above-zero-requires (search needs) returns (search needs) (λ c. search needs))

@@ -28,7 +28,9 @@ below-zero-requires : tie.Need-below-zero-requires
 below-zero-requires c κs = let y = c .before .twelve .ensures (c .if4 .taken) in omega (arith, y .says .less)
 
 add-t15 : tie.Need-add-t15
-add-t15 c = omega (arith, c .before .before .before .before .before .before .before .before .reaches .ensures (c .before .before .before .before .before .before .before .if1 .taken))
+add-t15 c =
+    let c4 = c .before .before .before .before in
+    omega (arith, c4 .before .before .before .before .reaches .ensures (c4 .before .before .before .if1 .taken))
 
 returns : tie.Need-returns
 returns c =
@@ -36,9 +38,15 @@ returns c =
     let y = c .before .before .twelve .ensures (c .before .if4 .taken) in
     let z = c .below-zero .result in
     let e : toZ w64 (ofZ w64 z) ≡ z = search needs in
-    let r = c .before .before .before .before .before .before .before .before .reaches .ensures (c .before .before .before .before .before .before .before .if1 .taken) in
+    let c4 = c .before .before .before .before in
+    let r = c4 .before .before .before .before .reaches .ensures (c4 .before .before .before .if1 .taken) in
     let t = c .before .before .before .if3 .taken in
-    rw (e, c .below-zero .ensures) (K.minus-counted 12 1000000000000 _ (omega arith) (c .before .before .before .before .before .if2 .taken) y (K.tabbed (omega arith) t (omega arith) y) (omega arith) (omega arith) (omega arith))
+    rw (e, c .below-zero .ensures)
+    (K.minus-counted 12 1000000000000 _ (omega arith) (c4 .before .if2 .taken) y (K.tabbed (omega arith) t (omega arith) y)
+    (omega arith) (omega arith) (omega arith))
 
 pub of-minus-twelve-spec : {M : Type 1} → statement M
-of-minus-twelve-spec = tie.close (tie.spec (search needs) shared-slice-read-if2 add-if3 shared-slice-read-if3 add-twelve twelve-requires below-zero-requires add-t15 returns (search needs) (λ c. search needs))
+of-minus-twelve-spec =
+    tie.close
+    (tie.spec (search needs) shared-slice-read-if2 add-if3 shared-slice-read-if3 add-twelve twelve-requires below-zero-requires add-t15 returns
+    (search needs) (λ c. search needs))

@@ -30,7 +30,10 @@ returns c =
     let e : toZ w64 (ofZ w64 z) ≡ z = search needs in
     let r = c .before .before .before .before .before .before .reaches .ensures (c .before .before .before .before .before .if1 .taken) in
     let t = c .before .before .before .if2 .taken in
-    rw (e, c .above-zero .ensures) (K.counted 12 1000000000000 _ y (record { inside = omega arith; ends = λ h. t; digits = y .digits }) (omega arith) (omega arith) (omega arith))
+    rw (e, c .above-zero .ensures)
+    (K.counted 12 1000000000000 _ y (record { inside = omega arith; ends = λ h. t; digits = y .digits }) (omega arith) (omega arith) (omega arith))
 
 pub of-twelve-spec : {M : Type 1} → statement M
-of-twelve-spec = tie.close (tie.spec (search needs) add-if2 shared-slice-read-if2 twelve-requires above-zero-requires add-t11 returns (search needs) (λ c. search needs))
+of-twelve-spec =
+    tie.close
+    (tie.spec (search needs) add-if2 shared-slice-read-if2 twelve-requires above-zero-requires add-t11 returns (search needs) (λ c. search needs))

@@ -18,8 +18,10 @@ returns-2 c = λ e. (
     let k = c .before .before .other-seven .ensures (c .before .if1 .left) in
     let y = W.seven-and-tab d k in
     let p = c .before .before .before .before .before .pre in
-    let l : 1000000 ≤ c .seven .result = leb-true _ _ e in
-    (record { inside = omega arith; ends = λ h. W.tab-last d k; digits = y .digits }, rw (c .seven .ensures) (S.seven-counted y (omega arith) (rw (c .seven .ensures) at l))))
+    let l : 1000000 ≤ c .seven .result = leb-true _ _ e in (
+      record { inside = omega arith; ends = λ h. W.tab-last d k; digits = y .digits },
+      rw (c .seven .ensures) (S.seven-counted y (omega arith) (rw (c .seven .ensures) at l)),
+    ))
 
 pub seven-alone-spec : {M : Type 1} → statement M
 seven-alone-spec = tie.close (tie.spec (search needs) (search needs) (λ c e. absurd (never e)) seven-requires returns-2)

@@ -18,7 +18,8 @@ returns-2 : tie.Need-returns-2
 returns-2 c =
     let z = c .before .before .before .before .before .before .before .args .z in
     let e : toZ w64 (ofZ w64 z) ≡ z = search needs in
-    T.named 22 (c .before .before .mostly-seven .ensures) (omega arith) (T.whole-above z _ _ (rw e at (c .before .before .before .size .ensures)) (rw e at (c .before .before .before .before .before .if1 .left)))
+    T.named 22 (c .before .before .mostly-seven .ensures) (omega arith)
+    (T.whole-above z _ _ (rw e at (c .before .before .before .size .ensures)) (rw e at (c .before .before .before .before .before .if1 .left)))
 
 pub epoch-spec : {M : Type 1} → statement M
 epoch-spec = tie.close (tie.spec (search needs) (search needs) returns (search needs) (search needs) (search needs) returns-2)

@@ -11,14 +11,24 @@ position-requires c κs =
     let r = c .before .before .before .realization in
     let l = c .before .before .before .before .before .before .before .label in
     let f = c .before .before .before .before .before .before .before .before .before .before .before .letter in
-    omega (arith, r .ensures .most, r .kept .0, l .ensures .most, l .kept .0, f .ensures .most, f .kept .0, c .before .before .before .before .before .before .before .before .before .before .before .before .before .before .pre)
+    omega (
+      arith,
+      r .ensures .most,
+      r .kept .0,
+      l .ensures .most,
+      l .kept .0,
+      f .ensures .most,
+      f .kept .0,
+      c .before .before .before .before .before .before .before .before .before .before .before .before .before .before .pre,
+    )
 
 returns : tie.Need-returns
 returns c =
     let c6 = c .before .before .before .before .before .before in
     let c14 = c6 .before .before .before .before .before .before .before .before in
     let s = c14 .before .before .before in
-    T.named 173 (T.after (c14 .letter .ensures) (T.after (c6 .before .before .before .before .label .ensures) (T.after (c6 .realization .ensures) (c .before .before .position .ensures)))) (omega arith)
+    T.named 173 (T.after (c14 .letter .ensures)
+    (T.after (c6 .before .before .before .before .label .ensures) (T.after (c6 .realization .ensures) (c .before .before .position .ensures)))) (omega arith)
     (T.point-put (pointOf (s .args .l) (s .args .r) (s .args .p)))
 
 pub point-spec : {M : Type 1} → statement M

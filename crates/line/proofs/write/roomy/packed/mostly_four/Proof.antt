@@ -12,4 +12,7 @@ returns-2 : tie.Need-returns-2
 returns-2 c = D.three-of-four (c .before .before .four-digits2 .ensures) (omega arith) (omega arith)
 
 pub mostly-four-spec : {M : Type 1} → statement M
-mostly-four-spec = tie.close (tie.spec (search needs) (search needs) returns (search needs) (search needs) (search needs) (search needs) returns-2 (search needs) (search needs) (λ c. search needs))
+mostly-four-spec =
+    tie.close
+    (tie.spec (search needs) (search needs) returns (search needs) (search needs) (search needs) (search needs) returns-2 (search needs)
+    (search needs) (λ c. search needs))

@@ -3,12 +3,10 @@ use Prim.Native.Nat.{ℕ, zero, suc, _+_, _*_, _-_, _^_, _≤_, _<_}
 use mathlib.Core.Path.{_≡_, refl, sym}
 use mathlib.Core.List.{List}
 use mathlib.Core.Bool.{Bool, true, false, not, _||_}
-use lib.Dec.{ltb}
 use lib.ListN.{length, getD}
 use native.Mathlib.Decide.{decLt}
 use native.Mathlib.Nat.{add-zero, mul-le-mul-right, pow-suc}
 use native.Mathlib.Omega.{arith}
-use borrow.Author.Tests.{ltb-false}
 use Rattle.line.specs.Reading.{Digits, Say, Carried}
 use Rattle.line.proofs.Numbers.{digit-on}
 
@@ -25,15 +23,6 @@ pub not-true : (a : Bool) → not a ≡ true → a ≡ false
 not-true false e = refl
 not-true true e = sym e
 
-pub one : (s : List ℕ) (p : ℕ) → (ltb (getD s p 0) 48 || ltb 57 (getD s p 0)) ≡ false → Digits 1 s p
-one s p e =
-    let a = ltb-false (getD s p 0) 48 (or-left (ltb (getD s p 0) 48) (ltb 57 (getD s p 0)) e) in
-    let b = ltb-false 57 (getD s p 0) (or-right (ltb (getD s p 0) 48) (ltb 57 (getD s p 0)) e) in
-    record {
-      low = λ i h. (let q : p ≡ p + i = omega arith in rw (← q) a);
-      high = λ i h. (let q : p ≡ p + i = omega arith in rw (← q) b);
-    }
-
 pub joined : (j k : ℕ) (s : List ℕ) (p : ℕ) → Digits j s p → Digits k s (p + j) → Digits (j + k) s p
 joined j k s p a b = record { low = λ i h. low i h (decLt i j); high = λ i h. high i h (decLt i j) }
   where
@@ -44,9 +33,6 @@ joined j k s p a b = record { low = λ i h. low i h (decLt i j); high = λ i h. 
     high : (i : ℕ) → i < j + k → Dec (i < j) → getD s (p + i) 0 ≤ 57
     high i h (yes l) = a .high i l
     high i h (no l) = let q : p + j + (i - j) ≡ p + i = omega arith in rw q at (b .high (i - j) (omega arith))
-
-pub either : {s : List ℕ} {p : ℕ} {a b : Bool} (j k : ℕ) → (a ≡ false → Digits j s p) → (b ≡ false → Digits k s (p + j)) → (a || b) ≡ false → Digits (j + k) s p
-either {s} {p} {a} {b} j k f g e = joined j k s p (f (or-left a b e)) (g (or-right a b e))
 
 pub later : (j k : ℕ) {s : List ℕ} {p : ℕ} → Digits (j + k) s p → Digits k s (p + j)
 later j k {s} {p} d =
@@ -75,22 +61,6 @@ both x y {j} {k} {s} {p} {v} {w} c d =
           let q : p + j + k ≡ p + (j + k) = omega arith in
           λ u n g. c .says a u n (d .says (a * x + v) u n (rw (e, q) g)));
     }
-
--- four bytes, with what each is above the digit 0 taken off once
-module _ (s : List ℕ) (p : ℕ) (h : p + 4 ≤ length s) (d : Digits 4 s p) where
-  pub least : 48 ≤ getD s p 0
-  least = rw add-zero at (d .low 0 (omega arith))
-
-  pub enough : 53328 ≤ getD s p 0 * 1000 + getD s (p + 1) 0 * 100 + getD s (p + 2) 0 * 10 + getD s (p + 3) 0
-  enough = omega (arith, least, d .low 1 (omega arith), d .low 2 (omega arith), d .low 3 (omega arith))
-
-  pub four-say : Say 4 10000 s p (getD s p 0 * 1000 + getD s (p + 1) 0 * 100 + getD s (p + 2) 0 * 10 + getD s (p + 3) 0 - 53328)
-  four-say =
-      let e : (((getD s p 0 - 48) * 10 + (getD s (p + 1) 0 - 48)) * 10 + (getD s (p + 2) 0 - 48)) * 10 + (getD s (p + 3) 0 - 48) ≡ getD s p 0 * 1000 + getD s (p + 1) 0 * 100 + getD s (p + 2) 0 * 10 + getD s (p + 3) 0 - 53328 = omega (arith, least, d .low 1 (omega arith), d .low 2 (omega arith), d .low 3 (omega arith)) in
-      rw e at
-      (both 1000 10
-      (both 100 10 (both 10 10 (digit s p (omega arith) (sooner 1 3 d)) (digit s (p + 1) (omega arith) (sooner 1 2 (later 1 3 d)))) (digit s (p + 2) (omega arith) (sooner 1 1 (later 2 2 d))))
-      (digit s (p + 3) (omega arith) (later 3 1 d)))
 
 -- ---- a first digit, and those after it
 pub unmoved : (s : List ℕ) (p a : ℕ) → a < 1000000000 → Carried s p a p a

@@ -8,6 +8,7 @@ pub mod Capped
 pub mod Faults
 pub mod Texts
 pub mod Packed
+pub mod Leading
 pub mod BareLines
 pub mod Compared
 pub mod Lengths
@@ -23,6 +24,7 @@ pub mod Back
 pub mod Ahead
 pub mod Counted
 pub mod Words
+pub mod Sums
 pub mod Unread
 pub mod InARow
 pub mod AsWritten

@@ -20,7 +20,7 @@ use Rattle.line.specs.Readers.{readPoint, datumPlace}
 use Rattle.line.specs.Reading.{Word}
 use Rattle.line.specs.Text.{decimal, integer, nameText, lineText, labelText, movedText, pointOf, pointText, wordBytes, Wrote, Put, Copied}
 use Rattle.line.proofs.AsWritten.{point-text, point-place}
-use Rattle.line.proofs.Packed as K
+use Rattle.line.proofs.Leading as K
 use Rattle.line.proofs.Texts as T
 use Rattle.line.proofs.Words as W
 use Rattle.line.proofs.WrittenNumbers.{written}
@@ -156,7 +156,7 @@ twice : (v : ℕ) → v / 4294967296 ≡ v / 65536 / 65536
 twice v = omega arith
 
 word-parts : (w a b c d e f g h : ℕ) → a < 256 → b < 256 → c < 256 → d < 256 → e < 256 → f < 256 → g < 256 → h < 256
-    → w ≡ a + b * 256 + c * 65536 + d * 16777216 + e * 4294967296 + f * 1099511627776 + g * 281474976710656 + h * 72057594037927936
+    → w ≡ h * 72057594037927936 + g * 281474976710656 + f * 1099511627776 + e * 4294967296 + d * 16777216 + c * 65536 + b * 256 + a
     → wordBytes w ≡ a ∷ b ∷ c ∷ d ∷ e ∷ f ∷ g ∷ h ∷ []
 word-parts w a b c d e f g h ha hb hc hd he hf hg hh q =
     let x6 = h * 256 + g in

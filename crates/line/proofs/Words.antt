@@ -1,195 +1,257 @@
--- Eight bytes in one number. Assumes nothing.
+-- Eight bytes in one number: which of its bits say that they are digits. Assumes nothing.
 use Prim.Native.Nat.{ℕ, zero, suc, _+_, _*_, _-_, _/_, _%_, _^_, _≤_, _<_}
 use mathlib.Core.Path.{_≡_, refl, sym, ap, _∙_}
 use mathlib.Core.List.{List}
-use lib.Bits.{bitAnd, and-block, and-mask, and-high, and-le-r}
+use lib.Bits.{bitAnd, bitOr, bitXor, and-block, and-mask, and-high, and-le-l, and-le-r, or-add-and, xor-block, xor-lt, xor-zero-r, xor-add-and}
+use lib.Dec.{ltb}
 use lib.ListN.{length, getD}
+use native.Mathlib.Decide.{decLt}
 use native.Mathlib.Nat.{add-zero, pow-suc}
 use native.Mathlib.Omega.{arith}
-use Rattle.line.specs.Reading.{together, byteFrom, Word, Digits, Say}
-use Rattle.line.proofs.Ahead as L
+use borrow.Author.Tests.{lt-ltb, le-ltb}
+use Rattle.refusal.specs.Order.{pick}
+use Rattle.line.specs.Reading.{together, byteFrom, Word, Digits, Clear, higherHalves, sixes, sevenHalvesAndByte, sevenSixes, sevenAfterZero}
 
-pub word-is : (s : List ℕ) (p : ℕ) → getD s p 0 + getD s (p + 1) 0 * 256 + getD s (p + 2) 0 * 65536 + getD s (p + 3) 0 * 16777216 + getD s (p + 4) 0 * 4294967296 + getD s (p + 5) 0 * 1099511627776 + getD s (p + 6) 0 * 281474976710656 + getD s (p + 7) 0 * 72057594037927936 ≡ together 8 (byteFrom s p)
+pub word-is : (s : List ℕ) (p : ℕ)
+    → getD s (p + 7) 0 * 72057594037927936
+    + getD s (p + 6) 0 * 281474976710656
+    + getD s (p + 5) 0 * 1099511627776
+    + getD s (p + 4) 0 * 4294967296
+    + getD s (p + 3) 0 * 16777216
+    + getD s (p + 2) 0 * 65536
+    + getD s (p + 1) 0 * 256
+    + getD s p 0
+    ≡ together 8 (byteFrom s p)
 unfolding together
 word-is s p = let e = add-zero p in rw e (omega arith)
 
--- eight numbers, the first lowest
-abbrev side : (a b c d e f g h : ℕ) → ℕ
-side a b c d e f g h = ((((((h * 256 + g) * 256 + f) * 256 + e) * 256 + d) * 256 + c) * 256 + b) * 256 + a
+-- numbers below 256, as far as k of them
+abbrev Bytes : ℕ → (ℕ → ℕ) → Type 0
+Bytes k f = (i : ℕ) → i < k → f i < 256
 
--- ---- are they digits?
--- the same byte k times: the higher half of each, the digit 0, 6
-unfoldable halves : ℕ → ℕ
-halves zero = 0
-halves (suc k) = halves k * 256 + 240
+further : {k : ℕ} {f : ℕ → ℕ} → Bytes (suc k) f → Bytes k (λ i. f (suc i))
+further b i h = b (suc i) (omega arith)
 
-unfoldable zeros : ℕ → ℕ
-zeros zero = 0
-zeros (suc k) = zeros k * 256 + 48
-
-unfoldable sixes : ℕ → ℕ
-sixes zero = 0
-sixes (suc k) = sixes k * 256 + 6
-
-split : (x a z : ℕ) → x * 256 + a ≡ z * 256 + 48 → a ≤ 240 → (x ≡ z) × (a ≡ 48)
-split x a z e h = (omega arith, omega arith)
-
-third : (b : ℕ) → b < 256 → b / 16 % 16 * 16 ≡ 48 → (48 ≤ b) × (b < 64)
-third b h e =
-    let l : b / 16 < 16 = omega arith in
-    let m : b / 16 % 16 ≡ b / 16 = omega arith in
-    let n : b / 16 ≡ 3 = omega arith in
-    (omega arith, omega arith)
-
--- a higher half that is 3
-higher : (k : ℕ) (f : ℕ → ℕ) → ((i : ℕ) → i < k → f i < 256) → bitAnd (together k f) (halves k) ≡ zeros k → (i : ℕ) → i < k → (48 ≤ f i) × (f i < 64)
-unfolding together halves zeros
-higher zero f b e i h = absurd (omega arith)
-higher (suc k) f b e zero h =
-    let q = split (bitAnd (together k (λ i. f (suc i))) (halves k)) (bitAnd (f 0) 240) (zeros k) (sym (and-block 8 (together k (λ i. f (suc i))) (halves k) (f 0) 240 (b 0 (omega arith)) (omega arith)) ∙ e) (and-le-r (f 0) 240) in
-    third (f 0) (b 0 (omega arith)) (sym (and-high (f 0) 4 4) ∙ q .1)
-higher (suc k) f b e (suc i) h =
-    let q = split (bitAnd (together k (λ i. f (suc i))) (halves k)) (bitAnd (f 0) 240) (zeros k) (sym (and-block 8 (together k (λ i. f (suc i))) (halves k) (f 0) 240 (b 0 (omega arith)) (omega arith)) ∙ e) (and-le-r (f 0) 240) in
-    higher k (λ i. f (suc i)) (λ i l. b (suc i) (omega arith)) (q .0) i (omega arith)
-
-side-is : (f : ℕ → ℕ) → together 8 f ≡ side (f 0) (f 1) (f 2) (f 3) (f 4) (f 5) (f 6) (f 7)
+-- ---- byte by byte
+and-each : (k : ℕ) (f m : ℕ → ℕ) → Bytes k f → Bytes k m → bitAnd (together k f) (together k m) ≡ together k (λ i. bitAnd (f i) (m i))
 unfolding together
-side-is f = omega arith
+and-each zero f m b c = refl
+and-each (suc k) f m b c =
+    and-block 8 (together k (λ i. f (suc i))) (together k (λ i. m (suc i))) (f 0) (m 0) (b 0 (omega arith)) (c 0 (omega arith))
+    ∙ ap (λ (n : ℕ). n * 256 + bitAnd (f 0) (m 0)) (and-each k (λ i. f (suc i)) (λ i. m (suc i)) (further b) (further c))
 
--- 6 more in each byte is still a number of eight bytes
-pub room : {s : List ℕ} {p w : ℕ} → Word s p w → bitAnd w 17361641481138401520 ≡ 3472328296227680304 → w < 4611686018427387904
-unfolding halves zeros
-room {s} {p} {w} d e =
-    let a = higher 8 (byteFrom s p) (λ i h. d .small (p + i)) (ap (λ (n : ℕ). bitAnd n 17361641481138401520) (sym (d .is)) ∙ e) 7 (omega arith) .1 in
-    omega (arith, a, d .is, side-is (byteFrom s p), d .small (p + 0), d .small (p + 1), d .small (p + 2), d .small (p + 3), d .small (p + 4), d .small (p + 5), d .small (p + 6))
-
-more : (k : ℕ) (f : ℕ → ℕ) → together k f + sixes k ≡ together k (λ i. f i + 6)
-unfolding together sixes
-more zero f = refl
-more (suc k) f = let e = more k (λ i. f (suc i)) in omega arith
-
-pub there : {s : List ℕ} {p w : ℕ} → Word s p w → bitAnd w 17361641481138401520 ≡ 3472328296227680304 → bitAnd (w + 434041037028460038) 17361641481138401520 ≡ 3472328296227680304 → Digits 8 s p
-unfolding halves zeros sixes
-there {s} {p} {w} d e f =
-    let a = higher 8 (byteFrom s p) (λ i h. d .small (p + i)) (ap (λ (n : ℕ). bitAnd n 17361641481138401520) (sym (d .is)) ∙ e) in
-    let q : w + 434041037028460038 ≡ together 8 (λ i. byteFrom s p i + 6) = ap (λ (n : ℕ). n + 434041037028460038) (d .is) ∙ more 8 (byteFrom s p) in
-    let b = higher 8 (λ i. byteFrom s p i + 6) (λ i h. omega (arith, a i h .1)) (ap (λ (n : ℕ). bitAnd n 17361641481138401520) (sym q) ∙ f) in
-    record { low = λ i h. a i h .0; high = λ i h. omega (arith, b i h .1) }
-
--- ---- what they say
-takes : (k : ℕ) (f : ℕ → ℕ) → ((i : ℕ) → i < k → 48 ≤ f i) → together k f ≡ together k (λ i. f i - 48) + zeros k
-unfolding together zeros
-takes zero f b = refl
-takes (suc k) f b =
-    let e = takes k (λ i. f (suc i)) (λ i h. b (suc i) (omega arith)) in
-    let l = b 0 (omega arith) in
-    omega arith
-
-bounded : (k : ℕ) (f : ℕ → ℕ) → ((i : ℕ) → i < k → f i ≤ 9) → together k f * 255 + 9 ≤ 9 * 256 ^ k
+xor-each : (k : ℕ) (f m : ℕ → ℕ) → Bytes k f → Bytes k m → bitXor (together k f) (together k m) ≡ together k (λ i. bitXor (f i) (m i))
 unfolding together
-bounded zero f b = omega arith
-bounded (suc k) f b =
-    let e = bounded k (λ i. f (suc i)) (λ i h. b (suc i) (omega arith)) in
+xor-each zero f m b c = refl
+xor-each (suc k) f m b c =
+    xor-block 8 (together k (λ i. f (suc i))) (together k (λ i. m (suc i))) (f 0) (m 0) (b 0 (omega arith)) (c 0 (omega arith))
+    ∙ ap (λ (n : ℕ). n * 256 + bitXor (f 0) (m 0)) (xor-each k (λ i. f (suc i)) (λ i. m (suc i)) (further b) (further c))
+
+add-each : (k : ℕ) (f x : ℕ → ℕ) → together k f + together k x ≡ together k (λ i. f i + x i)
+unfolding together
+add-each zero f x = refl
+add-each (suc k) f x = let e = add-each k (λ i. f (suc i)) (λ i. x (suc i)) in omega arith
+
+none-each : (k : ℕ) (f : ℕ → ℕ) → together k f ≡ 0 → (i : ℕ) → i < k → f i ≡ 0
+unfolding together
+none-each zero f e i h = absurd (omega arith)
+none-each (suc k) f e zero h = omega arith
+none-each (suc k) f e (suc i) h = none-each k (λ i. f (suc i)) (omega arith) i (omega arith)
+
+below : (k : ℕ) (f : ℕ → ℕ) → Bytes k f → together k f < 256 ^ k
+unfolding together
+below zero f b = omega arith
+below (suc k) f b =
+    let e = below k (λ i. f (suc i)) (further b) in
     let l = b 0 (omega arith) in
     let p = pow-suc 256 k in
     omega arith
 
-pub none-below : {s : List ℕ} {p w : ℕ} → Word s p w → Digits 8 s p → 3472328296227680304 ≤ w
-unfolding zeros
-none-below {s} {p} {w} d g = let e = takes 8 (byteFrom s p) (g .low) in omega (arith, d .is)
+pub same-each : (k : ℕ) (f g : ℕ → ℕ) → ((i : ℕ) → i < k → f i ≡ g i) → together k f ≡ together k g
+unfolding together
+same-each zero f g e = refl
+same-each (suc k) f g e = let q = same-each k (λ i. f (suc i)) (λ i. g (suc i)) (λ i h. e (suc i) (omega arith)) in let z = e 0 (omega arith) in omega arith
 
-digits-word : {s : List ℕ} {p w : ℕ} → Word s p w → Digits 8 s p → w - 3472328296227680304 ≡ together 8 (λ i. byteFrom s p i - 48)
-unfolding zeros
-digits-word {s} {p} {w} d g = let e = takes 8 (byteFrom s p) (g .low) in omega (arith, d .is)
+pub none-set : (a b : ℕ) → bitOr a b ≡ 0 → (a ≡ 0) × (b ≡ 0)
+none-set a b e = (omega (arith, or-add-and a b, and-le-l a b, and-le-r a b), omega (arith, or-add-and a b, and-le-l a b, and-le-r a b))
 
-pub digits-small : {s : List ℕ} {p w : ℕ} → Word s p w → Digits 8 s p → w - 3472328296227680304 ≤ 651061555542690057
-digits-small {s} {p} {w} d g =
-    let b = bounded 8 (λ i. byteFrom s p i - 48) (λ i h. omega (arith, g .high i h)) in
-    omega (arith, digits-word d g)
+-- ---- eight bytes, without the bits of others, that are clear
+abbrev apart : (ℕ → ℕ) → (ℕ → ℕ) → ℕ → ℕ
+apart f t i = bitXor (f i) (t i)
 
--- every second byte of four pairs of bytes
-second : (a b c d : ℕ) → a < 65536 → b < 65536 → c < 65536 → d < 65536 → bitAnd (((d * 65536 + c) * 65536 + b) * 65536 + a) 71777214294589695 ≡ ((d % 256 * 65536 + c % 256) * 65536 + b % 256) * 65536 + a % 256
-second a b c d ha hb hc hd =
-    let x = and-block 16 ((d * 65536 + c) * 65536 + b) 1095233372415 a 255 ha (omega arith) in
-    let y = and-block 16 (d * 65536 + c) 16711935 b 255 hb (omega arith) in
-    let z = and-block 16 d 255 c 255 hc (omega arith) in
-    x ∙ rw (y, z, and-mask a 8, and-mask b 8, and-mask c 8, and-mask d 8)
+abbrev ClearEach : (ℕ → ℕ) → (ℕ → ℕ) → Type 0
+ClearEach g m = (i : ℕ) → i < 8 → bitAnd (g i) (m i) ≡ 0
 
-low : (x y : ℕ) → y < 256 → (x * 256 + y) % 256 ≡ y
-low x y h = omega arith
+record Parted (f t m x : ℕ → ℕ) : Type 0 where
+  small : Bytes 8 (apart f t)
+  is : bitXor (together 8 f) (together 8 t) ≡ together 8 (apart f t)
+  plain : ClearEach (apart f t) m
+  raised : Bytes 8 (λ i. apart f t i + x i) → ClearEach (λ i. apart f t i + x i) m
 
-past : (x y : ℕ) → y < 256 → (x * 256 + y) / 256 ≡ x
-past x y h = omega arith
-
-low-pair : (x y : ℕ) → y < 65536 → (x * 65536 + y) % 65536 ≡ y
-low-pair x y h = omega arith
-
-past-pair : (x y : ℕ) → y < 65536 → (x * 65536 + y) / 65536 ≡ x
-past-pair x y h = omega arith
-
--- each digit with the one after it
-neighbours : (a b c d e f g h : ℕ) → side a b c d e f g h * 10 + ((((((h * 256 + g) * 256 + f) * 256 + e) * 256 + d) * 256 + c) * 256 + b) ≡ (((h * 10 * 256 + (g * 10 + h)) * 65536 + ((f * 10 + g) * 256 + (e * 10 + f))) * 65536 + ((d * 10 + e) * 256 + (c * 10 + d))) * 65536 + ((b * 10 + c) * 256 + (a * 10 + b))
-neighbours a b c d e f g h = omega arith
-
-pairs : (a b c d e f g h : ℕ) → a ≤ 9 → b ≤ 9 → c ≤ 9 → d ≤ 9 → e ≤ 9 → f ≤ 9 → g ≤ 9 → h ≤ 9 → bitAnd (side a b c d e f g h * 10 + side a b c d e f g h / 256) 71777214294589695 ≡ (((g * 10 + h) * 65536 + (e * 10 + f)) * 65536 + (c * 10 + d)) * 65536 + (a * 10 + b)
-pairs a b c d e f g h la lb lc ld le lf lg lh =
-    let n = past ((((((h * 256 + g) * 256 + f) * 256 + e) * 256 + d) * 256 + c) * 256 + b) a (omega (arith, la)) in
-    ap (λ (n : ℕ). bitAnd n 71777214294589695) (ap (λ (n : ℕ). side a b c d e f g h * 10 + n) n ∙ neighbours a b c d e f g h)
-    ∙ second ((b * 10 + c) * 256 + (a * 10 + b)) ((d * 10 + e) * 256 + (c * 10 + d)) ((f * 10 + g) * 256 + (e * 10 + f)) (h * 10 * 256 + (g * 10 + h)) (two b c a b lb lc la lb) (two d e c d ld le lc ld) (two f g e f lf lg le lf) (rw (add-zero (h * 10)) at (two h 0 g h lh (omega arith) lg lh))
-    ∙ rw (low (b * 10 + c) (a * 10 + b) (one a b la lb), low (d * 10 + e) (c * 10 + d) (one c d lc ld), low (f * 10 + g) (e * 10 + f) (one e f le lf), low (h * 10) (g * 10 + h) (one g h lg lh))
+parted : (f t m x : ℕ → ℕ) → Bytes 8 f → Bytes 8 t → Bytes 8 m → Clear (together 8 m) (together 8 x) (bitXor (together 8 f) (together 8 t)) → Parted f t m x
+parted f t m x bf bt bm c = record { small = small; is = is; plain = each (apart f t) small (sym is) (c .plain); raised = raised }
   where
-    one : (x y : ℕ) → x ≤ 9 → y ≤ 9 → x * 10 + y < 256
-    one x y hx hy = omega (arith, hx, hy)
+    small : Bytes 8 (apart f t)
+    small i h = xor-lt 8 (f i) (t i) (bf i h) (bt i h)
 
-    two : (x y z w : ℕ) → x ≤ 9 → y ≤ 9 → z ≤ 9 → w ≤ 9 → (x * 10 + y) * 256 + (z * 10 + w) < 65536
-    two x y z w hx hy hz hw = omega (arith, hx, hy, hz, hw)
+    is : bitXor (together 8 f) (together 8 t) ≡ together 8 (apart f t)
+    is = xor-each 8 f t bf bt
 
-past-two : (x b a : ℕ) → b < 65536 → a < 65536 → ((x * 65536 + b) * 65536 + a) / 4294967296 ≡ x
-past-two x b a hb ha = omega arith
+    each : (g : ℕ → ℕ) {n : ℕ} → Bytes 8 g → together 8 g ≡ n → bitAnd n (together 8 m) ≡ 0 → ClearEach g m
+    each g b e z = none-each 8 (λ i. bitAnd (g i) (m i)) (sym (and-each 8 g m b bm) ∙ ap (λ (n : ℕ). bitAnd n (together 8 m)) e ∙ z)
 
-beside : (a b c d : ℕ) → (((d * 65536 + c) * 65536 + b) * 65536 + a) * 100 + ((d * 65536 + c) * 65536 + b) ≡ ((d * 100 * 65536 + (c * 100 + d)) * 65536 + (b * 100 + c)) * 65536 + (a * 100 + b)
-beside a b c d = omega arith
+    raised : Bytes 8 (λ i. apart f t i + x i) → ClearEach (λ i. apart f t i + x i) m
+    raised b =
+        let e = ap (λ (n : ℕ). n + together 8 x) is ∙ add-each 8 (apart f t) x in
+        let l = below 8 (λ i. apart f t i + x i) b in
+        let q : together 8 (λ i. apart f t i + x i) ≡ (bitXor (together 8 f) (together 8 t) + together 8 x) % 2 ^ 64 = omega arith in
+        each (λ i. apart f t i + x i) b q (c .raised)
 
-abbrev fours : ℕ → ℕ
-fours x = x * 100 + x / 65536
+-- ---- one byte
+under : (b : ℕ) → b < 256 → bitAnd b 240 ≡ 0 → b < 16
+under b h e =
+    let q : b / 16 % 16 * 16 ≡ 0 = sym (and-high b 4 4) ∙ e in
+    let l : b / 16 < 16 = omega arith in
+    let m : b / 16 % 16 ≡ b / 16 = omega arith in
+    omega arith
 
-abbrev ends : ℕ → ℕ
-ends y = y % 65536 * 10000 + y / 4294967296 % 65536
+-- the digit 0's bits are 3 in the higher half
+third : (q : ℕ) → bitXor q 3 ≡ 0 → q ≡ 3
+third q e = omega (arith, xor-add-and q 3, and-le-l q 3, and-le-r q 3)
 
-last : (a b c d : ℕ) → a ≤ 99 → b ≤ 99 → c ≤ 99 → d ≤ 99 → ends (fours (((d * 65536 + c) * 65536 + b) * 65536 + a)) ≡ (a * 100 + b) * 10000 + (c * 100 + d)
-last a b c d ha hb hc hd =
-    let e = ap (λ (n : ℕ). (((d * 65536 + c) * 65536 + b) * 65536 + a) * 100 + n) (past-pair ((d * 65536 + c) * 65536 + b) a (omega (arith, ha))) ∙ beside a b c d in
-    ap ends e
-    ∙ rw (low-pair ((d * 100 * 65536 + (c * 100 + d)) * 65536 + (b * 100 + c)) (a * 100 + b) (small a b ha hb), past-two (d * 100 * 65536 + (c * 100 + d)) (b * 100 + c) (a * 100 + b) (small b c hb hc) (small a b ha hb), low-pair (d * 100) (c * 100 + d) (small c d hc hd))
+split : (b : ℕ) → b ≡ b / 16 * 16 + b % 16
+split b = omega arith
+
+apart-byte : (b : ℕ) → bitXor b 48 ≡ bitXor (b / 16) 3 * 16 + b % 16
+apart-byte b =
+    ap (λ (n : ℕ). bitXor n 48) (split b)
+    ∙ xor-block 4 (b / 16) 3 (b % 16) 0 (omega arith) (omega arith)
+    ∙ ap (λ (n : ℕ). bitXor (b / 16) 3 * 16 + n) (xor-zero-r (b % 16))
+
+-- a byte that is a digit, and its number
+pub record Digit (b : ℕ) : Type 0 where
+  pub low : 48 ≤ b
+  pub high : b ≤ 57
+  pub is : bitXor b 48 ≡ b - 48
+
+digit-byte : (b : ℕ) → bitXor b 48 ≤ 9 → Digit b
+digit-byte b h =
+    let e = apart-byte b in
+    let z : bitXor (b / 16) 3 ≡ 0 = omega arith in
+    let q = third (b / 16) z in
+    record { low = omega arith; high = omega arith; is = omega arith }
+
+-- below 16, and still with 6 more
+nine-byte : (b : ℕ) → bitXor b 48 < 16 → bitAnd (bitXor b 48 + 6) 240 ≡ 0 → Digit b
+nine-byte b l e = digit-byte b (omega (arith, under (bitXor b 48 + 6) (omega arith) e))
+
+tab-byte : (b : ℕ) → bitXor b 9 ≡ 0 → b ≡ 9
+tab-byte b e = omega (arith, xor-add-and b 9, and-le-l b 9, and-le-r b 9)
+
+-- ---- eight digits
+-- the digits from p on, each in a byte of d
+pub record Spelt (s : List ℕ) (p d : ℕ) : Type 0 where
+  pub digits : Digits 8 s p
+  pub is : d ≡ together 8 (λ i. byteFrom s p i - 48)
+
+pub spelt : {s : List ℕ} {p w : ℕ} → Word s p w → Clear higherHalves sixes (bitXor w 3472328296227680304) → Spelt s p (bitXor w 3472328296227680304)
+unfolding together
+spelt {s} {p} {w} d c =
+    let f = byteFrom s p in
+    let k = parted f (λ i. 48) (λ i. 240) (λ i. 6) (λ i h. d .small (p + i)) (λ i h. omega arith) (λ i h. omega arith) (rw (d .is) at c) in
+    let u : (i : ℕ) → i < 8 → bitXor (byteFrom s p i) 48 < 16 = λ i h. under (bitXor (byteFrom s p i) 48) (k .small i h) (k .plain i h) in
+    let n : (i : ℕ) → i < 8 → Digit (byteFrom s p i) = λ i h. nine-byte (byteFrom s p i) (u i h) (k .raised (λ j l. omega (arith, u j l)) i h) in
+    record {
+      digits = record { low = λ i h. n i h .low; high = λ i h. n i h .high };
+      is = ap (λ (n : ℕ). bitXor n 3472328296227680304) (d .is) ∙ k .is ∙ same-each 8 (apart f (λ i. 48)) (λ i. byteFrom s p i - 48) (λ i h. n i h .is);
+    }
+
+-- ---- seven digits
+-- a 0 in front
+unfoldable pub after : (ℕ → ℕ) → ℕ → ℕ
+after g zero = 0
+after g (suc i) = g i
+
+pub record Seven (s : List ℕ) (p d : ℕ) : Type 0 where
+  pub digits : Digits 7 s p
+  pub is : sevenAfterZero d ≡ together 8 (after (λ i. byteFrom s p i - 48))
+
+top-off : (x y : ℕ) → y < 72057594037927936 → (x * 72057594037927936 + y) % 72057594037927936 ≡ y
+top-off x y h = omega arith
+
+last-off : (g : ℕ → ℕ) → ((i : ℕ) → i < 7 → g i < 256) → sevenAfterZero (together 8 g) ≡ together 8 (after g)
+unfolding together after
+last-off g b =
+    let e : together 8 g ≡ g 7 * 72057594037927936 + together 7 g = omega arith in
+    let q = top-off (g 7) (together 7 g) (below 7 g b) in
+    ap (λ (n : ℕ). n % 72057594037927936 * 256) e ∙ ap (λ (n : ℕ). n * 256) q ∙ sym (add-zero (together 7 g * 256))
+
+pub first-seven : {s : List ℕ} {p d : ℕ} → Spelt s p d → Seven s p d
+first-seven {s} {p} {d} y =
+    record {
+      digits = record { low = λ i h. y .digits .low i (omega arith); high = λ i h. y .digits .high i (omega arith) };
+      is = ap sevenAfterZero (y .is) ∙ last-off (λ i. byteFrom s p i - 48) (λ i h. omega (arith, y .digits .high i (omega arith)));
+    }
+
+-- a number seven times, and another
+abbrev then-last : ℕ → ℕ → ℕ → ℕ
+then-last a b i = pick (ltb i 7) a b
+
+early : (a b i : ℕ) → i < 7 → then-last a b i ≡ a
+early a b i h = rw (lt-ltb i 7 h)
+
+then-small : (a b : ℕ) → a < 256 → b < 256 → (i : ℕ) → i < 8 → then-last a b i < 256
+then-small a b ha hb i h = go (decLt i 7)
   where
-    small : (x y : ℕ) → x ≤ 99 → y ≤ 99 → x * 100 + y < 65536
-    small x y hx hy = omega (arith, hx, hy)
+    go : Dec (i < 7) → then-last a b i < 256
+    go (yes l) = rw (lt-ltb i 7 l) ha
+    go (no l) = rw (le-ltb i 7 (omega arith)) hb
 
-abbrev byPairs : ℕ → ℕ
-byPairs u = bitAnd (u * 10 + u / 256) 71777214294589695
+-- with a tab after them
+module _ {s : List ℕ} {p w : ℕ} (d : Word s p w) (c : Clear sevenHalvesAndByte sevenSixes (bitXor w 662082128748490800)) where
+  abbrev bytes : ℕ → ℕ
+  bytes = byteFrom s p
 
--- eight digits by pairs
-of-digits : (a b c d e f g h : ℕ) → a ≤ 9 → b ≤ 9 → c ≤ 9 → d ≤ 9 → e ≤ 9 → f ≤ 9 → g ≤ 9 → h ≤ 9 → ends (fours (byPairs (side a b c d e f g h))) ≡ ((a * 10 + b) * 100 + (c * 10 + d)) * 10000 + ((e * 10 + f) * 100 + (g * 10 + h))
-of-digits a b c d e f g h la lb lc ld le lf lg lh =
-    ap (λ (n : ℕ). ends (fours n)) (pairs a b c d e f g h la lb lc ld le lf lg lh)
-    ∙ last (a * 10 + b) (c * 10 + d) (e * 10 + f) (g * 10 + h) (most a b la lb) (most c d lc ld) (most e f le lf) (most g h lg lh)
-  where
-    most : (x y : ℕ) → x ≤ 9 → y ≤ 9 → x * 10 + y ≤ 99
-    most x y hx hy = omega (arith, hx, hy)
+  parts : Parted bytes (then-last 48 9) (then-last 240 255) (then-last 6 0)
+  unfolding together
+  parts =
+      parted bytes (then-last 48 9) (then-last 240 255) (then-last 6 0) (λ i h. d .small (p + i))
+      (then-small 48 9 (omega arith) (omega arith)) (then-small 240 255 (omega arith) (omega arith)) (rw (d .is) at c)
 
--- four digits, with what each is above the digit 0 taken off once
-four-is : (a b c d : ℕ) → 48 ≤ a → 48 ≤ b → 48 ≤ c → 48 ≤ d → ((a - 48) * 10 + (b - 48)) * 100 + ((c - 48) * 10 + (d - 48)) ≡ a * 1000 + b * 100 + c * 10 + d - 53328
-four-is a b c d ha hb hc hd = omega arith
+  under-each : (i : ℕ) → i < 7 → bitXor (bytes i) 48 < 16
+  under-each i h =
+      let b = rw (early 48 9 i h) at (parts .small i (omega arith)) in
+      under (bitXor (bytes i) 48) b (rw (early 48 9 i h, early 240 255 i h) at (parts .plain i (omega arith)))
 
-pub value : {s : List ℕ} {p w : ℕ} → p + 8 ≤ length s → Word s p w → Digits 8 s p → Say 8 100000000 s p (ends (fours (byPairs (w - 3472328296227680304))))
-value {s} {p} {w} h d g =
-    let n : (i : ℕ) → i < 8 → byteFrom s p i - 48 ≤ 9 = λ i l. omega (arith, g .high i l) in
-    let q = ap (λ (m : ℕ). ends (fours (byPairs m))) (digits-word d g ∙ side-is (λ i. byteFrom s p i - 48)) in
-    let v = of-digits _ _ _ _ _ _ _ _ (n 0 (omega arith)) (n 1 (omega arith)) (n 2 (omega arith)) (n 3 (omega arith)) (n 4 (omega arith)) (n 5 (omega arith)) (n 6 (omega arith)) (n 7 (omega arith)) in
-    let x = four-is (byteFrom s p 0) (byteFrom s p 1) (byteFrom s p 2) (byteFrom s p 3) (g .low 0 (omega arith)) (g .low 1 (omega arith)) (g .low 2 (omega arith)) (g .low 3 (omega arith)) in
-    let y = four-is (byteFrom s p 4) (byteFrom s p 5) (byteFrom s p 6) (byteFrom s p 7) (g .low 4 (omega arith)) (g .low 5 (omega arith)) (g .low 6 (omega arith)) (g .low 7 (omega arith)) in
-    let z : p + 0 ≡ p = add-zero p in
-    let a : p + 4 + 1 ≡ p + 5 = omega arith in
-    let b : p + 4 + 2 ≡ p + 6 = omega arith in
-    let c : p + 4 + 3 ≡ p + 7 = omega arith in
-    rw (q, v, x, y, z) (rw (a, b, c) at (L.both 10000 10000 (L.four-say s p (omega arith) (L.sooner 4 4 g)) (L.four-say s (p + 4) (omega arith) (L.later 4 4 g))))
+  last-none : bitXor (bytes 7) 9 ≡ 0
+  last-none =
+      let l : bitXor (bytes 7) 9 < 256 = parts .small 7 (omega arith) in
+      let e : bitXor (bytes 7) 9 % 256 ≡ 0 = sym (and-mask (bitXor (bytes 7) 9) 8) ∙ parts .plain 7 (omega arith) in
+      omega arith
+
+  pub tab-last : getD s (p + 7) 0 ≡ 9
+  tab-last = tab-byte (bytes 7) last-none
+
+  room : (i : ℕ) → i < 8 → apart bytes (then-last 48 9) i + then-last 6 0 i < 256
+  room i h = go (decLt i 7)
+    where
+      go : Dec (i < 7) → apart bytes (then-last 48 9) i + then-last 6 0 i < 256
+      go (yes l) = rw (early 48 9 i l, early 6 0 i l) (omega (arith, under-each i l))
+      go (no l) =
+          let e : i ≡ 7 = omega arith in
+          rw e (omega (arith, last-none))
+
+  each : (i : ℕ) → i < 7 → Digit (bytes i)
+  each i h = nine-byte (bytes i) (under-each i h) (rw (early 48 9 i h, early 240 255 i h, early 6 0 i h) at (parts .raised room i (omega arith)))
+
+  seven-is : sevenAfterZero (bitXor w 662082128748490800) ≡ together 8 (after (λ i. byteFrom s p i - 48))
+  unfolding together after
+  seven-is =
+      ap (λ (n : ℕ). sevenAfterZero (bitXor n 662082128748490800)) (d .is)
+      ∙ ap sevenAfterZero (parts .is)
+      ∙ last-off (apart bytes (then-last 48 9)) (λ i h. parts .small i (omega arith))
+      ∙ ap (λ (n : ℕ). n * 256 + 0)
+      (same-each 7 (apart bytes (then-last 48 9)) (λ i. byteFrom s p i - 48) (λ i h. ap (bitXor (bytes i)) (early 48 9 i h) ∙ each i h .is))
+
+  pub seven-and-tab : Seven s p (bitXor w 662082128748490800)
+  seven-and-tab = record { digits = record { low = λ i h. each i h .low; high = λ i h. each i h .high }; is = seven-is }

@@ -1,9 +1,10 @@
 -- How the code walks along a line: a reader is handed the place where a field begins, and tells the place where the next one begins.
-use Prim.Native.Nat.{ℕ, zero, suc, _+_, _*_, _^_, _≤_, _<_, min}
+use Prim.Native.Nat.{ℕ, zero, suc, _+_, _*_, _-_, _/_, _%_, _^_, _≤_, _<_, min}
 use mathlib.Core.Path.{_≡_}
 use mathlib.Core.List.{List, [], _∷_}
 use mathlib.Core.Bool.{true, false}
 use mathlib.Core.Option.{Option, none, some}
+use lib.Bits.{bitAnd}
 use lib.Dec.{leb}
 use lib.IntN.{ℤ, pos, negsuc, negℤ}
 use lib.ListN.{length, getD, take, drop}
@@ -105,10 +106,53 @@ pub record Word (s : List ℕ) (p w : ℕ) : Type 0 where
   pub is : w ≡ together 8 (byteFrom s p)
   pub small : (i : ℕ) → getD s i 0 < 256
 
--- a field of k digits from place p on, with a tab after it
+-- a number that has no bit of the mask, and has none with `more` added, as eight bytes hold it
+pub record Clear (mask more d : ℕ) : Type 0 where
+  pub plain : bitAnd d mask ≡ 0
+  pub raised : bitAnd ((d + more) % 2 ^ 64) mask ≡ 0
+
+-- of eight bytes the higher half of each, and 6 in each; the same of seven, with the whole of the eighth, and nothing in it
+abbrev pub higherHalves : ℕ
+higherHalves = 17361641481138401520
+
+abbrev pub sixes : ℕ
+sixes = 434041037028460038
+
+abbrev pub sevenHalvesAndByte : ℕ
+sevenHalvesAndByte = 18442505391707320560
+
+abbrev pub sevenSixes : ℕ
+sevenSixes = 1695472800892422
+
+-- 9 in each of eight bytes
+abbrev pub nines : ℕ
+nines = 651061555542690057
+
+-- eight digits, each in a byte: each first of two with the second as a number of up to 99, in two bytes, and two of these as one of up to 9999
+unfoldable pub pairSums : ℕ → ℕ
+pairSums d = bitAnd (d * 10 + d / 256) 71777214294589695
+
+unfoldable pub fourSums : ℕ → ℕ
+fourSums d = pairSums d * 100 + pairSums d / 65536
+
+-- of these the number of the first four digits, and that of the last
+abbrev pub firstFour : ℕ → ℕ
+firstFour d = fourSums d % 65536
+
+abbrev pub lastFour : ℕ → ℕ
+lastFour d = fourSums d / 4294967296 % 65536
+
+abbrev pub eightOf : ℕ → ℕ
+eightOf d = firstFour d * 10000 + lastFour d
+
+-- the first seven of eight digits, after a 0
+abbrev pub sevenAfterZero : ℕ → ℕ
+sevenAfterZero d = d % 72057594037927936 * 256
+
+-- a field of k digits from place p on: a tab comes after it, or the line's end
 pub record Alone (k : ℕ) (s : List ℕ) (p : ℕ) : Type 0 where
-  pub inside : p + k < length s
-  pub tab : getD s (p + k) 0 ≡ tab
+  pub inside : p + k ≤ length s
+  pub ends : p + k < length s → getD s (p + k) 0 ≡ tab
   pub digits : Digits k s p
 
 -- the byte at p is not the digit 0
@@ -123,6 +167,13 @@ Onto s p a q b = (v next : ℕ) → Got s capped (digits b) q v next → Got s c
 pub record Say (k scale : ℕ) (s : List ℕ) (p v : ℕ) : Type 0 where
   pub less : v < scale
   pub says : (a : ℕ) → Onto s p a (p + k) (a * scale + v)
+
+-- they are digits, the first of them no 0, and say v
+pub record Counted (k scale : ℕ) (s : List ℕ) (p v : ℕ) : Type 0 where
+  pub digits : Digits k s p
+  pub led : Led s p
+  pub some : 0 < v
+  pub says : Say k scale s p v
 
 pub record Carried (s : List ℕ) (p a q b : ℕ) : Type 0 where
   pub same : Onto s p a q b

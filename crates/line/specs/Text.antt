@@ -157,12 +157,12 @@ pub record Further (n r : ℕ) : Type 0 where
   pub four : 1000 ≤ n → r ≡ 3
   pub most : r ≤ 3
 
--- a text of at most four bytes, and up to three bytes after it that what follows it takes away
-pub record Begun (l : List ℕ) (at : ℕ) (vs m : List ℕ) (r : ℕ) : Type 0 where
+-- a text of at most k bytes, and up to j bytes after it that what follows it takes away
+pub record Begun (k j : ℕ) (l : List ℕ) (at : ℕ) (vs m : List ℕ) (r : ℕ) : Type 0 where
   pub place : r ≡ at + length vs
-  pub most : length vs ≤ 4
+  pub most : length vs ≤ k
   pub size : length m ≡ length l
-  pub on : (ws : List ℕ) → 3 ≤ length ws → sets m r ws ≡ sets l at (vs ++ ws)
+  pub on : (ws : List ℕ) → j ≤ length ws → sets m r ws ≡ sets l at (vs ++ ws)
 
 -- 32 bytes of a line can stand for those before a place: there are so many, and what follows takes away what is too much
 pub record Copied (line : List ℕ) (place : ℕ) (p : Position) : Type 0 where

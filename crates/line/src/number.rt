@@ -2,15 +2,18 @@
 // which no range reaches, so that a number too large is told from a bad one and nothing wraps.
 use crate::field::closed;
 use crate::field::nowhere;
+use crate::number::words::ZEROS;
+use crate::number::words::eight;
+use crate::number::words::other_eight;
+use crate::number::words::word;
 ghost use mathlib.Core.Path.{_≡_};
-ghost use mathlib.Core.Bool.{false};
-ghost use Prim.Native.Nat.{_+_, _≤_, _<_};
-ghost use lib.ListN.{length};
+ghost use Prim.Native.Nat.{_≤_, _<_};
 ghost use lib.IntN.{pos, negℤ};
 ghost use Rattle.line.specs.Number.{digits, plain, numberOf};
-ghost use Rattle.line.specs.Reading.{Got, capped, cappedZ, cap, Long, Sized, Digits, Word, Onto, Say, Carried};
+ghost use Rattle.line.specs.Reading.{Got, capped, cappedZ, cap, Long, Sized, Onto, Carried};
 
 pub mod counted;
+pub(crate) mod words;
 
 const CAP: u64 = 10000000000000;
 // One digit more on a number below this is still far from wrapping.
@@ -21,15 +24,6 @@ const MINUS: u8 = 45;
 const ZERO: u8 = 48;
 
 const NINE: u8 = 57;
-
-// The digit 0 in each of eight bytes; 6 in each; the higher half of each; and every second byte.
-const ZEROS: u64 = 3472328296227680304;
-
-const SIXES: u64 = 434041037028460038;
-
-const HIGHER_HALVES: u64 = 17361641481138401520;
-
-const EVERY_SECOND: u64 = 71777214294589695;
 
 // A number with its sign, and where the next field begins.
 pub struct Integer {
@@ -72,71 +66,6 @@ fn rest(s: &[u8], at: usize) -> usize
     closed(s, i)
 }
 
-// Is one of four bytes no digit? With `|` and not `||`: no branch, so the compiler compares them side by side.
-fn other_four(s: &[u8], at: usize) -> bool
-    requires { ⌜ at + 4 ≤ length (now s) ⌝ }
-    ensures { λ r. ⌜ (r ≡ false → Digits 4 (now (s .entry)) at) ⌝ }
-{
-    let a = s[at];
-    let b = s[at + 1];
-    let c = s[at + 2];
-    let d = s[at + 3];
-    ((a < ZERO) | (NINE < a))
-        | ((b < ZERO) | (NINE < b))
-        | ((c < ZERO) | (NINE < c))
-        | ((d < ZERO) | (NINE < d))
-}
-
-// Eight bytes as one number, the first lowest: one load in the compiled code.
-pub(crate) fn word(s: &[u8], at: usize) -> u64
-    requires { ⌜ at + 8 ≤ length (now s) ⌝ }
-    ensures { λ r. ⌜ Word (now (s .entry)) at r ⌝ }
-{
-    wide(s[at])
-        + wide(s[at + 1]) * 256
-        + wide(s[at + 2]) * 65536
-        + wide(s[at + 3]) * 16777216
-        + wide(s[at + 4]) * 4294967296
-        + wide(s[at + 5]) * 1099511627776
-        + wide(s[at + 6]) * 281474976710656
-        + wide(s[at + 7]) * 72057594037927936
-}
-
-// Is one of eight bytes no digit? A digit has 3 in its higher half, and still has with 6 more.
-fn other_eight(s: &[u8], at: usize) -> bool
-    requires { ⌜ at + 8 ≤ length (now s) ⌝ }
-    ensures { λ r. ⌜ (r ≡ false → Digits 8 (now (s .entry)) at) ⌝ }
-{
-    let w = word(s, at);
-    if w & HIGHER_HALVES != ZEROS {
-        return true;
-    }
-    (w + SIXES) & HIGHER_HALVES != ZEROS
-}
-
-// What four digits say: what each byte is above the digit 0 is taken off once.
-fn four(s: &[u8], at: usize) -> u64
-    requires { ⌜ (at + 4 ≤ length (now s)) × Digits 4 (now s) at ⌝ }
-    ensures { λ r. ⌜ Say 4 10000 (now (s .entry)) at r ⌝ }
-{
-    let a = wide(s[at]);
-    let b = wide(s[at + 1]);
-    let c = wide(s[at + 2]);
-    let d = wide(s[at + 3]);
-    a * 1000 + b * 100 + c * 10 + d - 53328
-}
-
-// What eight digits say: side by side in one number, two become one of up to 99, then two of these one of up to 9999.
-fn eight(s: &[u8], at: usize) -> u64
-    requires { ⌜ (at + 8 ≤ length (now s)) × Digits 8 (now s) at ⌝ }
-    ensures { λ r. ⌜ Say 8 100000000 (now (s .entry)) at r ⌝ }
-{
-    let digits = word(s, at) - ZEROS;
-    let pairs = (digits * 10 + digits / 256) & EVERY_SECOND;
-    let fours = pairs * 100 + pairs / 65536;
-    fours % 65536 * 10000 + fours / 4294967296 % 65536
-}
-
 // The digits from `at` on, after a first digit: eight of them at once where there are eight, else none.
 fn ahead(s: &[u8], at: usize, first: u64) -> Natural
     requires { ⌜ first < 10 ⌝ }
@@ -144,9 +73,10 @@ fn ahead(s: &[u8], at: usize, first: u64) -> Natural
 {
     if 8 <= s.len() {
         if at <= s.len() - 8 {
-            if !other_eight(s, at) {
+            let d = word(s, at) ^ ZEROS;
+            if !other_eight(d) {
                 return Natural {
-                    value: first * 100000000 + eight(s, at),
+                    value: first * 100000000 + eight(d),
                     next: at + 8,
                 };
             }

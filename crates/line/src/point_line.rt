@@ -4,10 +4,12 @@ use crate::PointLine;
 use crate::field::body_end;
 use crate::field::letter;
 use crate::name::name;
+use crate::number::counted::of_last_eleven;
+use crate::number::counted::of_minus_twelve;
 use crate::number::counted::of_one;
 use crate::number::counted::of_seven;
+use crate::number::counted::of_twelve;
 use crate::number::counted::of_two;
-use crate::number::number;
 use crate::second_look::fault_of;
 ghost use mathlib.Core.Path.{_≡_};
 ghost use Rattle.line.specs.Forms.{pointForm};
@@ -33,9 +35,9 @@ fn point_fields(s: &[u8]) -> PointFields
     let order = of_one(s, issue.next);
     let datum = of_one(s, order.next);
     let epoch = of_seven(s, datum.next);
-    let x = number(s, epoch.next);
-    let y = number(s, x.next);
-    let z = number(s, y.next);
+    let x = of_minus_twelve(s, epoch.next);
+    let y = of_twelve(s, x.next);
+    let z = of_last_eleven(s, y.next);
     PointFields {
         point: chain::Point {
             label: chain::Label {

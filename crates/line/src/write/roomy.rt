@@ -8,6 +8,8 @@ use crate::write::roomy::packed::copied;
 use crate::write::roomy::packed::eight_digits;
 use crate::write::roomy::packed::four_digits;
 use crate::write::roomy::packed::leading;
+use crate::write::roomy::packed::mostly_four;
+use crate::write::roomy::packed::seven_digits;
 use crate::write::size;
 use crate::write::wide;
 ghost use mathlib.Core.List.{[], _∷_, _++_};
@@ -16,6 +18,10 @@ ghost use lib.ListN.{length, take};
 ghost use Rattle.line.specs.Text.{decimal, integer, letters, nameText, pointText, movedText, projectedText, refusalText, Put, Copied, two, signOf};
 
 mod packed;
+
+const MILLION: u64 = 1000000;
+
+const TEN_MILLION: u64 = 10000000;
 
 const HUNDRED_MILLION: u64 = 100000000;
 
@@ -80,7 +86,7 @@ fn long(out: &mut [u8], at: usize, n: u64) -> usize
     requires { ⌜ (100000000 ≤ n) × (n < 1000000000000) × (at + 20 ≤ length (now out)) ⌝ }
     ensures { λ r. ⌜ Put 20 (now (out .entry)) at (decimal n) (now (out .exit)) r ⌝ }
 {
-    let a = leading(out, at, n / HUNDRED_MILLION);
+    let a = mostly_four(out, at, n / HUNDRED_MILLION);
     eight_digits(out, a, n % HUNDRED_MILLION)
 }
 
@@ -125,6 +131,32 @@ fn number(out: &mut [u8], at: usize, z: i64, after: u8) -> usize
     let a = sign(out, at, z);
     let b = mostly_one(out, a, size(z));
     put(out, b, after)
+}
+
+// Any number, and the byte after it; an epoch mostly has seven digits.
+fn mostly_seven(out: &mut [u8], at: usize, n: u64, after: u8) -> usize
+    requires { ⌜ at + 21 ≤ length (now out) ⌝ }
+    ensures { λ r. ⌜ Put 21 (now (out .entry)) at (decimal n ++ (after ∷ [])) (now (out .exit)) r ⌝ }
+{
+    if MILLION <= n {
+        if n < TEN_MILLION {
+            let a = seven_digits(out, at, n);
+            return put(out, a, after);
+        }
+    }
+    let a = digits(out, at, n);
+    put(out, a, after)
+}
+
+// An epoch, and the byte after it.
+fn epoch(out: &mut [u8], at: usize, z: i64, after: u8) -> usize
+    requires { ⌜ at + 22 ≤ length (now out) ⌝ }
+    ensures { λ r. ⌜ Put 22 (now (out .entry)) at (integer z ++ (after ∷ [])) (now (out .exit)) r ⌝ }
+{
+    if z < 0 {
+        return number(out, at, z, after);
+    }
+    mostly_seven(out, at, size(z), after)
 }
 
 // The bytes of one word of a name, up to a zero byte.
@@ -184,6 +216,15 @@ fn label(out: &mut [u8], at: usize, l: chain::Label) -> usize
     two_numbers(out, a, l.issue, l.order, TAB)
 }
 
+// Datum, epoch.
+fn realization(out: &mut [u8], at: usize, r: chain::Realization) -> usize
+    requires { ⌜ at + 44 ≤ length (now out) ⌝ }
+    ensures { λ e. ⌜ Put 44 (now (out .entry)) at ((integer (r .datum) ++ (9 ∷ [])) ++ (integer (r .epoch) ++ (9 ∷ []))) (now (out .exit)) e ⌝ }
+{
+    let a = number(out, at, r.datum, TAB);
+    epoch(out, a, r.epoch, TAB)
+}
+
 // X, Y, Z.
 fn position(out: &mut [u8], at: usize, p: chain::Position) -> usize
     requires { ⌜ at + 66 ≤ length (now out) ⌝ }
@@ -198,7 +239,7 @@ fn moved(out: &mut [u8], at: usize, r: chain::Realization, p: chain::Position) -
     requires { ⌜ at + 110 ≤ length (now out) ⌝ }
     ensures { λ e. ⌜ Put 110 (now (out .entry)) at (movedText r p) (now (out .exit)) e ⌝ }
 {
-    let a = two_numbers(out, at, r.datum, r.epoch, TAB);
+    let a = realization(out, at, r);
     position(out, a, p)
 }
 

@@ -1,21 +1,27 @@
 -- `line::number::ahead` meets its contract. Assumes nothing.
 use native.Mathlib.Omega.{arith}
 use Rattle.line.proofs.Ahead as L
+use Rattle.line.proofs.Words as W
+use Rattle.line.proofs.Sums as S
 use borrow.Author.Needs.{needs}
 use Rattle.line.proofs.number.ahead.Statement.{statement}
 use Rattle.line.proofs.number.ahead.Tie as tie
 
 eight-requires : tie.Need-eight-requires
-eight-requires c κs = (search needs, c .before .other-eight .ensures (L.not-true (c .before .other-eight .result) (c .if3 .taken)))
+eight-requires c κs =
+    let o = c .before .other-eight in
+    S.eight-small (W.spelt (c .before .before .word .ensures) (o .ensures (L.not-true (o .result) (c .if3 .taken))))
 
 returns : tie.Need-returns
 returns c =
-    let s = c .before .before .before .before .before .before in
-    let l = c .eight .ensures .less in
-    L.carry 100000000 (L.unmoved (s .args .s .now) (s .args .at) (s .args .first) (omega arith)) (c .eight .ensures) (omega arith)
+    let g = c .before .before .before .before .before .before .before .args in
+    let o = c .before .before .other-eight in
+    let y = W.spelt (c .before .before .before .word .ensures) (o .ensures (L.not-true (o .result) (c .before .if3 .taken))) in
+    let v = S.eight-say y (omega arith) in
+    rw (c .eight .ensures) (L.carry 100000000 (L.unmoved (g .s .now) (g .at) (g .first) (omega arith)) v (omega (arith, v .less)))
 
 pub ahead-spec : {M : Type 1} → statement M
 ahead-spec =
     tie.close
-    (tie.spec (search needs) (search needs) (search needs) eight-requires (search needs) (search needs) returns (λ c. search needs) (λ c. search needs)
-    (λ c. search needs))
+    (tie.spec (search needs) (search needs) (search needs) (search needs) eight-requires (search needs) (search needs) returns (λ c. search needs)
+    (λ c. search needs) (λ c. search needs))

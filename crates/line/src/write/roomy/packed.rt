@@ -1,6 +1,6 @@
 // Digits side by side in one number: pairs of them in sixteen bits each, then each in a byte, and all are one store in the compiled code. The leading digits of a
 // number are written four bytes at a time whatever their count, so that no branch goes by it: what is too much is taken away by the digits after them.
-use crate::number::word;
+use crate::number::words::word;
 ghost use mathlib.Core.Path.{_≡_};
 ghost use Prim.Native.Nat.{_+_, _≤_, _<_};
 ghost use lib.ListN.{length, take, drop};
@@ -110,10 +110,34 @@ fn further(n: u64) -> u64
 // The digits of a number below 10,000, where at least three more bytes follow them.
 pub fn leading(out: &mut [u8], at: usize, n: u64) -> usize
     requires { ⌜ (n < 10000) × (at + 4 ≤ length (now out)) ⌝ }
-    ensures { λ r. ⌜ Begun (now (out .entry)) at (decimal n) (now (out .exit)) r ⌝ }
+    ensures { λ r. ⌜ Begun 4 3 (now (out .entry)) at (decimal n) (now (out .exit)) r ⌝ }
 {
     let w = spread(n % 100 * 65536 + n / 100);
     let more = further(n);
     put_half(out, at, w >> (24 - 8 * more));
     at + 1 + (more as usize)
+}
+
+// The same of a number that mostly has four digits or three: branches that go one way take less than the count.
+pub fn mostly_four(out: &mut [u8], at: usize, n: u64) -> usize
+    requires { ⌜ (n < 10000) × (at + 4 ≤ length (now out)) ⌝ }
+    ensures { λ r. ⌜ Begun 4 3 (now (out .entry)) at (decimal n) (now (out .exit)) r ⌝ }
+{
+    if 1000 <= n {
+        return four_digits(out, at, n);
+    }
+    if 100 <= n {
+        four_digits(out, at, n * 10);
+        return at + 3;
+    }
+    leading(out, at, n)
+}
+
+// Seven digits, where at least one more byte follows them.
+pub fn seven_digits(out: &mut [u8], at: usize, n: u64) -> usize
+    requires { ⌜ (1000000 ≤ n) × (n < 10000000) × (at + 8 ≤ length (now out)) ⌝ }
+    ensures { λ r. ⌜ Begun 8 1 (now (out .entry)) at (decimal n) (now (out .exit)) r ⌝ }
+{
+    eight_digits(out, at, n * 10);
+    at + 7
 }

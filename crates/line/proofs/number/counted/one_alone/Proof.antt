@@ -10,7 +10,7 @@ use Rattle.line.proofs.number.counted.one_alone.Tie as tie
 returns-5 : tie.Need-returns-5
 returns-5 c =
     let g = c .before .before .before .before .before .before .args in
-    λ e. record { inside = omega arith; tab = omega arith; digits = K.single (g .s .now) (g .at) (omega arith) (leb-true _ 57 e) }
+    λ e. record { inside = omega arith; ends = λ h. omega arith; digits = K.single (g .s .now) (g .at) (omega arith) (leb-true _ 57 e) }
 
 pub one-alone-spec : {M : Type 1} → statement M
 one-alone-spec =

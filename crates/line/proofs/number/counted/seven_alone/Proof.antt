@@ -1,22 +1,27 @@
 -- `line::number::counted::seven_alone` meets its contract. Assumes nothing.
-use mathlib.Core.Bool.{_||_}
+use Prim.Native.Nat.{_≤_}
 use native.Mathlib.Omega.{arith}
-use Rattle.line.proofs.Ahead as L
+use borrow.Author.Tests.{leb-true}
 use Rattle.line.proofs.Capped.{never}
+use Rattle.line.proofs.Words as W
+use Rattle.line.proofs.Sums as S
 use borrow.Author.Needs.{needs}
 use Rattle.line.proofs.number.counted.seven_alone.Statement.{statement}
 use Rattle.line.proofs.number.counted.seven_alone.Tie as tie
 
-returns-4 : tie.Need-returns-4
-returns-4 c =
-    λ e. (
-    let f = L.not-true (c .before .other-four .result || c .other-four2 .result) e in
-    let l = c .before .other-four .ensures (L.or-left (c .before .other-four .result) (c .other-four2 .result) f) in
-    let r = c .other-four2 .ensures (L.or-right (c .before .other-four .result) (c .other-four2 .result) f) in
-    record { inside = omega arith; tab = omega arith; digits = L.joined 3 4 _ _ (L.sooner 3 1 l) r })
+seven-requires : tie.Need-seven-requires
+seven-requires c κs = S.seven-small (W.seven-and-tab (c .before .before .word .ensures) (c .before .other-seven .ensures (c .if1 .left)))
+
+returns-2 : tie.Need-returns-2
+returns-2 c = λ e. (
+    let d = c .before .before .before .word .ensures in
+    let k = c .before .before .other-seven .ensures (c .before .if1 .left) in
+    let y = W.seven-and-tab d k in
+    let p = c .before .before .before .before .before .pre in
+    let l : 1000000 ≤ c .seven .result = leb-true _ _ e in (
+      record { inside = omega arith; ends = λ h. W.tab-last d k; digits = y .digits },
+      rw (c .seven .ensures) (S.seven-counted y (omega arith) (rw (c .seven .ensures) at l)),
+    ))
 
 pub seven-alone-spec : {M : Type 1} → statement M
-seven-alone-spec =
-    tie.close
-    (tie.spec (λ c e. absurd (never e)) (search needs) (λ c e. absurd (never e)) (search needs) (search needs) (λ c e. absurd (never e)) (search needs)
-    (search needs) (search needs) returns-4)
+seven-alone-spec = tie.close (tie.spec (search needs) (search needs) (λ c e. absurd (never e)) seven-requires returns-2)

@@ -10,7 +10,7 @@ use Rattle.line.proofs.number.counted.two_alone.Tie as tie
 returns-7 : tie.Need-returns-7
 returns-7 c =
     let g = c .before .before .before .before .before .before .before .before .before .args in
-    λ e. (record { inside = omega arith; tab = omega arith; digits = K.double (g .s .now) (g .at) (omega arith) (omega arith) (omega arith) (leb-true _ 57 e) }, λ q. omega arith)
+    λ e. (record { inside = omega arith; ends = λ h. omega arith; digits = K.double (g .s .now) (g .at) (omega arith) (omega arith) (omega arith) (leb-true _ 57 e) }, λ q. omega arith)
 
 pub two-alone-spec : {M : Type 1} → statement M
 two-alone-spec =

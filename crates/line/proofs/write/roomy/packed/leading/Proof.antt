@@ -1,5 +1,6 @@
 use native.Mathlib.Omega.{arith}
 use Rattle.line.proofs.Packed as P
+use Rattle.line.proofs.Leading as D
 use Prim.Native.Nat.{_/_, _%_}
 use borrow.Author.Needs.{needs}
 use Rattle.line.proofs.write.roomy.packed.leading.Statement.{statement}
@@ -21,7 +22,7 @@ returns c =
     let n = s .args .n in
     let h = P.two-half (n % 100) (n / 100) (omega arith) (omega (arith, s .pre .0)) (c .before .before .before .before .before .spread .ensures) in
     let f = c .before .before .before .before .further .ensures in
-    P.begun (c .before .before .put-half .ensures) (P.lead n _ _ (s .pre .0) h f) (f .most)
+    D.begun (c .before .before .put-half .ensures) (D.lead n _ _ (s .pre .0) h f) (f .most)
 
 pub leading-spec : {M : Type 1} → statement M
 leading-spec =

@@ -1,9 +1,9 @@
--- `line::number::word` meets its contract. Assumes nothing.
+-- `line::number::words::word` meets its contract. Assumes nothing.
 use native.Mathlib.Omega.{arith}
 use Rattle.line.proofs.Words as W
 use borrow.Author.Needs.{needs}
-use Rattle.line.proofs.number.word.Statement.{statement}
-use Rattle.line.proofs.number.word.Tie as tie
+use Rattle.line.proofs.number.words.word.Statement.{statement}
+use Rattle.line.proofs.number.words.word.Tie as tie
 
 returns : tie.Need-returns
 returns c =

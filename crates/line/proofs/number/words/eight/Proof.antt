@@ -1,0 +1,11 @@
+-- `line::number::words::eight` meets its contract. Assumes nothing.
+use native.Mathlib.Omega.{arith}
+use borrow.Author.Needs.{needs}
+use Rattle.line.proofs.number.words.eight.Statement.{statement}
+use Rattle.line.proofs.number.words.eight.Tie as tie
+
+returns : tie.Need-returns
+returns c = rw (c .fours .ensures)
+
+pub eight-spec : {M : Type 1} → statement M
+eight-spec = tie.close (tie.spec (search needs) (search needs) (search needs) returns)

@@ -27,7 +27,8 @@ fn lowered(k: i64, q: u64, lifted: i64) -> i64
     k + ((q as i64) - lifted)
 }
 
-// k + n/10^11, a half to the even number.
+// k + n/10^11, a half to the even number. 2,048 divides 10^11, so that what it does not divide leaves something over and is no half: the product that tells is made for
+// one part in 2,048.
 pub fn over11(k: i64, n: i64) -> i64
     requires { ⌜ (natAbs k ≤ 100000000) × (natAbs n ≤ 8000000000000000000) ⌝ }
     ensures { λ r. ⌜ r ≡ mixed toEven k n (pos 100000000000) ⌝ }
@@ -35,6 +36,9 @@ pub fn over11(k: i64, n: i64) -> i64
     let u = raised(n, 8000000050000000000);
     let q = u / 100000000000;
     let t = lowered(k, q, 80000000);
+    if u % 2048 != 0 {
+        return t;
+    }
     rounding::quotient::settled(t, u == q * 100000000000)
 }
 

@@ -6,9 +6,12 @@ use Prim.Native.Nat.{ℕ, zero, suc, _+_, _*_, _<_, _≤_}
 use native.Mathlib.Nat.{add-zero}
 use native.Mathlib.Omega.{arith}
 use borrow.Author.Tests.{lt-ltb}
+use lib.Dec.{T, ltb, ltb→lt}
 use lib.IntN.{ℤ, pos, natAbs}
 use lib.ListN.{length, getD, set, length-set}
 use lib.Seq.{sets, getD-set-same, getD-set-other}
+use mir.Syntax.{w64}
+use mir.Val.{Fits}
 use Rattle.refusal.specs.Order.{first}
 use Rattle.ranges.specs.Ranges.{equal, upTo, shiftRange, scaleRange}
 use Rattle.ranges.proofs.Ranges.{natural-holds, both, all, above, equal-self, up-to, up-to-holds}
@@ -37,6 +40,26 @@ inside (v ∷ vs) l i (suc j) d h g =
     let e : i + suc j ≡ suc i + j = omega arith in
     let f = length-set l i v in
     rw e (inside vs (set l i v) (suc i) j d (omega arith) (omega arith))
+
+-- ---- where a row's numbers stand, of nine rows of eight: each place, and its bytes, fit a usize, and it is within the numbers
+module _ {i : ℕ} (h : i < 9) where
+  pub row-fits : Fits w64 (8 * i)
+  row-fits = record { fits = omega arith }
+
+  pub row-bytes : Fits w64 (8 * i * 8)
+  row-bytes = record { fits = omega arith }
+
+  pub row-within : 8 * i < 72
+  row-within = omega arith
+
+  pub place-fits : (k : ℕ) → T (ltb k 8) → Fits w64 (8 * i + k)
+  place-fits k t = record { fits = omega (arith, ltb→lt k 8 t) }
+
+  pub place-bytes : (k : ℕ) → T (ltb k 8) → Fits w64 ((8 * i + k) * 8)
+  place-bytes k t = record { fits = omega (arith, ltb→lt k 8 t) }
+
+  pub place-within : (k : ℕ) → T (ltb k 8) → 8 * i + k < 72
+  place-within k t = omega (arith, ltb→lt k 8 t)
 
 -- what eight numbers say, number by number
 pub eight : {a b c d e f g h a' b' c' d' e' f' g' h' : ℤ} → a ≡ a' → b ≡ b' → c ≡ c' → d ≡ d' → e ≡ e' → f ≡ f' → g ≡ g' → h ≡ h' → readyOf a b c d e f g h ≡ readyOf a' b' c' d' e' f' g' h'

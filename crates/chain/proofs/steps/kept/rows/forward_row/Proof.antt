@@ -7,7 +7,7 @@ use lib.ListN.{getD}
 use Rattle.rounding.proofs.Machine.{told}
 use Rattle.chain.specs.Prepared.{readyAt, rowAt}
 use Rattle.chain.proofs.Forms.{Leads, eight-lead}
-use borrow.Author.Needs.{needs}
+use Rattle.chain.proofs.KeptRows.{row-fits, row-bytes, row-within, place-fits, place-bytes, place-within}
 use Rattle.chain.proofs.steps.kept.rows.forward_row.Statement.{statement}
 use Rattle.chain.proofs.steps.kept.rows.forward_row.Tie as tie
 
@@ -28,6 +28,12 @@ returns c =
 pub forward-row-spec : {M : Type 1} → statement M
 forward-row-spec =
     tie.close
-    (tie.spec (search needs) (search needs) (search needs) (search needs) (search needs) (search needs) (search needs) (search needs) (search needs)
-    (search needs) (search needs) (search needs) (search needs) (search needs) (search needs) (search needs) (search needs) (search needs)
-    (search needs) (search needs) (search needs) (search needs) (search needs) (search needs) (λ c κs. search needs) returns)
+    (tie.spec (λ c. row-fits (c .pre .0)) (λ c. row-bytes (c .pre .0)) (λ c. row-within (c .pre .0))
+    (λ c. place-fits (c .before .pre .0) 1 tt) (λ c. place-bytes (c .before .pre .0) 1 tt) (λ c. place-within (c .before .pre .0) 1 tt)
+    (λ c. place-fits (c .before .before .pre .0) 2 tt) (λ c. place-bytes (c .before .before .pre .0) 2 tt) (λ c. place-within (c .before .before .pre .0) 2 tt)
+    (λ c. place-fits (c .before .before .before .pre .0) 3 tt) (λ c. place-bytes (c .before .before .before .pre .0) 3 tt) (λ c. place-within (c .before .before .before .pre .0) 3 tt)
+    (λ c. place-fits (c .before .before .before .before .pre .0) 4 tt) (λ c. place-bytes (c .before .before .before .before .pre .0) 4 tt) (λ c. place-within (c .before .before .before .before .pre .0) 4 tt)
+    (λ c. place-fits (c .before .before .before .before .before .pre .0) 5 tt) (λ c. place-bytes (c .before .before .before .before .before .pre .0) 5 tt) (λ c. place-within (c .before .before .before .before .before .pre .0) 5 tt)
+    (λ c. place-fits (c .before .before .before .before .before .before .pre .0) 6 tt) (λ c. place-bytes (c .before .before .before .before .before .before .pre .0) 6 tt) (λ c. place-within (c .before .before .before .before .before .before .pre .0) 6 tt)
+    (λ c. place-fits (c .before .before .before .before .before .before .before .pre .0) 7 tt) (λ c. place-bytes (c .before .before .before .before .before .before .before .pre .0) 7 tt) (λ c. place-within (c .before .before .before .before .before .before .before .pre .0) 7 tt)
+    (λ c κs. c .before .before .before .before .before .before .before .before .pre .1) returns)

@@ -3,7 +3,7 @@ use Prim.Native.Nat.{suc, _+_, _*_}
 use mathlib.Core.Path.{_≡_}
 use native.Mathlib.Omega.{arith}
 use Rattle.rounding.proofs.Machine.{rd}
-use borrow.Author.Needs.{needs}
+use Rattle.chain.proofs.KeptRows.{row-fits, row-bytes, row-within, place-fits, place-bytes, place-within}
 use Rattle.chain.proofs.steps.kept.rows.put.Statement.{statement}
 use Rattle.chain.proofs.steps.kept.rows.put.Tie as tie
 
@@ -23,6 +23,12 @@ returns c =
 pub put-spec : {M : Type 1} → statement M
 put-spec =
     tie.close
-    (tie.spec (search needs) (search needs) (search needs) (search needs) (search needs) (search needs) (search needs) (search needs) (search needs)
-    (search needs) (search needs) (search needs) (search needs) (search needs) (search needs) (search needs) (search needs) (search needs)
-    (search needs) (search needs) (search needs) (search needs) (search needs) (search needs) returns)
+    (tie.spec (λ c. row-fits (c .pre)) (λ c. row-bytes (c .pre)) (λ c. row-within (c .pre))
+    (λ c. place-fits (c .pre) 1 tt) (λ c. place-bytes (c .pre) 1 tt) (λ c. place-within (c .pre) 1 tt)
+    (λ c. place-fits (c .pre) 2 tt) (λ c. place-bytes (c .pre) 2 tt) (λ c. place-within (c .pre) 2 tt)
+    (λ c. place-fits (c .pre) 3 tt) (λ c. place-bytes (c .pre) 3 tt) (λ c. place-within (c .pre) 3 tt)
+    (λ c. place-fits (c .pre) 4 tt) (λ c. place-bytes (c .pre) 4 tt) (λ c. place-within (c .pre) 4 tt)
+    (λ c. place-fits (c .pre) 5 tt) (λ c. place-bytes (c .pre) 5 tt) (λ c. place-within (c .pre) 5 tt)
+    (λ c. place-fits (c .pre) 6 tt) (λ c. place-bytes (c .pre) 6 tt) (λ c. place-within (c .pre) 6 tt)
+    (λ c. place-fits (c .pre) 7 tt) (λ c. place-bytes (c .pre) 7 tt) (λ c. place-within (c .pre) 7 tt)
+    returns)

@@ -6,7 +6,7 @@ use lib.IntN.{pos}
 use lib.ListN.{getD}
 use mathlib.Core.Path.{_∙_}
 use Rattle.rounding.proofs.Machine.{told}
-use Rattle.chain.proofs.KeptRows.{eight}
+use Rattle.chain.proofs.KeptRows.{eight, row-fits, row-bytes, row-within, place-fits, place-bytes, place-within}
 use Rattle.chain.specs.Prepared.{readyAt}
 use borrow.Author.Needs.{needs}
 use Rattle.chain.proofs.steps.kept.rows.ready_at.Statement.{statement}
@@ -29,6 +29,12 @@ returns c =
 pub ready-at-spec : {M : Type 1} → statement M
 ready-at-spec =
     tie.close
-    (tie.spec (search needs) (search needs) (search needs) (search needs) (search needs) (search needs) (search needs) (search needs) (search needs)
-    (search needs) (search needs) (search needs) (search needs) (search needs) (search needs) (search needs) (search needs) (search needs)
-    (search needs) (search needs) (search needs) (search needs) (search needs) (search needs) (search needs) returns)
+    (tie.spec (λ c. row-fits (c .pre)) (λ c. row-bytes (c .pre)) (λ c. row-within (c .pre))
+    (λ c. place-fits (c .before .pre) 1 tt) (λ c. place-bytes (c .before .pre) 1 tt) (λ c. place-within (c .before .pre) 1 tt)
+    (λ c. place-fits (c .before .before .pre) 2 tt) (λ c. place-bytes (c .before .before .pre) 2 tt) (λ c. place-within (c .before .before .pre) 2 tt)
+    (λ c. place-fits (c .before .before .before .pre) 3 tt) (λ c. place-bytes (c .before .before .before .pre) 3 tt) (λ c. place-within (c .before .before .before .pre) 3 tt)
+    (λ c. place-fits (c .before .before .before .before .pre) 4 tt) (λ c. place-bytes (c .before .before .before .before .pre) 4 tt) (λ c. place-within (c .before .before .before .before .pre) 4 tt)
+    (λ c. place-fits (c .before .before .before .before .before .pre) 5 tt) (λ c. place-bytes (c .before .before .before .before .before .pre) 5 tt) (λ c. place-within (c .before .before .before .before .before .pre) 5 tt)
+    (λ c. place-fits (c .before .before .before .before .before .before .pre) 6 tt) (λ c. place-bytes (c .before .before .before .before .before .before .pre) 6 tt) (λ c. place-within (c .before .before .before .before .before .before .pre) 6 tt)
+    (λ c. place-fits (c .before .before .before .before .before .before .before .pre) 7 tt) (λ c. place-bytes (c .before .before .before .before .before .before .before .pre) 7 tt) (λ c. place-within (c .before .before .before .before .before .before .before .pre) 7 tt)
+    (search needs) returns)

@@ -74,9 +74,20 @@ eight-set l i p q r s t u v w =
     let b7 : i + 7 ≡ suc (suc (suc (suc (suc (suc (suc i)))))) = omega arith in
     rw (b1, b2, b3, b4, b5, b6, b7, p, q, r, s, t, u, v, w)
 
+-- a row's first number, where it stands
+pub first-number : (l : List ℤ) (i : ℕ) {z : ℤ} → z ≡ getD l (8 * i) (pos 0) → z ≡ number l i 0
+first-number l i e = e ∙ ap (λ (n : ℕ). getD l n (pos 0)) (add-none i)
+  where
+    add-none : (j : ℕ) → 8 * j ≡ 8 * j + 0
+    add-none j = omega arith
+
 -- what eight numbers say, number by number
 pub eight : {a b c d e f g h a' b' c' d' e' f' g' h' : ℤ} → a ≡ a' → b ≡ b' → c ≡ c' → d ≡ d' → e ≡ e' → f ≡ f' → g ≡ g' → h ≡ h' → readyOf a b c d e f g h ≡ readyOf a' b' c' d' e' f' g' h'
 eight p q r s t u v w = rw (p, q, r, s, t, u, v, w)
+
+pub eight-say : {a b c d e f g h a' b' c' d' e' f' g' h' : ℤ} → a ≡ a' → b ≡ b' → c ≡ c' → d ≡ d' → e ≡ e' → f ≡ f' → g ≡ g' → h ≡ h' →
+    (r : Ready) → r ≡ readyOf a b c d e f g h → r ≡ readyOf a' b' c' d' e' f' g' h'
+eight-say p q r s t u v w x k = k ∙ eight p q r s t u v w
 
 same-ready : (l : List ℤ) (i : ℕ) (m : List ℤ) (j : ℕ) → ((k : ℕ) → k < 8 → number l i k ≡ number m j k) → readyAt l i ≡ readyAt m j
 unfolding readyAt

@@ -1,6 +1,5 @@
 -- `capi::row::put` meets its contract: eight numbers stand one after the other. Assumes nothing.
 use native.Mathlib.Omega.{arith}
-use borrow.Author.Needs.{needs}
 use lib.ListN.{length-set}
 use Rattle.rounding.proofs.Machine.{rd}
 use Rattle.chain.proofs.KeptRows.{eight-set}
@@ -39,7 +38,7 @@ returns c =
 pub put-spec : {M : Type 1} → statement M
 put-spec =
     tie.close
-    (tie.spec (λ c. search needs) (λ c. search needs) (λ c. search needs) (λ c. search needs) slice-set-from-issue (λ c. search needs) (λ c. search needs)
-    slice-set-from-order (λ c. search needs) (λ c. search needs) slice-set-from-datum (λ c. search needs) (λ c. search needs) slice-set-from-epoch
-    (λ c. search needs) (λ c. search needs) slice-set-from-x (λ c. search needs) (λ c. search needs) slice-set-from-y (λ c. search needs)
-    (λ c. search needs) slice-set-from-z same-length returns)
+    (tie.spec (λ c. omega arith) (λ c. omega arith) (λ c. omega arith) (λ c. omega arith) slice-set-from-issue (λ c. omega arith) (λ c. omega arith)
+    slice-set-from-order (λ c. omega arith) (λ c. omega arith) slice-set-from-datum (λ c. omega arith) (λ c. omega arith) slice-set-from-epoch
+    (λ c. omega arith) (λ c. omega arith) slice-set-from-x (λ c. omega arith) (λ c. omega arith) slice-set-from-y (λ c. omega arith)
+    (λ c. omega arith) slice-set-from-z same-length returns)

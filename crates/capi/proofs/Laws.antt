@@ -3,14 +3,19 @@ use mathlib.Core.Path.{_≡_, refl, sym, _∙_, ap, ap₂}
 use mathlib.Core.List.{List, [], _∷_, _++_, map, append-nil}
 use Prim.Native.Nat.{ℕ, _+_, _≤_, _<_}
 use native.Mathlib.Omega.{arith}
+use lib.Dec.{T, ltb, ltb→lt}
 use lib.IntN.{ℤ, pos}
 use lib.ListN.{length, drop-of-length-le}
-use lib.Seq.{sets, sets-eq}
+use lib.Seq.{sets, sets-eq, lt-length-sets}
 use lib.Signed.{mag}
 use mir.Syntax.{w64}
 use mir.Val.{toZ, ofZ}
 use Rattle.rounding.proofs.Machine.{told}
 use Rattle.capi.specs.Outcome.{CallOutcome, wrongLength, refused, gives, Returns}
+
+-- a place of an array of n elements is one after stores from element i on
+pub place : {A : Type 0} (k n : ℕ) (l : List A) (i : ℕ) (vs : List A) → length l ≡ n → T (ltb k n) → k < length (sets l i vs)
+place k n l i vs e t = lt-length-sets l i vs (omega (arith, ltb→lt k n t))
 
 -- all elements of an array are stored, from the first on
 filled : {A : Type 0} (l vs : List A) → length l ≡ length vs → sets l 0 vs ≡ vs

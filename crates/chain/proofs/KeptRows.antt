@@ -1,14 +1,17 @@
 -- The rows of a prepared chain: what the numbers written there say, that a step's figures are in range, and rows one after another. Assumes nothing.
-use mathlib.Core.Path.{_≡_, refl, _∙_, ap, ap₂}
+use mathlib.Core.Path.{_≡_, refl, sym, _∙_, ap, ap₂}
 use mathlib.Core.Bool.{true, false, _&&_}
 use mathlib.Core.List.{List, [], _∷_, _++_, reverse, reverseAux-eq}
 use Prim.Native.Nat.{ℕ, zero, suc, _+_, _*_, _<_, _≤_}
 use native.Mathlib.Nat.{add-zero}
 use native.Mathlib.Omega.{arith}
 use borrow.Author.Tests.{lt-ltb}
+use lib.Dec.{T, ltb, ltb→lt}
 use lib.IntN.{ℤ, pos, natAbs}
 use lib.ListN.{length, getD, set, length-set}
 use lib.Seq.{sets, getD-set-same, getD-set-other}
+use mir.Syntax.{w64}
+use mir.Val.{Fits}
 use Rattle.refusal.specs.Order.{first}
 use Rattle.ranges.specs.Ranges.{equal, upTo, shiftRange, scaleRange}
 use Rattle.ranges.proofs.Ranges.{natural-holds, both, all, above, equal-self, up-to, up-to-holds}
@@ -38,9 +41,53 @@ inside (v ∷ vs) l i (suc j) d h g =
     let f = length-set l i v in
     rw e (inside vs (set l i v) (suc i) j d (omega arith) (omega arith))
 
+-- ---- where a row's numbers stand, of nine rows of eight: each place, and its bytes, fit a usize, and it is within the numbers
+module _ {i : ℕ} (h : i < 9) where
+  pub row-fits : Fits w64 (8 * i)
+  row-fits = record { fits = omega arith }
+
+  pub row-bytes : Fits w64 (8 * i * 8)
+  row-bytes = record { fits = omega arith }
+
+  pub row-within : 8 * i < 72
+  row-within = omega arith
+
+  pub index-fits : (k : ℕ) → T (ltb k 8) → Fits w64 (8 * i + k)
+  index-fits k t = record { fits = omega (arith, ltb→lt k 8 t) }
+
+  pub index-bytes : (k : ℕ) → T (ltb k 8) → Fits w64 ((8 * i + k) * 8)
+  index-bytes k t = record { fits = omega (arith, ltb→lt k 8 t) }
+
+  pub index-within : (k : ℕ) → T (ltb k 8) → 8 * i + k < 72
+  index-within k t = omega (arith, ltb→lt k 8 t)
+
+-- eight numbers written one after the other are a row
+pub eight-set : (l : List ℤ) (i : ℕ) {a b c d e f g h a' b' c' d' e' f' g' h' : ℤ} → a ≡ a' → b ≡ b' → c ≡ c' → d ≡ d' → e ≡ e' → f ≡ f' → g ≡ g' → h ≡ h' →
+    set (set (set (set (set (set (set (set l i a) (i + 1) b) (i + 2) c) (i + 3) d) (i + 4) e) (i + 5) f) (i + 6) g) (i + 7) h ≡ sets l i (a' ∷ b' ∷ c' ∷ d' ∷ e' ∷ f' ∷ g' ∷ h' ∷ [])
+eight-set l i p q r s t u v w =
+    let b1 : i + 1 ≡ suc i = omega arith in
+    let b2 : i + 2 ≡ suc (suc i) = omega arith in
+    let b3 : i + 3 ≡ suc (suc (suc i)) = omega arith in
+    let b4 : i + 4 ≡ suc (suc (suc (suc i))) = omega arith in
+    let b5 : i + 5 ≡ suc (suc (suc (suc (suc i)))) = omega arith in
+    let b6 : i + 6 ≡ suc (suc (suc (suc (suc (suc i))))) = omega arith in
+    let b7 : i + 7 ≡ suc (suc (suc (suc (suc (suc (suc i)))))) = omega arith in
+    rw (b1, b2, b3, b4, b5, b6, b7, p, q, r, s, t, u, v, w)
+
+-- a row's first number, where it stands
+pub first-number : (l : List ℤ) (i : ℕ) {z : ℤ} → z ≡ getD l (8 * i) (pos 0) → z ≡ number l i 0
+first-number l i e = e ∙ ap (λ (n : ℕ). getD l n (pos 0)) (add-none i)
+  where
+    add-none : (j : ℕ) → 8 * j ≡ 8 * j + 0
+    add-none j = omega arith
+
 -- what eight numbers say, number by number
 pub eight : {a b c d e f g h a' b' c' d' e' f' g' h' : ℤ} → a ≡ a' → b ≡ b' → c ≡ c' → d ≡ d' → e ≡ e' → f ≡ f' → g ≡ g' → h ≡ h' → readyOf a b c d e f g h ≡ readyOf a' b' c' d' e' f' g' h'
 eight p q r s t u v w = rw (p, q, r, s, t, u, v, w)
+
+pub eight-say : {a b c d e f g h a' b' c' d' e' f' g' h' : ℤ} → a ≡ a' → b ≡ b' → c ≡ c' → d ≡ d' → e ≡ e' → f ≡ f' → g ≡ g' → h ≡ h' →
+    (r : Ready) → r ≡ readyOf a b c d e f g h → r ≡ readyOf a' b' c' d' e' f' g' h'
+eight-say p q r s t u v w x k = k ∙ eight p q r s t u v w
 
 same-ready : (l : List ℤ) (i : ℕ) (m : List ℤ) (j : ℕ) → ((k : ℕ) → k < 8 → number l i k ≡ number m j k) → readyAt l i ≡ readyAt m j
 unfolding readyAt
@@ -52,6 +99,14 @@ row form r = record { good = formRange form && readyRange r; ready = r }
 same-row : (l : List ℤ) (i : ℕ) (m : List ℤ) (j : ℕ) → ((k : ℕ) → k < 8 → number l i k ≡ number m j k) → rowAt l i ≡ rowAt m j
 unfolding rowAt
 same-row l i m j h = ap₂ row (h 0 (omega arith)) (same-ready l i m j h)
+
+-- a step's numbers, written field by field
+pub eight-list : {a b c d e f g h a' b' c' d' e' f' g' h' : ℤ} → a ≡ a' → b ≡ b' → c ≡ c' → d ≡ d' → e ≡ e' → f ≡ f' → g ≡ g' → h ≡ h' →
+    _≡_ {A = List ℤ} (a ∷ b ∷ c ∷ d ∷ e ∷ f ∷ g ∷ h ∷ []) (a' ∷ b' ∷ c' ∷ d' ∷ e' ∷ f' ∷ g' ∷ h' ∷ [])
+eight-list p q r s t u v w = rw (p, q, r, s, t, u, v, w)
+
+pub written : (l : List ℤ) (i : ℕ) {m : List ℤ} {r s : Ready} {ns : List ℤ} → r ≡ s → m ≡ sets l i ns → ns ≡ numbersOf s → m ≡ sets l i (numbersOf r)
+written l i e h q = h ∙ ap (sets l i) q ∙ ap (λ (x : Ready). sets l i (numbersOf x)) (sym e)
 
 pub numbers-length : (r : Ready) → length (numbersOf r) ≡ 8
 numbers-length (Fixed g) = refl

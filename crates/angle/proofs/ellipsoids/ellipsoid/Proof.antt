@@ -14,7 +14,7 @@ unfolding ellipsoidOf shape round ofBits
 returns c =
     let a = c .before .before in
     let z : toZ w64 (ofZ w64 (a .args .code)) ≡ a .args .code = toZ-ofZ w64 (a .args .code) (a .fits .code) in
-    cc
+    rw (c .flattening .ensures, c .before .axis .ensures, z)
 
 pub ellipsoid-spec : {M : Type 1} → statement M
 ellipsoid-spec = tie.close (tie.spec (search needs) (search needs) returns)

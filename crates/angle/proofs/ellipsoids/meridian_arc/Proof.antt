@@ -10,7 +10,7 @@ arc-with-requires c κs = c .before .before .before .pre
 
 returns : tie.Need-returns
 unfolding meridianArc round ofBits
-returns c = cc
+returns c = rw (c .arc-with .ensures, c .before .sine3 .ensures, c .before .before .sine2 .ensures, c .before .before .before .sine .ensures)
 
 pub meridian-arc-spec : {M : Type 1} → statement M
 meridian-arc-spec =

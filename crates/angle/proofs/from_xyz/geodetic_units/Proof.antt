@@ -60,7 +60,7 @@ returns-3 c =
     let x : toZ w64 (ofZ w64 (a .args .x)) ≡ a .args .x = toZ-ofZ w64 (a .args .x) (a .fits .x) in
     let y : toZ w64 (ofZ w64 (a .args .y)) ≡ a .args .y = toZ-ofZ w64 (a .args .y) (a .fits .y) in
     let z : toZ w64 (ofZ w64 (a .args .z)) ≡ a .args .z = toZ-ofZ w64 (a .args .z) (a .fits .z) in
-    cc (by-none (a .args .code) (a .args .x) (a .args .y) (a .args .z) (good-code (c .before .before .before .before .before .before) true (not-false _ (c .before .before .before .before .before .if1 .left))) (inside (c .before .before .before .before) true (not-false _ (c .before .before .before .if2 .left))))
+    rw (c .in-angles .ensures, c .before .found .ensures, c .before .before .ellipsoid .ensures, i, x, y, z) (by-none (a .args .code) (a .args .x) (a .args .y) (a .args .z) (good-code (c .before .before .before .before .before .before) true (not-false _ (c .before .before .before .before .before .if1 .left))) (inside (c .before .before .before .before) true (not-false _ (c .before .before .before .if2 .left))))
 
 pub geodetic-units-spec : {M : Type 1} → statement M
 geodetic-units-spec =

@@ -7,7 +7,7 @@ use Rattle.angle.proofs.from_xyz.height_at.Tie as tie
 
 returns : tie.Need-returns
 unfolding heightOf round ofBits
-returns c = cc
+returns c = rw (c .prime-vertical .ensures, c .before .before .cosine .ensures, c .before .before .before .sine .ensures)
 
 pub height-at-spec : {M : Type 1} → statement M
 height-at-spec = tie.close (tie.spec (search needs) (search needs) (search needs) returns)

@@ -6,7 +6,7 @@ use Rattle.angle.proofs.from_xyz.in_angles.Tie as tie
 
 returns : tie.Need-returns
 unfolding inAngles
-returns c = cc
+returns c = rw (c .from-rounded .ensures, c .before .round-places3 .ensures, c .before .before .round-places2 .ensures, c .before .before .before .round-places .ensures)
 
 pub in-angles-spec : {M : Type 1} → statement M
 in-angles-spec =

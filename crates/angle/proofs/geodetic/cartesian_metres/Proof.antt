@@ -94,7 +94,7 @@ returns-4 c =
     let lat : toZ w64 (ofZ w64 (a .args .latitude)) ≡ a .args .latitude = toZ-ofZ w64 (a .args .latitude) (a .fits .latitude) in
     let lon : toZ w64 (ofZ w64 (a .args .longitude)) ≡ a .args .longitude = toZ-ofZ w64 (a .args .longitude) (a .fits .longitude) in
     let h : toZ w64 (ofZ w64 (a .args .height)) ≡ a .args .height = toZ-ofZ w64 (a .args .height) (a .fits .height) in
-    cc (by-none (a .args .code) (a .args .latitude) (a .args .longitude) (a .args .height) (all-passed (c .before .before)))
+    rw (c .position .ensures, c .before .ellipsoid .ensures, z, lat, lon, h) (by-none (a .args .code) (a .args .latitude) (a .args .longitude) (a .args .height) (all-passed (c .before .before)))
 
 pub cartesian-metres-spec : {M : Type 1} → statement M
 cartesian-metres-spec =

@@ -16,7 +16,7 @@ returns c =
     let lat : toZ w64 (ofZ w64 (a .args .latitude)) ≡ a .args .latitude = toZ-ofZ w64 (a .args .latitude) (a .fits .latitude) in
     let lon : toZ w64 (ofZ w64 (a .args .longitude)) ≡ a .args .longitude = toZ-ofZ w64 (a .args .longitude) (a .fits .longitude) in
     let h : toZ w64 (ofZ w64 (a .args .height)) ≡ a .args .height = toZ-ofZ w64 (a .args .height) (a .fits .height) in
-    cc
+    rw (c .in-units .ensures, c .before .cartesian-metres .ensures, code, lat, lon, h)
 
 pub cartesian-units-spec : {M : Type 1} → statement M
 cartesian-units-spec = tie.close (tie.spec (search needs) (search needs) returns)

@@ -10,7 +10,7 @@ returns c = rw (c .before .c .given .1)
 
 returns-2 : tie.Need-returns-2
 unfolding inUnits
-returns-2 c = rw (c .before .before .before .before .before .c2 .given .1) (cc)
+returns-2 c = rw (c .before .before .before .before .before .c2 .given .1, c .all-three .ensures, c .before .round-places3 .ensures, c .before .before .round-places2 .ensures, c .before .before .before .round-places .ensures)
 
 pub in-units-spec : {M : Type 1} → statement M
 in-units-spec =

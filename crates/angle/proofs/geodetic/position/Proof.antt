@@ -54,7 +54,7 @@ returns c =
     let lon : toZ w64 (ofZ w64 (a .args .longitude)) ≡ a .args .longitude = same a in
     let w : toZ w64 (ofZ w64 (a .args .longitude -ℤ pos 32400000000)) ≡ a .args .longitude -ℤ pos 32400000000 = toZ-ofZ w64 (a .args .longitude -ℤ pos 32400000000) (past-fits a) in
     let h : toZ w64 (ofZ w64 (a .args .height)) ≡ a .args .height = toZ-ofZ w64 (a .args .height) (a .fits .height) in
-    cc
+    rw (c .before .prime-vertical .ensures, c .before .before .cosine2 .ensures, c .before .before .before .sine2 .ensures, c .before .before .before .before .before .cosine .ensures, c .before .before .before .before .before .before .sine .ensures, c .before .before .before .before .before .before .before .radians2 .ensures, c .before .before .before .before .before .before .before .before .before .radians .ensures, lat, lon, w, h)
 
 pub position-spec : {M : Type 1} → statement M
 position-spec =

@@ -59,7 +59,7 @@ module _ (c : tie.After-meridian-fault) where
       let o : toZ w64 (ofZ w64 (a .o .longitude)) ≡ a .o .longitude = toZ-ofZ w64 (a .o .longitude) f in
       let lat : toZ w64 (ofZ w64 (a .latitude)) ≡ a .latitude = toZ-ofZ w64 (a .latitude) (d .fits .latitude) in
       let lon : toZ w64 (ofZ w64 (a .longitude)) ≡ a .longitude = toZ-ofZ w64 (a .longitude) (d .fits .longitude) in
-      cc (c .meridian-fault .ensures)
+      rw (o, lat, lon) at (c .meridian-fault .ensures)
 
 returns-2 : tie.Need-returns-2
 unfolding point
@@ -90,7 +90,7 @@ returns-3 c =
     let a = s .args in
     let lat : toZ w64 (ofZ w64 (a .latitude)) ≡ a .latitude = toZ-ofZ w64 (a .latitude) (s .fits .latitude) in
     let lon : toZ w64 (ofZ w64 (a .longitude)) ≡ a .longitude = toZ-ofZ w64 (a .longitude) (s .fits .longitude) in
-    cc (unless-none (point (e .before)) Refused (laid (a .o) (a .latitude) (a .longitude)) (none e), by-point (a .o) (a .latitude) (a .longitude) (sound d))
+    rw (c .project-once .ensures, lat, lon) (sym (unless-none (point (e .before)) Refused (laid (a .o) (a .latitude) (a .longitude)) (none e)) ∙ by-point (a .o) (a .latitude) (a .longitude) (sound d))
 
 pub cassini-spec : {M : Type 1} → statement M
 cassini-spec =

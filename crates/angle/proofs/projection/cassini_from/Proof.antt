@@ -25,7 +25,7 @@ module _ (c : tie.After-meridian-fault) where
       let o : toZ w64 (ofZ w64 (d .args .origin .longitude)) ≡ d .args .origin .longitude = toZ-ofZ w64 (d .args .origin .longitude) f in
       let lat : toZ w64 (ofZ w64 (d .args .latitude)) ≡ d .args .latitude = toZ-ofZ w64 (d .args .latitude) (d .fits .latitude) in
       let lon : toZ w64 (ofZ w64 (d .args .longitude)) ≡ d .args .longitude = toZ-ofZ w64 (d .args .longitude) (d .fits .longitude) in
-      cc (c .meridian-fault .ensures)
+      rw (o, lat, lon) at (c .meridian-fault .ensures)
 
 returns : tie.Need-returns
 unfolding cassiniFromOf
@@ -52,7 +52,7 @@ returns-2 c =
     let a = d .args in
     let lat : toZ w64 (ofZ w64 (a .latitude)) ≡ a .latitude = toZ-ofZ w64 (a .latitude) (d .fits .latitude) in
     let lon : toZ w64 (ofZ w64 (a .longitude)) ≡ a .longitude = toZ-ofZ w64 (a .longitude) (d .fits .longitude) in
-    cc (unless-none (fault (e .before)) Refused (cassiniAt (a .origin) (a .latitude) (a .longitude)) (none e))
+    rw (c .project .ensures, lat, lon) (sym (unless-none (fault (e .before)) Refused (cassiniAt (a .origin) (a .latitude) (a .longitude)) (none e)))
 
 pub cassini-from-spec : {M : Type 1} → statement M
 cassini-from-spec =

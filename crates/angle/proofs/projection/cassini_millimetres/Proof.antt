@@ -19,7 +19,7 @@ returns-2 c =
     let lat : toZ w64 (ofZ w64 (a .args .latitude)) ≡ a .args .latitude = toZ-ofZ w64 (a .args .latitude) (a .fits .latitude) in
     let lon : toZ w64 (ofZ w64 (a .args .longitude)) ≡ a .args .longitude = toZ-ofZ w64 (a .args .longitude) (a .fits .longitude) in
     let h = sym (c .before .before .before .before .make-origin .ensures) ∙ c .before .before .made .given .1 in
-    cc (by-origin-millimetres (a .args .o) (a .args .latitude) (a .args .longitude) _ h)
+    rw (c .cassini-millimetres-from .ensures, lat, lon) (by-origin-millimetres (a .args .o) (a .args .latitude) (a .args .longitude) _ h)
 
 pub cassini-millimetres-spec : {M : Type 1} → statement M
 cassini-millimetres-spec =

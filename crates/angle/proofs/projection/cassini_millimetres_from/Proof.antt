@@ -14,7 +14,7 @@ returns c =
     let a = c .before .before in
     let lat : toZ w64 (ofZ w64 (a .args .latitude)) ≡ a .args .latitude = toZ-ofZ w64 (a .args .latitude) (a .fits .latitude) in
     let lon : toZ w64 (ofZ w64 (a .args .longitude)) ≡ a .args .longitude = toZ-ofZ w64 (a .args .longitude) (a .fits .longitude) in
-    cc
+    rw (c .in-millimetres .ensures, c .before .cassini-from .ensures, lat, lon)
 
 pub cassini-millimetres-from-spec : {M : Type 1} → statement M
 cassini-millimetres-from-spec =

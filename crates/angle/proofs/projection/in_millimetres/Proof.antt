@@ -10,7 +10,7 @@ returns c = rw (c .before .g .given .1)
 
 returns-2 : tie.Need-returns-2
 unfolding inMillimetres
-returns-2 c = rw (c .before .before .before .before .g2 .given .1) (cc)
+returns-2 c = rw (c .before .before .before .before .g2 .given .1, c .both .ensures, c .before .round-places2 .ensures, c .before .before .round-places .ensures)
 
 pub in-millimetres-spec : {M : Type 1} → statement M
 in-millimetres-spec =

@@ -36,7 +36,7 @@ returns c =
     let r : SFits w64 (o .longitude) = search needs in
     let s : SFits w64 (o .«false_easting») = search needs in
     let t : SFits w64 (o .«false_northing») = search needs in
-    cc (toZ-ofZ w64 (o .ellipsoid) p, toZ-ofZ w64 (o .longitude) r, toZ-ofZ w64 (o .«false_easting») s, toZ-ofZ w64 (o .«false_northing») t)
+    rw (c .before .metres2 .ensures, c .before .before .before .metres .ensures, c .before .before .before .before .before .ellipsoid .ensures, h, toZ-ofZ w64 (o .ellipsoid) p, toZ-ofZ w64 (o .longitude) r, toZ-ofZ w64 (o .«false_easting») s, toZ-ofZ w64 (o .«false_northing») t)
 
 pub made-spec : {M : Type 1} → statement M
 made-spec = tie.close (tie.spec (search needs) metres-requires metres-requires-2 returns)

@@ -19,7 +19,7 @@ returns c =
     let a = c .before .before .before .before in
     let z : toZ w64 (ofZ w64 (a .args .code)) ≡ a .args .code = toZ-ofZ w64 (a .args .code) (a .fits .code) in
     let lat : toZ w64 (ofZ w64 (a .args .latitude)) ≡ a .args .latitude = toZ-ofZ w64 (a .args .latitude) (a .fits .latitude) in
-    cc
+    rw (c .meridian-arc .ensures, c .before .before .ellipsoid .ensures, c .before .before .before .latitude-radians .ensures, z, lat)
 
 pub origin-arc-spec : {M : Type 1} → statement M
 origin-arc-spec =

@@ -16,7 +16,7 @@ unfolding parallelOf
 returns c =
     let a = c .before .before .before .before in
     let lat : toZ w64 (ofZ w64 (a .args .latitude)) ≡ a .args .latitude = toZ-ofZ w64 (a .args .latitude) (a .fits .latitude) in
-    cc
+    rw (c .prime-vertical .ensures, c .before .cosine .ensures, c .before .before .sine .ensures, c .before .before .before .latitude-radians .ensures, lat)
 
 pub parallel-at-spec : {M : Type 1} → statement M
 parallel-at-spec =

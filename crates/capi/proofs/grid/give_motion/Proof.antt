@@ -2,73 +2,28 @@
 use borrow.Author.Needs.{needs}
 use mathlib.Core.Path.{_≡_, _∙_, ap}
 use native.Mathlib.Omega.{arith}
-use lib.ListN.{length, length-set}
+use mathlib.Core.List.{List, [], _∷_}
+use lib.IntN.{ℤ}
+use lib.ListN.{length}
+use lib.Seq.{length-sets}
 use Rattle.rounding.proofs.Machine.{told}
 use Rattle.velocity_grid.specs.declared.MotionAnswer.{MotionAnswer}
 use Rattle.capi.specs.Grids.{ofMotion}
-use Rattle.capi.proofs.Laws.{declined, numbers}
+use Rattle.capi.proofs.Laws.{place, declined, numbers}
 use Rattle.capi.proofs.grid.give_motion.Statement.{statement}
 use Rattle.capi.proofs.grid.give_motion.Tie as tie
 
 -- the room there is
-room : (c : tie.After-struct-told6) → length (c .before .before .before .before .before .before .before .before .before .args .out .now) ≡ 16
+abbrev out : tie.After-struct-told6 → List ℤ
+out c = c .before .before .before .before .before .before .before .before .before .args .out .now
+
+room : (c : tie.After-struct-told6) → length (out c) ≡ 16
 room c = c .before .before .before .before .before .before .before .before .before .pre
-
-slice-set-from-east : tie.Need-slice-set-from-east
-slice-set-from-east c = omega (arith, room c)
-
-slice-set-from-north : tie.Need-slice-set-from-north
-slice-set-from-north c = simp length-set (omega (arith, room c))
-
-slice-set-from-up : tie.Need-slice-set-from-up
-slice-set-from-up c = simp length-set (omega (arith, room c))
-
-slice-set-of-out : tie.Need-slice-set-of-out
-slice-set-of-out c = simp length-set (omega (arith, room c))
-
-slice-set-of-out-2 : tie.Need-slice-set-of-out-2
-slice-set-of-out-2 c = simp length-set (omega (arith, room c))
-
-slice-set-from-datum : tie.Need-slice-set-from-datum
-slice-set-from-datum c = simp length-set (omega (arith, room c))
-
-slice-set-from-before : tie.Need-slice-set-from-before
-slice-set-from-before c = simp length-set (omega (arith, room c))
-
-slice-set-from-datum-2 : tie.Need-slice-set-from-datum-2
-slice-set-from-datum-2 c = simp length-set (omega (arith, room c))
-
-slice-set-from-after : tie.Need-slice-set-from-after
-slice-set-from-after c = simp length-set (omega (arith, room c))
-
-slice-set-from-x : tie.Need-slice-set-from-x
-slice-set-from-x c = simp length-set (omega (arith, room c))
-
-slice-set-from-y : tie.Need-slice-set-from-y
-slice-set-from-y c = simp length-set (omega (arith, room c))
-
-slice-set-from-z : tie.Need-slice-set-from-z
-slice-set-from-z c = simp length-set (omega (arith, room c))
-
-slice-set-of-out-3 : tie.Need-slice-set-of-out-3
-slice-set-of-out-3 c = simp length-set (omega (arith, room c))
-
-slice-set-of-out-4 : tie.Need-slice-set-of-out-4
-slice-set-of-out-4 c = simp length-set (omega (arith, room c))
-
-slice-set-of-out-5 : tie.Need-slice-set-of-out-5
-slice-set-of-out-5 c = simp length-set (omega (arith, room c))
-
-slice-set-of-out-6 : tie.Need-slice-set-of-out-6
-slice-set-of-out-6 c = simp length-set (omega (arith, room c))
 
 returns : tie.Need-returns
 returns c =
     let s = c .before .before .before .before in
     declined (ap (λ (w : MotionAnswer). ofMotion w (s .args .datum) (s .args .before) (s .args .after)) (c .before .before .answer .given .1)) (told (c .status .ok) ∙ c .status .ensures)
-
-same-length : tie.Need-same-length
-same-length c = simp length-set
 
 returns-2 : tie.Need-returns-2
 returns-2 c =
@@ -83,6 +38,21 @@ returns-2 c =
 pub give-motion-spec : {M : Type 1} → statement M
 give-motion-spec =
     tie.close
-    (tie.spec (λ c. search needs) (λ c κs. search needs) (λ c. search needs) slice-set-from-east slice-set-from-north slice-set-from-up slice-set-of-out
-    slice-set-of-out-2 slice-set-from-datum slice-set-from-before slice-set-from-datum-2 slice-set-from-after slice-set-from-x slice-set-from-y
-    slice-set-from-z slice-set-of-out-3 slice-set-of-out-4 slice-set-of-out-5 slice-set-of-out-6 returns same-length returns-2)
+    (tie.spec (λ c. search needs) (λ c κs. search needs) (λ c. search needs)
+    (λ c. place 0 16 (out c) 0 ([]) (room c) tt)
+    (λ c. place 1 16 (out c) 0 (_ ∷ []) (room c) tt)
+    (λ c. place 2 16 (out c) 0 (_ ∷ _ ∷ []) (room c) tt)
+    (λ c. place 3 16 (out c) 0 (_ ∷ _ ∷ _ ∷ []) (room c) tt)
+    (λ c. place 4 16 (out c) 0 (_ ∷ _ ∷ _ ∷ _ ∷ []) (room c) tt)
+    (λ c. place 5 16 (out c) 0 (_ ∷ _ ∷ _ ∷ _ ∷ _ ∷ []) (room c) tt)
+    (λ c. place 6 16 (out c) 0 (_ ∷ _ ∷ _ ∷ _ ∷ _ ∷ _ ∷ []) (room c) tt)
+    (λ c. place 7 16 (out c) 0 (_ ∷ _ ∷ _ ∷ _ ∷ _ ∷ _ ∷ _ ∷ []) (room c) tt)
+    (λ c. place 8 16 (out c) 0 (_ ∷ _ ∷ _ ∷ _ ∷ _ ∷ _ ∷ _ ∷ _ ∷ []) (room c) tt)
+    (λ c. place 9 16 (out c) 0 (_ ∷ _ ∷ _ ∷ _ ∷ _ ∷ _ ∷ _ ∷ _ ∷ _ ∷ []) (room c) tt)
+    (λ c. place 10 16 (out c) 0 (_ ∷ _ ∷ _ ∷ _ ∷ _ ∷ _ ∷ _ ∷ _ ∷ _ ∷ _ ∷ []) (room c) tt)
+    (λ c. place 11 16 (out c) 0 (_ ∷ _ ∷ _ ∷ _ ∷ _ ∷ _ ∷ _ ∷ _ ∷ _ ∷ _ ∷ _ ∷ []) (room c) tt)
+    (λ c. place 12 16 (out c) 0 (_ ∷ _ ∷ _ ∷ _ ∷ _ ∷ _ ∷ _ ∷ _ ∷ _ ∷ _ ∷ _ ∷ _ ∷ []) (room c) tt)
+    (λ c. place 13 16 (out c) 0 (_ ∷ _ ∷ _ ∷ _ ∷ _ ∷ _ ∷ _ ∷ _ ∷ _ ∷ _ ∷ _ ∷ _ ∷ _ ∷ []) (room c) tt)
+    (λ c. place 14 16 (out c) 0 (_ ∷ _ ∷ _ ∷ _ ∷ _ ∷ _ ∷ _ ∷ _ ∷ _ ∷ _ ∷ _ ∷ _ ∷ _ ∷ _ ∷ []) (room c) tt)
+    (λ c. place 15 16 (out c) 0 (_ ∷ _ ∷ _ ∷ _ ∷ _ ∷ _ ∷ _ ∷ _ ∷ _ ∷ _ ∷ _ ∷ _ ∷ _ ∷ _ ∷ _ ∷ []) (room c) tt)
+    returns (λ c. length-sets (out c) 0 (_ ∷ _ ∷ _ ∷ _ ∷ _ ∷ _ ∷ _ ∷ _ ∷ _ ∷ _ ∷ _ ∷ _ ∷ _ ∷ _ ∷ _ ∷ _ ∷ [])) returns-2)

@@ -1,10 +1,8 @@
 -- `capi::row::put` meets its contract: eight numbers stand one after the other. Assumes nothing.
-use mathlib.Core.Path.{_≡_}
-use Prim.Native.Nat.{suc, _+_}
 use native.Mathlib.Omega.{arith}
-use borrow.Author.Needs.{needs}
 use lib.ListN.{length-set}
 use Rattle.rounding.proofs.Machine.{rd}
+use Rattle.chain.proofs.KeptRows.{eight-set}
 use Rattle.capi.proofs.row.put.Statement.{statement}
 use Rattle.capi.proofs.row.put.Tie as tie
 
@@ -35,20 +33,12 @@ same-length c = simp length-set
 returns : tie.Need-returns
 returns c =
     let f = c .fits in
-    let i = c .args .at in
-    let b1 : i + 1 ≡ suc i = omega arith in
-    let b2 : i + 2 ≡ suc (suc i) = omega arith in
-    let b3 : i + 3 ≡ suc (suc (suc i)) = omega arith in
-    let b4 : i + 4 ≡ suc (suc (suc (suc i))) = omega arith in
-    let b5 : i + 5 ≡ suc (suc (suc (suc (suc i)))) = omega arith in
-    let b6 : i + 6 ≡ suc (suc (suc (suc (suc (suc i))))) = omega arith in
-    let b7 : i + 7 ≡ suc (suc (suc (suc (suc (suc (suc i)))))) = omega arith in
-    rw (b1, b2, b3, b4, b5, b6, b7, rd (f .number), rd (f .issue), rd (f .order), rd (f .datum), rd (f .epoch), rd (f .x), rd (f .y), rd (f .z))
+    eight-set (c .args .out .now) (c .args .at) (rd (f .number)) (rd (f .issue)) (rd (f .order)) (rd (f .datum)) (rd (f .epoch)) (rd (f .x)) (rd (f .y)) (rd (f .z))
 
 pub put-spec : {M : Type 1} → statement M
 put-spec =
     tie.close
-    (tie.spec (λ c. search needs) (λ c. search needs) (λ c. search needs) (λ c. search needs) slice-set-from-issue (λ c. search needs) (λ c. search needs)
-    slice-set-from-order (λ c. search needs) (λ c. search needs) slice-set-from-datum (λ c. search needs) (λ c. search needs) slice-set-from-epoch
-    (λ c. search needs) (λ c. search needs) slice-set-from-x (λ c. search needs) (λ c. search needs) slice-set-from-y (λ c. search needs)
-    (λ c. search needs) slice-set-from-z same-length returns)
+    (tie.spec (λ c. omega arith) (λ c. omega arith) (λ c. omega arith) (λ c. omega arith) slice-set-from-issue (λ c. omega arith) (λ c. omega arith)
+    slice-set-from-order (λ c. omega arith) (λ c. omega arith) slice-set-from-datum (λ c. omega arith) (λ c. omega arith) slice-set-from-epoch
+    (λ c. omega arith) (λ c. omega arith) slice-set-from-x (λ c. omega arith) (λ c. omega arith) slice-set-from-y (λ c. omega arith)
+    (λ c. omega arith) slice-set-from-z same-length returns)

@@ -122,4 +122,4 @@ returns-4 c =
     ap (λ (ss : List Step). first (laterTests (profile s) (at .previous) ss)) (sym (ap (λ (k : ℕ). drop k (take (count s) (steps s))) e ∙ none-left (steps s) (count s))) ∙ at .inv .1
 
 pub steps-fault-spec : {M : Type 1} → statement M
-steps-fault-spec = tie.close (tie.spec Inv-loop μ-loop returns (search needs) step-fault-requires returns-2 loop-holds (search needs) (search needs) later-fault-requires returns-3 (search needs) (search needs) loop-again returns-4)
+steps-fault-spec = tie.close (tie.spec Inv-loop μ-loop returns (search needs) step-fault-requires returns-2 loop-holds (λ c. omega arith) (λ c. omega arith) later-fault-requires returns-3 (λ c. omega arith) (λ c. omega arith) loop-again returns-4)

@@ -1,6 +1,6 @@
 -- `line::ends::among_four` meets its contract. Assumes nothing.
 use Rattle.line.proofs.Lines.{one, either}
-use borrow.Author.Needs.{needs}
+use native.Mathlib.Omega.{arith}
 use Rattle.line.proofs.ends.among_four.Statement.{statement}
 use Rattle.line.proofs.ends.among_four.Tie as tie
 
@@ -10,4 +10,4 @@ returns c = let s = c .before .before .before .before in either 3 1 (either 2 1 
 pub among-four-spec : {M : Type 1} → statement M
 among-four-spec =
     tie.close
-    (tie.spec (search needs) (search needs) (search needs) (search needs) (search needs) (search needs) (search needs) returns)
+    (tie.spec (λ c. omega arith) (λ c. omega arith) (λ c. omega arith) (λ c. omega arith) (λ c. omega arith) (λ c. omega arith) (λ c. omega arith) returns)

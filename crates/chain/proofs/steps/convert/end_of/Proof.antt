@@ -1,5 +1,4 @@
 -- `chain::steps::convert::end_of` meets its contract. Assumes nothing.
-use borrow.Author.Needs.{needs}
 use mathlib.Core.Path.{_≡_, sym, _∙_, ap}
 use Prim.Native.Nat.{ℕ, suc, _-_}
 use native.Mathlib.Omega.{arith}
@@ -27,4 +26,4 @@ returns-2 c =
     sym (end-at l i (s .args .r) (omega (arith, long s, c .before .before .if1 .left))) ∙ ap (λ (k : ℕ). endOf (s .args .r) (take k l)) n
 
 pub end-of-spec : {M : Type 1} → statement M
-end-of-spec = tie.close (tie.spec returns (search needs) (search needs) (search needs) returns-2)
+end-of-spec = tie.close (tie.spec returns (λ c. omega arith) (λ c. omega arith) (λ c. omega arith) returns-2)

@@ -118,4 +118,4 @@ returns-2 c =
     ap Converted (c .moved-to .ensures) ∙ ap (end s) (ap (λ (k : ℕ). walk inverseStep (reverse (take k (steps s))) (at .p)) (sym e) ∙ at .inv .2)
 
 pub inverse-walk-spec : {M : Type 1} → statement M
-inverse-walk-spec = tie.close (tie.spec Inv-loop μ-loop loop-holds (search needs) mul-step element-copy-out-step inverse-step-requires in-area-requires returns (search needs) loop-again moved-to-requires returns-2)
+inverse-walk-spec = tie.close (tie.spec Inv-loop μ-loop loop-holds (search needs) mul-step element-copy-out-step inverse-step-requires in-area-requires returns (λ c. omega arith) loop-again moved-to-requires returns-2)

@@ -1,12 +1,6 @@
 -- `chain::steps::kept::rows::ready_at` meets its contract. Assumes nothing.
-use Prim.Native.Nat.{ℕ, _+_, _*_}
-use mathlib.Core.Path.{_≡_, ap}
-use native.Mathlib.Omega.{arith}
-use lib.IntN.{pos}
-use lib.ListN.{getD}
-use mathlib.Core.Path.{_∙_}
 use Rattle.rounding.proofs.Machine.{told}
-use Rattle.chain.proofs.KeptRows.{eight}
+use Rattle.chain.proofs.KeptRows.{first-number, eight-say, row-fits, row-bytes, row-within, index-fits, index-bytes, index-within}
 use Rattle.chain.specs.Prepared.{readyAt}
 use borrow.Author.Needs.{needs}
 use Rattle.chain.proofs.steps.kept.rows.ready_at.Statement.{statement}
@@ -23,12 +17,17 @@ returns c =
     let c7 = c6 .before in
     let c8 = c7 .before in
     let c9 = c8 .before in
-    let e : 8 * c9 .args .index ≡ 8 * c9 .args .index + 0 = omega arith in
-    c .ready-of .ensures ∙ eight (told (c8 .ready-of-arg .given) ∙ ap (λ (n : ℕ). getD (c9 .args .numbers .now) n (pos 0)) e) (told (c7 .ready-of-arg2 .given)) (told (c6 .ready-of-arg3 .given)) (told (c5 .ready-of-arg4 .given)) (told (c4 .ready-of-arg5 .given)) (told (c3 .ready-of-arg6 .given)) (told (c2 .ready-of-arg7 .given)) (told (c .before .ready-of-arg8 .given))
+    eight-say (first-number (c9 .args .numbers .now) (c9 .args .index) (told (c8 .ready-of-arg .given))) (told (c7 .ready-of-arg2 .given)) (told (c6 .ready-of-arg3 .given)) (told (c5 .ready-of-arg4 .given)) (told (c4 .ready-of-arg5 .given)) (told (c3 .ready-of-arg6 .given)) (told (c2 .ready-of-arg7 .given)) (told (c .before .ready-of-arg8 .given)) (c .ready-of .result) (c .ready-of .ensures)
 
 pub ready-at-spec : {M : Type 1} → statement M
 ready-at-spec =
     tie.close
-    (tie.spec (search needs) (search needs) (search needs) (search needs) (search needs) (search needs) (search needs) (search needs) (search needs)
-    (search needs) (search needs) (search needs) (search needs) (search needs) (search needs) (search needs) (search needs) (search needs)
-    (search needs) (search needs) (search needs) (search needs) (search needs) (search needs) (search needs) returns)
+    (tie.spec (λ c. row-fits (c .pre)) (λ c. row-bytes (c .pre)) (λ c. row-within (c .pre))
+    (λ c. index-fits (c .before .pre) 1 tt) (λ c. index-bytes (c .before .pre) 1 tt) (λ c. index-within (c .before .pre) 1 tt)
+    (λ c. index-fits (c .before .before .pre) 2 tt) (λ c. index-bytes (c .before .before .pre) 2 tt) (λ c. index-within (c .before .before .pre) 2 tt)
+    (λ c. index-fits (c .before .before .before .pre) 3 tt) (λ c. index-bytes (c .before .before .before .pre) 3 tt) (λ c. index-within (c .before .before .before .pre) 3 tt)
+    (λ c. index-fits (c .before .before .before .before .pre) 4 tt) (λ c. index-bytes (c .before .before .before .before .pre) 4 tt) (λ c. index-within (c .before .before .before .before .pre) 4 tt)
+    (λ c. index-fits (c .before .before .before .before .before .pre) 5 tt) (λ c. index-bytes (c .before .before .before .before .before .pre) 5 tt) (λ c. index-within (c .before .before .before .before .before .pre) 5 tt)
+    (λ c. index-fits (c .before .before .before .before .before .before .pre) 6 tt) (λ c. index-bytes (c .before .before .before .before .before .before .pre) 6 tt) (λ c. index-within (c .before .before .before .before .before .before .pre) 6 tt)
+    (λ c. index-fits (c .before .before .before .before .before .before .before .pre) 7 tt) (λ c. index-bytes (c .before .before .before .before .before .before .before .pre) 7 tt) (λ c. index-within (c .before .before .before .before .before .before .before .pre) 7 tt)
+    (search needs) returns)

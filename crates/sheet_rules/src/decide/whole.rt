@@ -11,10 +11,9 @@ use crate::Reply;
 use crate::State;
 use crate::decide::begins_with;
 use crate::decide::decide;
+use line::LINE_FEED;
 
 mod printed;
-
-const LINE_FEED: u8 = 10;
 
 // Nothing read yet.
 fn fresh() -> State

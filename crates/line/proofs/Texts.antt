@@ -288,16 +288,6 @@ pub point-is : (p : Point)
 unfolding pointText lineText
 point-is p = simp tabbed
 
--- the same by the parts that are written together
-pub point-put : (p : Point)
-    → (80 ∷ 9 ∷ [])
-    ++ (((nameText (p .label .id) ++ (9 ∷ [])) ++ ((integer (p .label .issue) ++ (9 ∷ [])) ++ (integer (p .label .order) ++ (9 ∷ []))))
-    ++ (((integer (p .realization .datum) ++ (9 ∷ [])) ++ (integer (p .realization .epoch) ++ (9 ∷ [])))
-    ++ ((integer (p .position .x) ++ (9 ∷ [])) ++ ((integer (p .position .y) ++ (9 ∷ [])) ++ (integer (p .position .z) ++ (10 ∷ []))))))
-    ≡ pointText p
-unfolding pointText lineText
-point-put p = simp append-assoc
-
 pub refusal-put : (line number place : ℕ)
     → (82 ∷ 9 ∷ []) ++ (decimal line ++ ((9 ∷ []) ++ ((decimal number ++ (9 ∷ [])) ++ (decimal place ++ (10 ∷ []))))) ≡ refusalText line number place
 refusal-put line number place = rw (append-assoc (decimal number) (9 ∷ []) _) (refusal-is line number place)

@@ -18,7 +18,7 @@ use Rattle.line.specs.Malformed.{Class, letters, identifier, number, num
 use Rattle.line.specs.Name.{nameOf}
 use Rattle.line.specs.Number.{numberOf}
 use Rattle.line.specs.Reading.{from, Tells, Got}
-use Rattle.line.specs.SecondLook.{stepRest, restOf, letteredOf, gridMark, gridClasses, classesOf, Passed, earlier, FirstWrong, Skipped}
+use Rattle.line.specs.SecondLook.{restOf, letteredOf, gridMark, gridClasses, classesOf, Passed, earlier, FirstWrong, Skipped}
 use Rattle.line.proofs.Places.{next-place}
 use Rattle.line.proofs.SecondLook.{offending-none}
 use Rattle.line.proofs.Walk as W

@@ -76,6 +76,7 @@ pub record FirstWrong (n : ℕ) (s : List ℕ) (at : ℕ) (cs : List Class) (pla
 pub record Skipped (s : List ℕ) (many at next : ℕ) : Type 0 where
   pub same : (cs : List Class) → offending refusal.letter at (numbers many ++ cs) (from s at) ≡ offending refusal.letter next cs (from s next)
 
+-- ids and numbers
 pub record Looked (s : List ℕ) (cs : List Class) (id plain : ℕ) : Type 0 where
   pub id-at : FirstWrong refusal.id s 0 cs id
   pub plain-at : FirstWrong refusal.plain s 0 cs plain

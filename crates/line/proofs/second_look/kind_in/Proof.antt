@@ -1,5 +1,4 @@
 -- `line::second_look::kind_in` meets its contract. Assumes nothing.
-use Prim.Native.Nat.{ℕ}
 use mathlib.Core.Path.{ap}
 use Rattle.line.specs.Fields.{fields}
 use Rattle.line.specs.Malformed.{kindOf}

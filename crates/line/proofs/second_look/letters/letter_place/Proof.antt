@@ -3,7 +3,6 @@ use mathlib.Core.Path.{refl}
 use mathlib.Core.List.{[], _∷_}
 use native.Mathlib.Omega.{arith}
 use Rattle.line.specs.Malformed.{numbers}
-use Rattle.line.specs.SecondLook.{stepRest}
 use Rattle.line.proofs.Letters as L
 use borrow.Author.Needs.{needs}
 use Rattle.line.proofs.second_look.letters.letter_place.Statement.{statement}

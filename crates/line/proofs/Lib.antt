@@ -16,6 +16,8 @@ pub mod Lots
 pub mod Malformed
 pub mod GoodForm
 pub mod SecondLook
+pub mod Letters
+pub mod Tabs
 pub mod Readers
 pub mod WrittenNumbers
 pub mod WrittenNames

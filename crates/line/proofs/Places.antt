@@ -52,7 +52,7 @@ inside s at {f} {fs} e = go (decLt (length s) at)
     go (no l) = omega arith
 
 -- so the next one begins behind it
-next-place : (s : List ℕ) (at next : ℕ) {f : List ℕ} {fs : List (List ℕ)} → from s at ≡ f ∷ fs → from s next ≡ fs → next ≤ length s + 1 → next ≡ at + (length f + 1)
+pub next-place : (s : List ℕ) (at next : ℕ) {f : List ℕ} {fs : List (List ℕ)} → from s at ≡ f ∷ fs → from s next ≡ fs → next ≤ length s + 1 → next ≡ at + (length f + 1)
 unfolding size
 next-place s at next {f} {fs} e n h =
     let a = size-from s at (omega (arith, inside s at e)) in

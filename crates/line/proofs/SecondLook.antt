@@ -11,11 +11,11 @@ use native.Mathlib.Omega.{arith}
 use borrow.Author.Tests.{le-leb, lt-leb, eq-eqb, ne-eqb}
 use Rattle.refusal.specs.Numbers as refusal
 use Rattle.refusal.specs.Order.{pick}
-use Rattle.line.specs.Bytes.{lineFeed, letterT, letterV, letterB, letterF}
+use Rattle.line.specs.Bytes.{lineFeed, letterS, letterT, letterV, letterB, letterF}
 use Rattle.line.specs.Fields.{longestLine, body, fields, front, taken, head, single, oneOf}
 use Rattle.line.specs.Malformed.{Class, letters, number, numbers, byteOf, kindOf, kindShape, unread, fieldFault, offending, endOf, fault, fieldsFault}
 use Rattle.line.specs.Reading.{from, fronts, Tells, Got, Framed, itself}
-use Rattle.line.specs.SecondLook.{stepRest, classesOf, shapeOf, firstFault, Passed, earlier, Looked}
+use Rattle.line.specs.SecondLook.{stepRest, classesOf, firstFault, Passed, earlier, FirstWrong, Looked}
 use Rattle.line.proofs.Walk as W
 use Rattle.line.proofs.Names.{fronts-snoc}
 
@@ -129,7 +129,7 @@ faulted {s = s} {image} {read} {at} {v} {next} c n g h same =
     go (some b) fs t = rw (le-leb next (length s + 1) (t .1))
 
 -- ---- the walk over the fields: a place found before, or what is found from here on
-offending-none : (n at : ℕ) (cs : List Class) → offending n at cs [] ≡ none
+pub offending-none : (n at : ℕ) (cs : List Class) → offending n at cs [] ≡ none
 unfolding offending
 offending-none n at [] = refl
 offending-none n at (c ∷ cs) = refl
@@ -163,97 +163,80 @@ module _ (n : ℕ) (positive : 0 < n) (s : List ℕ) (cs : List Class) (at i : �
       go false e true = rw (le-leb at (length s) h)
       go false e false = rw e
 
-pub record Looking (s : List ℕ) (cs : List Class) (letter id plain count at : ℕ) : Type 0 where
-  pub letter-at : earlier s letter (offending refusal.letter at (drop count cs) (from s at)) ≡ offending refusal.letter 0 cs (fields s)
-  pub id-at : earlier s id (offending refusal.id at (drop count cs) (from s at)) ≡ offending refusal.id 0 cs (fields s)
-  pub plain-at : earlier s plain (offending refusal.plain at (drop count cs) (from s at)) ≡ offending refusal.plain 0 cs (fields s)
-  pub counted : count + length (from s at) ≡ length (fields s)
+pub record Looking (s : List ℕ) (cs : List Class) (id plain count at : ℕ) : Type 0 where
+  pub id-at : earlier s id (offending refusal.id at (drop count cs) (from s at)) ≡ offending refusal.id 0 cs (from s 0)
+  pub plain-at : earlier s plain (offending refusal.plain at (drop count cs) (from s at)) ≡ offending refusal.plain 0 cs (from s 0)
   pub inside : at ≤ length s + 1
   pub few : count ≤ at
 
-pub looking : (s : List ℕ) (cs : List Class) (past : ℕ) → length s < past → Looking s cs past past past 0 0
-looking s cs past h =
-    record {
-      letter-at = start refusal.letter;
-      id-at = start refusal.id;
-      plain-at = start refusal.plain;
-      counted = omega (arith, ap length (W.from-start s));
-      inside = omega arith;
-      few = omega arith;
-    }
+pub looking : (s : List ℕ) (cs : List Class) (past : ℕ) → length s < past → Looking s cs past past 0 0
+looking s cs past h = record { id-at = start refusal.id; plain-at = start refusal.plain; inside = omega arith; few = omega arith }
   where
-    start : (n : ℕ) → earlier s past (offending n 0 cs (from s 0)) ≡ offending n 0 cs (fields s)
-    start n = rw (lt-leb past (length s) h, W.from-start s)
+    start : (n : ℕ) → earlier s past (offending n 0 cs (from s 0)) ≡ offending n 0 cs (from s 0)
+    start n = rw (lt-leb past (length s) h)
 
-pub looking-on : {s : List ℕ} {cs : List Class} {letter id plain count at letter′ id′ plain′ next wrong : ℕ} → Looking s cs letter id plain count at
+pub looking-on : {s : List ℕ} {cs : List Class} {id plain count at id′ plain′ next wrong : ℕ} → Looking s cs id plain count at
     → at ≤ length s → Passed s at next → wrong ≡ firstFault (getElem? cs count) (from s at)
-    → letter′ ≡ pick (leb letter (length s)) letter (pick (eqb wrong refusal.letter) at letter)
     → id′ ≡ pick (leb id (length s)) id (pick (eqb wrong refusal.id) at id)
     → plain′ ≡ pick (leb plain (length s)) plain (pick (eqb wrong refusal.plain) at plain)
-    → Looking s cs letter′ id′ plain′ (count + 1) next
-looking-on {s} {cs} {letter} {id} {plain} {count} {at} k h p w l i n =
+    → Looking s cs id′ plain′ (count + 1) next
+looking-on {s} {cs} {id} {plain} {count} {at} k h p w i n =
     record {
-      letter-at = held-on refusal.letter (omega arith) s cs at count h p letter w l ∙ k .letter-at;
       id-at = held-on refusal.id (omega arith) s cs at count h p id w i ∙ k .id-at;
       plain-at = held-on refusal.plain (omega arith) s cs at count h p plain w n ∙ k .plain-at;
-      counted = omega (arith, k .counted, ap length (p .there));
       inside = p .inside;
       few = omega (arith, k .few, p .place);
     }
 
-pub looked : {s : List ℕ} {cs : List Class} {letter id plain count at : ℕ} → Looking s cs letter id plain count at → length s < at
-    → Looked s cs letter id plain count
-looked {s} {cs} {letter} {id} {plain} {count} {at} k h =
-    record {
-      letter-at = closed refusal.letter letter (k .letter-at);
-      id-at = closed refusal.id id (k .id-at);
-      plain-at = closed refusal.plain plain (k .plain-at);
-      counted = omega (arith, k .counted, ap length (W.from-past s at h));
-    }
+pub looked : {s : List ℕ} {cs : List Class} {id plain count at : ℕ} → Looking s cs id plain count at → length s < at → Looked s cs id plain
+looked {s} {cs} {id} {plain} {count} {at} k h =
+    record { id-at = closed refusal.id id (k .id-at); plain-at = closed refusal.plain plain (k .plain-at) }
   where
-    closed : (n p : ℕ) {o : Option ℕ} → earlier s p (offending n at (drop count cs) (from s at)) ≡ o → earlier s p none ≡ o
-    closed n p e = rw (W.from-past s at h, offending-none n at (drop count cs)) at e
+    closed : (n p : ℕ) → earlier s p (offending n at (drop count cs) (from s at)) ≡ offending n 0 cs (from s 0) → FirstWrong n s 0 cs p
+    closed n p e = record { is = rw (W.from-past s at h, offending-none n at (drop count cs)) at e }
 
 -- what was found, and that nothing was
-module _ (s : List ℕ) (p : ℕ) {o : Option ℕ} (e : earlier s p none ≡ o) where
-  pub seen : p ≤ length s → o ≡ some p
-  seen h = sym e ∙ rw (le-leb p (length s) h)
+module _ {n : ℕ} {s : List ℕ} {cs : List Class} {p : ℕ} (w : FirstWrong n s 0 cs p) where
+  seen : p ≤ length s → offending n 0 cs (fields s) ≡ some p
+  seen h = rw (← W.from-start s) (sym (w .is) ∙ rw (le-leb p (length s) h))
 
-  pub unseen : length s < p → o ≡ none
-  unseen h = sym e ∙ rw (lt-leb p (length s) h)
+  unseen : length s < p → offending n 0 cs (fields s) ≡ none
+  unseen h = rw (← W.from-start s) (sym (w .is) ∙ rw (lt-leb p (length s) h))
 
 -- ---- what was found decides
-module _ {s : List ℕ} {cs : List Class} {letter id plain count : ℕ} (k : Looked s cs letter id plain count) (end : ℕ) where
+module _ {s : List ℕ} {cs : List Class} {letter : ℕ} (w : FirstWrong refusal.letter s 0 cs letter) (end : ℕ) where
   pub is-letter : letter ≤ length s → fault refusal.letter letter ≡ fieldsFault cs end (fields s)
   unfolding fieldsFault
-  is-letter l = rw (seen s letter (k .letter-at) l)
+  is-letter l = rw (seen w l)
 
-  module _ (l : length s < letter) where
+  module _ (l : length s < letter) {count : ℕ} (counted : count ≡ length (fields s)) where
     pub is-count : (count ≡ length cs → ⊥) → fault refusal.count end ≡ fieldsFault cs end (fields s)
     unfolding fieldsFault
-    is-count n = rw (unseen s letter (k .letter-at) l, ne-eqb (length (fields s)) (length cs) (λ e. n (k .counted ∙ e)))
+    is-count n = rw (unseen w l, ne-eqb (length (fields s)) (length cs) (λ e. n (counted ∙ e)))
 
-    module _ (n : count ≡ length cs) where
+    module _ (n : count ≡ length cs) {id plain : ℕ} (k : Looked s cs id plain) where
       as-many : eqb (length (fields s)) (length cs) ≡ true
-      as-many = eq-eqb (length (fields s)) (length cs) (sym (k .counted) ∙ n)
+      as-many = eq-eqb (length (fields s)) (length cs) (sym counted ∙ n)
 
       pub is-id : id ≤ length s → fault refusal.id id ≡ fieldsFault cs end (fields s)
       unfolding fieldsFault
-      is-id i = rw (unseen s letter (k .letter-at) l, as-many, seen s id (k .id-at) i)
+      is-id i = rw (unseen w l, as-many, seen (k .id-at) i)
 
       module _ (i : length s < id) where
         pub is-plain : plain ≤ length s → fault refusal.plain plain ≡ fieldsFault cs end (fields s)
         unfolding fieldsFault
-        is-plain p = rw (unseen s letter (k .letter-at) l, as-many, unseen s id (k .id-at) i, seen s plain (k .plain-at) p)
+        is-plain p = rw (unseen w l, as-many, unseen (k .id-at) i, seen (k .plain-at) p)
 
         pub is-none : length s < plain → fault 0 0 ≡ fieldsFault cs end (fields s)
         unfolding fieldsFault
-        is-none p = rw (unseen s letter (k .letter-at) l, as-many, unseen s id (k .id-at) i, unseen s plain (k .plain-at) p)
+        is-none p = rw (unseen w l, as-many, unseen (k .id-at) i, unseen (k .plain-at) p)
 
--- the shape, by the kind that was read
-pub by-kind : (first end : ℕ) {kind : ℕ} (fs : List (List ℕ)) → kind ≡ kindOf fs
-    → fieldsFault (classesOf first kind) end fs ≡ fieldsFault (shapeOf first fs) end fs
-by-kind first end fs e = ap (λ (k : ℕ). fieldsFault (classesOf first k) end fs) e
+-- the shape, by the kind of a step; no other line's shape goes by it
+pub any-kind : (mark k l : ℕ) → (mark ≡ letterS → ⊥) → classesOf mark k ≡ classesOf mark l
+any-kind mark k l n = rw (ne-eqb mark letterS n)
+
+pub by-shape : {cs ds : List Class} (end : ℕ) (fs : List (List ℕ)) → cs ≡ ds → fieldsFault cs end fs ≡ fieldsFault ds end fs
+by-shape end fs e = ap (λ (cs : List Class). fieldsFault cs end fs) e
 
 -- ---- the line's frame
 module _ (line : List ℕ) where

@@ -10,7 +10,6 @@ use Rattle.refusal.specs.Order.{pick}
 use Rattle.line.specs.declared.awaited.Awaited.{Awaited}
 use Rattle.line.specs.declared.awaited.Awaited.the-variants.{Letter, Kind, Convention, Identifier, Number, Nothing}
 use Rattle.line.specs.Bytes.{minus, letterP, letterS, letterT, letterV, letterB, letterF, letterC, letterO, letterG, letterE}
-use Rattle.line.specs.Fields.{fields}
 use Rattle.line.specs.Malformed.{Class, letters, identifier, number, Shape, numbers, kindOf, kindShape, fieldFault, offending}
 use Rattle.line.specs.Reading.{from}
 
@@ -30,11 +29,14 @@ abbrev pub letteredOf : ℕ → ℕ → List Class
 letteredOf first kind = letters (first ∷ []) ∷ restOf first kind
 
 -- a velocity grid's header begins with G as a position does; its mark is a small g, and a node's a hyphen
+abbrev pub gridMark : ℕ
+gridMark = 103
+
 abbrev pub gridClasses : List Class
 gridClasses = letters (letterG ∷ []) ∷ numbers 5
 
 abbrev pub classesOf : ℕ → ℕ → List Class
-classesOf mark kind = pick (eqb mark minus) (numbers 3) (pick (eqb mark 103) gridClasses (letteredOf mark kind))
+classesOf mark kind = pick (eqb mark minus) (numbers 3) (pick (eqb mark gridMark) gridClasses (letteredOf mark kind))
 
 abbrev pub shapeOf : ℕ → Shape
 shapeOf mark fs = classesOf mark (kindOf fs)
@@ -66,8 +68,15 @@ pub record Passed (s : List ℕ) (at next : ℕ) : Type 0 where
 abbrev pub earlier : List ℕ → ℕ → Option ℕ → Option ℕ
 earlier s p later = pick (leb p (length s)) (some p) later
 
-pub record Looked (s : List ℕ) (cs : List Class) (letter id plain count : ℕ) : Type 0 where
-  pub letter-at : earlier s letter none ≡ offending refusal.letter 0 cs (fields s)
-  pub id-at : earlier s id none ≡ offending refusal.id 0 cs (fields s)
-  pub plain-at : earlier s plain none ≡ offending refusal.plain 0 cs (fields s)
-  pub counted : count ≡ length (fields s)
+-- where the first field with fault n begins, of those from `at` on, which are to be of these classes
+pub record FirstWrong (n : ℕ) (s : List ℕ) (at : ℕ) (cs : List Class) (place : ℕ) : Type 0 where
+  pub is : earlier s place none ≡ offending n at cs (from s at)
+
+-- so many numbers from `at` on are passed: a letter that is wrong after them is the same from `next` on
+pub record Skipped (s : List ℕ) (many at next : ℕ) : Type 0 where
+  pub same : (cs : List Class) → offending refusal.letter at (numbers many ++ cs) (from s at) ≡ offending refusal.letter next cs (from s next)
+
+-- ids and numbers
+pub record Looked (s : List ℕ) (cs : List Class) (id plain : ℕ) : Type 0 where
+  pub id-at : FirstWrong refusal.id s 0 cs id
+  pub plain-at : FirstWrong refusal.plain s 0 cs plain

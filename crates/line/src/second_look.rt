@@ -11,27 +11,29 @@ use crate::field::nowhere;
 use crate::field::single;
 use crate::name::name;
 use crate::number::number;
+use crate::second_look::letters::letter_place;
 use crate::step_line::convention_letter;
 use crate::step_line::kind_letter;
 ghost use mathlib.Core.Path.{_≡_};
 ghost use Prim.Native.Nat.{_+_, _≤_};
 ghost use lib.Dec.{eqb, leb};
+ghost use lib.ListN.{length};
 ghost use Rattle.refusal.specs.Order.{pick};
 ghost use Rattle.line.specs.Fields.{fields};
 ghost use Rattle.line.specs.Reading.{from};
 ghost use Rattle.line.specs.Malformed.{kindOf, endOf, fault, fieldsFault, faultOf};
 ghost use Rattle.line.specs.SecondLook.{classesOf, classOf, firstFault, Passed, Looked, shapeOf};
 
-// Where the first field begins that is wrong as a letter, as an id, as a number, past the end where there is none; and how many fields there are.
+mod letters;
+
+// Where the first field begins that is wrong as an id, and as a number; past the end where there is none.
 struct Seen {
-    letter: usize,
     id: usize,
     plain: usize,
-    count: usize,
 }
 
 // Where the field after the one at `at` begins.
-fn after(s: &[u8], at: usize) -> usize
+pub(crate) fn after(s: &[u8], at: usize) -> usize
     requires { do ⌜ at ≤ (← ⟦s.len()⟧) ⌝ }
     ensures { λ r. ⌜ Passed (now (s .entry)) at r ⌝ }
 {
@@ -52,6 +54,30 @@ fn kind_of(s: &[u8]) -> u8
     let second = after(s, 0);
     let c = single(s, second);
     if c.next <= s.len() + 1 { c.byte } else { 0 }
+}
+
+// The kind by which the classes of the line's fields go. Only a step has one, and no other line is asked for it.
+fn kind_in(s: &[u8], mark: u8) -> u8
+    ensures { λ r. ⌜ classesOf mark r ≡ shapeOf mark (fields (now (s .entry))) ⌝ }
+{
+    if mark == b'S' { kind_of(s) } else { 0 }
+}
+
+// How many tabs there are: one fewer than fields. Every byte is asked and none ends the loop, and the count is a byte as they are: so the compiler
+// compares and adds many of them side by side.
+fn tabs(s: &[u8]) -> u8
+    requires { do ⌜ (← ⟦s.len()⟧) ≤ 200 ⌝ }
+    ensures { λ r. ⌜ r + 1 ≡ length (fields (now (s .entry))) ⌝ }
+{
+    let mut count: u8 = 0;
+    let mut i: usize = 0;
+    while i < s.len() {
+        if s[i] == TAB {
+            count = count + 1;
+        }
+        i = i + 1;
+    }
+    count
 }
 
 // The number of a field's class, where its reader has told no place for the next field.
@@ -101,30 +127,23 @@ fn sooner(s: &[u8], before: usize, at: usize, fault: u8, number: u8) -> usize
     if fault == number { at } else { before }
 }
 
-// Every field, once.
+// Every field, once, for ids and numbers.
 fn look(s: &[u8], first: u8, kind: u8) -> Seen
-    ensures { λ r. ⌜ Looked (now (s .entry)) (classesOf first kind) (r .letter) (r .id) (r .plain) (r .count) ⌝ }
+    ensures { λ r. ⌜ Looked (now (s .entry)) (classesOf first kind) (r .id) (r .plain) ⌝ }
 {
-    let mut letter = nowhere(s);
-    let mut id = letter;
-    let mut plain = letter;
+    let mut id = nowhere(s);
+    let mut plain = id;
     let mut count: usize = 0;
     let mut at: usize = 0;
     while at <= s.len() {
         let awaited = class_at(first, kind, count);
         let fault = field_fault(s, at, awaited);
-        letter = sooner(s, letter, at, fault, refusal::LETTER);
         id = sooner(s, id, at, fault, refusal::ID);
         plain = sooner(s, plain, at, fault, refusal::PLAIN);
         at = after(s, at);
         count = count + 1;
     }
-    Seen {
-        letter,
-        id,
-        plain,
-        count,
-    }
+    Seen { id, plain }
 }
 
 // A number and its place, which is within a line.
@@ -138,20 +157,23 @@ pub(crate) fn found(number: u8, place: usize) -> Fault
     }
 }
 
-// The fields of a line that ends at `end`: LETTER, COUNT, ID, PLAIN, or 0.
+// The fields of a line that ends at `end`: LETTER, COUNT, ID, PLAIN, or 0. Most bad lines have a wrong letter or a wrong count, which take little to see:
+// ids and numbers are read only where both are right.
 fn fields_fault(s: &[u8], first: u8, end: usize) -> Fault
     requires { do ⌜ (← ⟦s.len()⟧) ≤ 200 ⌝ }
     requires { ⌜ end ≤ 200 ⌝ }
     ensures { λ r. ⌜ r ≡ fieldsFault (shapeOf first (fields (now (s .entry)))) end (fields (now (s .entry))) ⌝ }
 {
-    let kind = kind_of(s);
-    let seen = look(s, first, kind);
-    if seen.letter <= s.len() {
-        return found(refusal::LETTER, seen.letter);
+    let kind = kind_in(s, first);
+    let wrong = letter_place(s, first, kind);
+    if wrong <= s.len() {
+        return found(refusal::LETTER, wrong);
     }
-    if seen.count != count_of(first, kind) {
+    let parted = tabs(s) as usize;
+    if parted + 1 != count_of(first, kind) {
         return found(refusal::COUNT, end);
     }
+    let seen = look(s, first, kind);
     if seen.id <= s.len() {
         return found(refusal::ID, seen.id);
     }

@@ -9,48 +9,55 @@ use Rattle.line.proofs.second_look.fields_fault.Tie as tie
 
 returns : tie.Need-returns
 returns c =
-    let k = c .before .before .before in
-    let g = k .before .before .before .args in
-    c .found .ensures ∙ L.is-letter (k .look .ensures) (g .end) (omega arith)
-    ∙ L.by-kind (g .first) (g .end) (fields (g .s .now)) (k .before .kind-of .ensures)
+    let w = c .before .before in
+    let g = w .before .before .before .args in
+    c .found .ensures ∙ L.is-letter (w .letter-place .ensures) (g .end) (omega arith)
+    ∙ L.by-shape (g .end) (fields (g .s .now)) (w .before .kind-in .ensures)
 
 returns-2 : tie.Need-returns-2
 returns-2 c =
-    let n = c .before .before .before in
-    let k = n .before .before .before in
-    let g = k .before .before .before .args in
-    c .found2 .ensures ∙ L.is-count (k .look .ensures) (g .end) (omega arith) (λ e. c .before .if2 .taken (e ∙ sym (n .count-of .ensures)))
-    ∙ L.by-kind (g .first) (g .end) (fields (g .s .now)) (k .before .kind-of .ensures)
+    let n = c .before .before in
+    let w = n .before .before .before in
+    let g = w .before .before .before .args in
+    c .found2 .ensures
+    ∙ L.is-count (w .letter-place .ensures) (g .end) (omega arith) (n .before .tabs .ensures) (λ e. c .before .if2 .taken (e ∙ sym (n .count-of .ensures)))
+    ∙ L.by-shape (g .end) (fields (g .s .now)) (w .before .kind-in .ensures)
 
 returns-3 : tie.Need-returns-3
 returns-3 c =
-    let w = c .before .before .before in
-    let n = w .before .before in
-    let k = n .before .before .before in
-    let g = k .before .before .before .args in
-    c .found3 .ensures ∙ L.is-id (k .look .ensures) (g .end) (omega arith) (w .if2 .left ∙ n .count-of .ensures) (omega arith)
-    ∙ L.by-kind (g .first) (g .end) (fields (g .s .now)) (k .before .kind-of .ensures)
+    let k = c .before .before .before in
+    let n = k .before .before in
+    let w = n .before .before .before in
+    let g = w .before .before .before .args in
+    c .found3 .ensures
+    ∙ L.is-id (w .letter-place .ensures) (g .end) (omega arith) (n .before .tabs .ensures) (k .before .if2 .left ∙ n .count-of .ensures) (k .look .ensures)
+    (omega arith)
+    ∙ L.by-shape (g .end) (fields (g .s .now)) (w .before .kind-in .ensures)
 
 returns-4 : tie.Need-returns-4
 returns-4 c =
-    let w = c .before .before .before .before .before in
-    let n = w .before .before in
-    let k = n .before .before .before in
-    let g = k .before .before .before .args in
-    c .found4 .ensures ∙ L.is-plain (k .look .ensures) (g .end) (omega arith) (w .if2 .left ∙ n .count-of .ensures) (omega arith) (omega arith)
-    ∙ L.by-kind (g .first) (g .end) (fields (g .s .now)) (k .before .kind-of .ensures)
+    let k = c .before .before .before .before .before in
+    let n = k .before .before in
+    let w = n .before .before .before in
+    let g = w .before .before .before .args in
+    c .found4 .ensures
+    ∙ L.is-plain (w .letter-place .ensures) (g .end) (omega arith) (n .before .tabs .ensures) (k .before .if2 .left ∙ n .count-of .ensures) (k .look .ensures)
+    (omega arith) (omega arith)
+    ∙ L.by-shape (g .end) (fields (g .s .now)) (w .before .kind-in .ensures)
 
 returns-5 : tie.Need-returns-5
 returns-5 c =
-    let w = c .before .before .before .before .before in
-    let n = w .before .before in
-    let k = n .before .before .before in
-    let g = k .before .before .before .args in
-    c .found5 .ensures ∙ L.is-none (k .look .ensures) (g .end) (omega arith) (w .if2 .left ∙ n .count-of .ensures) (omega arith) (omega arith)
-    ∙ L.by-kind (g .first) (g .end) (fields (g .s .now)) (k .before .kind-of .ensures)
+    let k = c .before .before .before .before .before in
+    let n = k .before .before in
+    let w = n .before .before .before in
+    let g = w .before .before .before .args in
+    c .found5 .ensures
+    ∙ L.is-none (w .letter-place .ensures) (g .end) (omega arith) (n .before .tabs .ensures) (k .before .if2 .left ∙ n .count-of .ensures) (k .look .ensures)
+    (omega arith) (omega arith)
+    ∙ L.by-shape (g .end) (fields (g .s .now)) (w .before .kind-in .ensures)
 
 pub fields-fault-spec : {M : Type 1} → statement M
 fields-fault-spec =
     tie.close
-    (tie.spec (search needs) (search needs) (search needs) returns (search needs) (search needs) returns-2 (search needs) returns-3 (search needs)
-    returns-4 (search needs) returns-5)
+    (tie.spec (search needs) (search needs) (search needs) returns (search needs) (search needs) (search needs) (search needs) (search needs) returns-2
+    (search needs) (search needs) returns-3 (search needs) returns-4 (search needs) returns-5)

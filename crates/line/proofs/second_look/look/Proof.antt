@@ -13,20 +13,22 @@ use Rattle.line.proofs.second_look.look.Statement.{statement}
 use Rattle.line.proofs.second_look.look.Tie as tie
 
 abbrev Inv-loop : tie.InvT-loop
-Inv-loop s first kind letter₀ id₀ plain₀ count₀ at₀ letter id plain count at = L.Looking s (classesOf first kind) letter id plain count at
+Inv-loop s first kind id₀ plain₀ count₀ at₀ id plain count at = L.Looking s (classesOf first kind) id plain count at
 
 abbrev μ-loop : tie.MeasureT-loop
-μ-loop s first kind letter₀ id₀ plain₀ count₀ at₀ letter id plain count at = length s + 1 - at
+μ-loop s first kind id₀ plain₀ count₀ at₀ id plain count at = length s + 1 - at
 
 loop-holds : tie.Need-loop-holds Inv-loop μ-loop
 loop-holds c = let g = c .before .before .args in L.looking (g .s .now) (classesOf (g .first) (g .kind)) (c .nowhere .result) (omega arith)
 
 loop-again : tie.Need-loop-again Inv-loop μ-loop
-loop-again c = let s = c .before .before .before .before .before .before .before .before .before .before .args .s .now in
-    let at = c .before .before .before .before .before .before .before .loop .at in
-    L.looking-on (c .before .before .before .before .before .before .before .loop .inv) (omega arith) (c .after .ensures)
-    (c .before .before .before .before .field-fault .ensures ∙ ap (λ (o : Option Class). firstFault o (from s at)) (c .before .before .before .before .before .class-at .ensures))
-    (c .before .before .before .sooner .ensures) (c .before .before .sooner2 .ensures) (c .before .sooner3 .ensures)
+loop-again c =
+    let k = c .before .before .before .before .before .before in
+    let f = c .before .before .before in
+    L.looking-on (k .loop .inv) (omega arith) (c .after .ensures)
+    (f .field-fault .ensures
+    ∙ ap (λ (o : Option Class). firstFault o (from (k .before .before .before .args .s .now) (k .loop .at))) (f .before .class-at .ensures))
+    (c .before .before .sooner .ensures) (c .before .sooner2 .ensures)
 
 returns : tie.Need-returns Inv-loop μ-loop
 returns c = L.looked (c .before .loop .inv) (omega arith)
@@ -34,5 +36,5 @@ returns c = L.looked (c .before .loop .inv) (omega arith)
 pub look-spec : {M : Type 1} → statement M
 look-spec =
     tie.close
-    (tie.spec Inv-loop μ-loop (search needs) loop-holds (search needs) (search needs) (search needs) (search needs) (search needs) (search needs)
-    (search needs) (search needs) loop-again returns)
+    (tie.spec Inv-loop μ-loop (search needs) loop-holds (search needs) (search needs) (search needs) (search needs) (search needs) (search needs) (search needs)
+    loop-again returns)

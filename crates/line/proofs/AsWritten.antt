@@ -14,15 +14,19 @@ use borrow.Author.Tests.{leb-true, ltb-true, eqb-true, eq-eqb, ne-eqb}
 use Rattle.refusal.specs.Order.{pick}
 use Rattle.chain.specs.declared.Point.{Point}
 use Rattle.chain.specs.Faults.{pointFault}
+use Rattle.line.specs.declared.PlacedLine.{PlacedLine}
+use Rattle.line.specs.declared.PointLine.{PointLine}
 use Rattle.line.specs.declared.PointLine.the-variants as P
 use Rattle.line.specs.Fields.{body, fields, front, Form, ends, field, onward, taken, head, filled, inBody, said, letter}
 use Rattle.line.specs.Forms.{pointForm}
 use Rattle.line.specs.declared.Fault.{Fault}
+use Rattle.line.specs.Lines.{lineEnd, lineAt}
 use Rattle.line.specs.Malformed.{pointShape, faultOf}
 use Rattle.line.specs.Number.{isDigit, digits, plain, positive, negative, numberOf}
 use Rattle.line.specs.Readers.{judged, readAs, readPoint, placeOf, datumPlace, placedPoint}
 use Rattle.line.specs.Text.{decimal, integer, nameText, lineText, labelText, pointText}
 use Rattle.line.proofs.Capped.{never}
+use Rattle.line.proofs.Lines.{line-at}
 use Rattle.line.proofs.Texts as T
 use Rattle.line.proofs.Walk as W
 use Rattle.line.proofs.WrittenNames.{name-text}
@@ -224,11 +228,26 @@ pub point-place : (y : ℤ) (line : List ℕ) (p : Point) → readPoint y line �
 unfolding datumPlace
 point-place y line p e = rw (said-point y line p e)
 
--- what is told of a line with its place
-pub placed-line : (y : ℤ) (line : List ℕ) → placedPoint y line .line ≡ readPoint y line
+-- what is told of the line at a place
+pub placed-line : (y : ℤ) (input : List ℕ) (from : ℕ) → placedPoint y input from .line ≡ readPoint y (lineAt input from)
 unfolding placedPoint
-placed-line y line = refl
+placed-line y input from = refl
 
-pub placed-place : (y : ℤ) (line : List ℕ) → placedPoint y line .place ≡ datumPlace line
+pub placed-place : (y : ℤ) (input : List ℕ) (from : ℕ) → placedPoint y input from .place ≡ datumPlace (lineAt input from)
 unfolding placedPoint
-placed-place y line = refl
+placed-place y input from = refl
+
+pub placed-end : (y : ℤ) (input : List ℕ) (from : ℕ) → placedPoint y input from .end ≡ lineEnd input from
+unfolding placedPoint
+placed-end y input from = refl
+
+pub placed : (y : ℤ) (input : List ℕ) (from : ℕ) {r : PointLine} {place end : ℕ} → (r ≡ readPoint y (lineAt input from)) × (place ≡ datumPlace (lineAt input from)) → end ≡ lineEnd input from → record { line = r; place = place; end = end } ≡ placedPoint y input from
+unfolding placedPoint
+placed y input from h e = rw (h .0, h .1, e)
+
+-- the line is the bytes up to its end
+pub placed-read : (y : ℤ) (input : List ℕ) (from : ℕ) {r : PlacedLine} → r ≡ placedPoint y input from
+    → (r .line ≡ readPoint y (take (r .end - from) (drop from input))) × (r .place ≡ datumPlace (take (r .end - from) (drop from input)))
+placed-read y input from {r} e =
+    let l = line-at input from (r .end) (ap (λ (p : PlacedLine). p .end) e ∙ placed-end y input from) in
+    rw l (ap (λ (p : PlacedLine). p .line) e ∙ placed-line y input from, ap (λ (p : PlacedLine). p .place) e ∙ placed-place y input from)

@@ -17,7 +17,7 @@ use Rattle.line.specs.Forms.{pointForm}
 use Rattle.line.specs.Readers.{readPoint}
 use Rattle.line.proofs.Lengths.{length-point}
 use Rattle.line.proofs.Walk as W
-use Rattle.line.proofs.Clean.{Clean, fields-clean, fields-tab, clean-number, clean-named}
+use Rattle.line.proofs.Clean.{Clean, AllClean, a-tab, fields-clean, fields-tab, clean-number, clean-named}
 use Rattle.line.proofs.WrittenNumbers.{number-back}
 use Rattle.line.proofs.WrittenNames.{Named, name-back}
 
@@ -26,14 +26,10 @@ joined : List ℕ → List (List ℕ) → List ℕ
 joined f [] = f
 joined f (g ∷ fs) = f ++ (9 ∷ joined g fs)
 
-clean-integer : (z : ℤ) → Clean (integer z)
-clean-integer z = clean-number (integer z) z (number-back z)
+clean-integer : (z : ℤ) → Clean 9 (integer z)
+clean-integer z = clean-number a-tab (integer z) z (number-back z)
 
-AllClean : List (List ℕ) → Type 0
-AllClean [] = Unit {0}
-AllClean (f ∷ fs) = Clean f × AllClean fs
-
-fields-joined : (f : List ℕ) (fs : List (List ℕ)) → Clean f → AllClean fs → fields (joined f fs) ≡ f ∷ fs
+fields-joined : (f : List ℕ) (fs : List (List ℕ)) → Clean 9 f → AllClean 9 fs → fields (joined f fs) ≡ f ∷ fs
 unfolding joined AllClean
 fields-joined f [] c cs = fields-clean f c
 fields-joined f (g ∷ fs) c cs = fields-tab f (joined g fs) c ∙ ap (λ (l : List (List ℕ)). f ∷ l) (fields-joined g fs (cs .0) (cs .1))
@@ -50,7 +46,7 @@ body-joined s h =
     W.framed (s ++ (10 ∷ [])) (omega arith) h (rw e (getD-append-seam s 10 [] 0)) ∙ ap some (rw e (take-append-seam s (10 ∷ [])))
 
 -- a line of clean fields, written and read
-line-back : {A : Type 0} (form : Form A) (f : List ℕ) (fs : List (List ℕ)) → length (lineText (f ∷ fs)) ≤ 200 → Clean f → AllClean fs → said form (lineText (f ∷ fs)) ≡ filled form (f ∷ fs)
+line-back : {A : Type 0} (form : Form A) (f : List ℕ) (fs : List (List ℕ)) → length (lineText (f ∷ fs)) ≤ 200 → Clean 9 f → AllClean 9 fs → said form (lineText (f ∷ fs)) ≡ filled form (f ∷ fs)
 line-back form f fs h c cs =
     let e = line-joined f fs in
     let b = body-joined (joined f fs) (rw e at h) in
@@ -70,10 +66,10 @@ module _ (y : ℤ) (p : Point) (none-found : pointFault y p ≡ 0) (named : Name
       ∷ integer (p .position .z)
       ∷ []
 
-  clean-fields : AllClean after-letter
+  clean-fields : AllClean 9 after-letter
   unfolding AllClean
   clean-fields = (
-    clean-named (nameText (p .label .id)) (p .label .id) (name-back (p .label .id) named),
+    clean-named a-tab (nameText (p .label .id)) (p .label .id) (name-back (p .label .id) named),
     (
       clean-integer (p .label .issue),
       (
@@ -91,7 +87,7 @@ module _ (y : ℤ) (p : Point) (none-found : pointFault y p ≡ 0) (named : Name
   filled-point =
       rw (name-back (p .label .id) named, number-back (p .label .issue), number-back (p .label .order), number-back (p .realization .datum), number-back (p .realization .epoch), number-back (p .position .x), number-back (p .position .y), number-back (p .position .z))
 
-  clean-letter : Clean (80 ∷ [])
+  clean-letter : Clean 9 (80 ∷ [])
   unfolding Clean
   clean-letter = (λ e. omega arith, tt)
 

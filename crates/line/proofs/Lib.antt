@@ -31,4 +31,6 @@ pub mod Unread
 pub mod InARow
 pub mod AsWritten
 pub mod Places
+pub mod FirstLine
+pub mod PointAnswers
 pub mod Moved

@@ -5,7 +5,7 @@ use mathlib.Core.List.{List, [], _∷_}
 use mathlib.Core.Bool.{Bool, true, false, _||_}
 use lib.Dec.{eqb}
 use lib.ListN.{length, getD, take, drop, length-drop, length-take, drop-of-length-le}
-use lib.Seq.{drop-cons, drop-drop}
+use lib.Seq.{take-all, drop-cons, drop-drop}
 use native.Mathlib.Numerals.{add-one}
 use native.Mathlib.Decide.{decLt}
 use native.Mathlib.Nat.{add-zero}
@@ -14,7 +14,7 @@ use borrow.Author.Tests.{eq-eqb, ne-eqb, eqb-false}
 use Rattle.refusal.specs.Order.{pick}
 use Rattle.line.specs.Bytes.{lineFeed}
 use Rattle.line.specs.Fields.{front}
-use Rattle.line.specs.Lines.{lines, firstLength, lineEnd, Clear, Onward}
+use Rattle.line.specs.Lines.{lines, firstLength, lineEnd, lineAt, Clear, Onward}
 
 -- ---- byte by byte
 pub no-lines : lines [] ≡ []
@@ -158,6 +158,34 @@ piece s p e q h = record {
 
     w : e - p ≡ firstLength (drop p s)
     w = omega arith
+
+-- all from p on
+pub rest : (s : List ℕ) (p : ℕ) → take (length s - p) (drop p s) ≡ drop p s
+rest s p = take-all (length s - p) (drop p s) (omega (arith, length-drop p s))
+
+-- ---- the line that begins at p
+pub line-inside : (s : List ℕ) (p e : ℕ) → e ≡ lineEnd s p → p ≤ length s → (p ≤ e) × (e ≤ length s)
+unfolding lineEnd
+line-inside s p e q h = (omega arith, omega (arith, first-fits (drop p s), length-drop p s))
+
+pub line-at : (s : List ℕ) (p e : ℕ) → e ≡ lineEnd s p → take (e - p) (drop p s) ≡ lineAt s p
+unfolding lineEnd lineAt
+line-at s p e q = let w : e - p ≡ firstLength (drop p s) = omega arith in ap (λ (n : ℕ). take n (drop p s)) w
+
+-- by its length
+pub line-of : (s : List ℕ) (p n : ℕ) → n ≡ firstLength (drop p s) → (take n (drop p s) ≡ lineAt s p) × (p + n ≡ lineEnd s p)
+unfolding lineEnd lineAt
+line-of s p n q = (ap (λ (k : ℕ). take k (drop p s)) q, ap (λ (k : ℕ). p + k) q)
+
+-- all there is, where it ends at the end
+pub line-whole : (s : List ℕ) → lineEnd s 0 ≡ length s → lineAt s 0 ≡ s
+unfolding lineAt
+line-whole s e = take-all (firstLength s) s (omega (arith, first-end s))
+
+-- there is none past the end
+pub line-past : (s : List ℕ) (p : ℕ) → length s ≤ p → ([] ≡ lineAt s p) × (p ≡ lineEnd s p)
+unfolding lineEnd lineAt
+line-past s p h = (sym (rw (length-none s p h)), omega (arith, length-none s p h))
 
 -- how many bytes the lines have together: as many as the input
 abbrev pub total : List (List ℕ) → ℕ

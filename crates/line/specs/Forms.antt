@@ -4,6 +4,7 @@ use mathlib.Core.List.{[], _∷_}
 use lib.Dec.{eqb}
 use lib.IntN.{ℤ}
 use Rattle.refusal.specs.Order.{pick}
+use Rattle.chain.specs.declared.Id.{Id}
 use Rattle.chain.specs.declared.Realization.{Realization}
 use Rattle.chain.specs.declared.Point.{Point}
 use Rattle.chain.specs.declared.Convention.{Convention}
@@ -20,6 +21,9 @@ use Rattle.line.specs.Fields.{Form, ends, field, either, into, letter, l
 use Rattle.line.specs.Name.{nameOf}
 use Rattle.line.specs.Number.{numberOf}
 
+abbrev pub pointOf : Id → ℤ → ℤ → ℤ → ℤ → ℤ → ℤ → ℤ → Point
+pointOf id issue order datum epoch x y z = record { label = record { id = id; issue = issue; order = order }; realization = record { datum = datum; epoch = epoch }; position = record { x = x; y = y; z = z } }
+
 -- P, id, issue, order, datum, epoch, X, Y, Z
 unfoldable pub pointForm : Form Point
 pointForm =
@@ -32,8 +36,7 @@ pointForm =
     field numberOf λ x.
     field numberOf λ y.
     field numberOf λ z.
-    ends
-    (record { label = record { id = id; issue = issue; order = order }; realization = record { datum = datum; epoch = epoch }; position = record { x = x; y = y; z = z } })
+    ends (pointOf id issue order datum epoch x y z)
 
 abbrev pub stepOf : Realization → Realization → Kind → Step
 stepOf before after kind = record { kind = kind; before = before; after = after }

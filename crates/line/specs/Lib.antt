@@ -12,4 +12,5 @@ pub mod Lot
 pub mod Later
 pub mod Reading
 pub mod SecondLook
+pub mod FirstLine
 pub mod Worked

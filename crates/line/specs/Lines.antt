@@ -3,7 +3,7 @@ use Prim.Native.Nat.{ℕ, suc, _+_, _<_}
 use mathlib.Core.Path.{_≡_}
 use mathlib.Core.List.{List, [], _∷_}
 use lib.Dec.{eqb}
-use lib.ListN.{getD, drop}
+use lib.ListN.{getD, take, drop}
 use Rattle.refusal.specs.Order.{pick}
 use Rattle.line.specs.Bytes.{lineFeed}
 use Rattle.line.specs.Fields.{front}
@@ -21,6 +21,10 @@ firstLength (b ∷ s) = pick (eqb b lineFeed) 1 (suc (firstLength s))
 -- where the line that begins at `from` ends
 unfoldable pub lineEnd : List ℕ → ℕ → ℕ
 lineEnd s from = from + firstLength (drop from s)
+
+-- the line that begins at `from`, with its line feed; nothing past the end
+unfoldable pub lineAt : List ℕ → ℕ → List ℕ
+lineAt s from = take (firstLength (drop from s)) (drop from s)
 
 -- ---- how the code passes bytes several at a time
 

@@ -33,6 +33,7 @@ use Rattle.line.specs.declared.NodeLine.the-variants as N
 use Rattle.line.specs.Bytes.{minus, lineFeed}
 use Rattle.line.specs.Fields.{said}
 use Rattle.line.specs.Forms.{pointForm, stepForm, originForm, geodeticForm, editionForm, gridForm, nodeForm}
+use Rattle.line.specs.Lines.{lineEnd, lineAt}
 use Rattle.line.specs.Malformed.{pointShape, stepShape, originShape, geodeticShape, editionShape, gridShape, nodeShape, unknownShape, faultOf}
 use Rattle.line.specs.Reading.{cappedZ, cappedHeader, cappedParts}
 use Rattle.line.specs.Text.{labelText}
@@ -62,8 +63,9 @@ placeOf (some p) = length (labelText (p .label))
 unfoldable pub datumPlace : List ℕ → ℕ
 datumPlace line = placeOf (said pointForm line)
 
-unfoldable pub placedPoint : ℤ → List ℕ → PlacedLine
-placedPoint y line = record { line = readPoint y line; place = datumPlace line }
+-- the line of an input that begins at a place, as a point line
+unfoldable pub placedPoint : ℤ → List ℕ → ℕ → PlacedLine
+placedPoint y input from = record { line = readPoint y (lineAt input from); place = datumPlace (lineAt input from); end = lineEnd input from }
 
 -- under a profile: 18 to 22, 2, 3, 25, 4
 unfoldable pub readStep : ℤ → List ℕ → StepLine

@@ -63,11 +63,12 @@ pub enum PointLine {
     Refused(u8),
 }
 
-// P: a point line as it is read, and the place in it where the datum begins: what stands before it is the point's label, as it is written. The place is 0 where the
-// line is malformed.
+// P: the line of an input that begins at some place, as a point line; the place in the line where the datum begins, 0 where the line is malformed: what stands before it
+// is the point's label, as it is written; and the place in the input where the line ends.
 pub struct PlacedLine {
     pub line: PointLine,
     pub place: usize,
+    pub end: usize,
 }
 
 // S: a step of a chain.

@@ -1,6 +1,8 @@
 // P, id, issue, order, datum, epoch, X, Y, Z.
 use crate::PlacedLine;
 use crate::PointLine;
+use crate::ends::line_end;
+use crate::field::LINE_FEED;
 use crate::field::body_end;
 use crate::field::letter;
 use crate::name::name;
@@ -10,12 +12,20 @@ use crate::number::counted::of_one;
 use crate::number::counted::of_seven;
 use crate::number::counted::of_twelve;
 use crate::number::counted::of_two;
+use crate::number::number;
 use crate::second_look::fault_of;
 ghost use mathlib.Core.Path.{_≡_};
-ghost use Rattle.line.specs.Forms.{pointForm};
-ghost use Rattle.line.specs.Readers.{readPoint, placedPoint, judged};
+ghost use mathlib.Core.Bool.{true};
+ghost use Prim.Native.Nat.{_≤_, _<_};
+ghost use lib.ListN.{length};
+ghost use Rattle.line.specs.FirstLine.{Ended, First};
+ghost use Rattle.line.specs.Forms.{pointForm, pointOf};
+ghost use Rattle.line.specs.Readers.{readPoint, datumPlace, placedPoint, judged};
 ghost use Rattle.line.specs.Reading.{Told, cappedPlaced};
 ghost use Rattle.chain.specs.Faults.{pointFault};
+
+// A line has at most so many bytes.
+const LONGEST: usize = 200;
 
 // A point as its fields say it, with numbers up to the cap, where its datum begins, and where the field after them would begin.
 struct PointFields {
@@ -24,37 +34,71 @@ struct PointFields {
     next: usize,
 }
 
+// A point line as it is read, and where its datum begins: 0 where the line is malformed.
+struct ReadLine {
+    line: PointLine,
+    place: usize,
+}
+
+// The last field of a line, where it is a number up to a line feed, and the place past that.
+struct LastField {
+    good: bool,
+    value: i64,
+    end: usize,
+}
+
+// The first line of some bytes, where it says a point: its fields, where the datum begins, and where the line ends.
+struct FirstLine {
+    good: bool,
+    point: chain::Point,
+    place: usize,
+    end: usize,
+}
+
+fn point_of(
+    id: chain::Id,
+    issue: i64,
+    order: i64,
+    datum: i64,
+    epoch: i64,
+    x: i64,
+    y: i64,
+    z: i64,
+) -> chain::Point
+    ensures { λ r. ⌜ r ≡ pointOf id issue order datum epoch x y z ⌝ }
+{
+    chain::Point {
+        label: chain::Label { id, issue, order },
+        realization: chain::Realization { datum, epoch },
+        position: chain::Position { x, y, z },
+    }
+}
+
 // The fields of a point line.
 fn point_fields(s: &[u8]) -> PointFields
     ensures { λ r. ⌜ Told (now (s .entry)) cappedPlaced pointForm 0 (r .point, r .place) (r .next) ⌝ }
 {
     let at = letter(s, 0, b'P');
     let named = name(s, at);
+    let issue = number(s, named.next);
+    let order = number(s, issue.next);
+    let datum = number(s, order.next);
+    let epoch = number(s, datum.next);
+    let x = number(s, epoch.next);
+    let y = number(s, x.next);
+    let z = number(s, y.next);
     let id = named.id;
-    let issue = of_two(s, named.next);
-    let order = of_one(s, issue.next);
-    let datum = of_one(s, order.next);
-    let epoch = of_seven(s, datum.next);
-    let x = of_minus_twelve(s, epoch.next);
-    let y = of_twelve(s, x.next);
-    let z = of_last_eleven(s, y.next);
     PointFields {
-        point: chain::Point {
-            label: chain::Label {
-                id,
-                issue: issue.value,
-                order: order.value,
-            },
-            realization: chain::Realization {
-                datum: datum.value,
-                epoch: epoch.value,
-            },
-            position: chain::Position {
-                x: x.value,
-                y: y.value,
-                z: z.value,
-            },
-        },
+        point: point_of(
+            id,
+            issue.value,
+            order.value,
+            datum.value,
+            epoch.value,
+            x.value,
+            y.value,
+            z.value,
+        ),
         place: order.next,
         next: z.next,
     }
@@ -71,26 +115,123 @@ fn judge_point(profile: i64, p: chain::Point) -> PointLine
     }
 }
 
-// A point line under a profile (2009 or 2021), as `read_point` reads it, and where its datum begins.
-pub fn read_placed(profile: i64, line: &[u8]) -> PlacedLine
-    ensures { λ r. ⌜ r ≡ placedPoint profile (now (line .entry)) ⌝ }
+// A line by itself. Nearly every one that comes here is malformed, so that is asked first.
+fn read_alone(profile: i64, line: &[u8]) -> ReadLine
+    ensures { λ r. ⌜ (r .line ≡ readPoint profile (now (line .entry))) × (r .place ≡ datumPlace (now (line .entry))) ⌝ }
 {
-    let end = body_end(line);
-    if end < line.len() {
-        let s = &line[..end];
-        let r = point_fields(s);
-        if r.next == end + 1 {
-            let p = r.point;
-            return PlacedLine {
-                line: judge_point(profile, p),
-                place: r.place,
-            };
+    let fault = fault_of(line, b'P');
+    if fault.number == 0 {
+        let end = body_end(line);
+        if end < line.len() {
+            let r = point_fields(&line[..end]);
+            if r.next == end + 1 {
+                let p = r.point;
+                return ReadLine {
+                    line: judge_point(profile, p),
+                    place: r.place,
+                };
+            }
         }
     }
-    let fault = fault_of(line, b'P');
-    PlacedLine {
+    ReadLine {
         line: PointLine::Malformed(fault),
         place: 0,
+    }
+}
+
+// A guess at the place of the line feed after the last field: most often after eleven digits. Who reads the field finds out whether it is.
+fn feed_after(s: &[u8], at: usize) -> usize
+    requires { ⌜ at < length (now s) ⌝ }
+    ensures { λ r. ⌜ (at ≤ r) × (r < length (now (s .entry))) ⌝ }
+{
+    if 11 < s.len() - at {
+        if s[at + 11] == LINE_FEED {
+            return at + 11;
+        }
+    }
+    line_end(s, at) - 1
+}
+
+fn last_field(s: &[u8], at: usize) -> LastField
+    ensures { λ r. ⌜ (r .good ≡ true → Ended (now (s .entry)) at (r .value) (r .end)) ⌝ }
+{
+    if s.len() <= at {
+        return LastField {
+            good: false,
+            value: 0,
+            end: 0,
+        };
+    }
+    let feed = feed_after(s, at);
+    let z = of_last_eleven(&s[..feed], at);
+    LastField {
+        good: (z.next == feed + 1) & (s[feed] == LINE_FEED) & (feed < LONGEST),
+        value: z.value,
+        end: feed + 1,
+    }
+}
+
+// The first line of some bytes: its fields tell where it ends, so that no line feed is looked for before they are read.
+fn first_line(s: &[u8]) -> FirstLine
+    ensures { λ r. ⌜ (r .good ≡ true → First (now (s .entry)) (r .point, r .place) (r .end)) ⌝ }
+{
+    let at = letter(s, 0, b'P');
+    let named = name(s, at);
+    let issue = of_two(s, named.next);
+    let order = of_one(s, issue.next);
+    let datum = of_one(s, order.next);
+    let epoch = of_seven(s, datum.next);
+    let x = of_minus_twelve(s, epoch.next);
+    let y = of_twelve(s, x.next);
+    let z = last_field(s, y.next);
+    let id = named.id;
+    FirstLine {
+        good: z.good,
+        point: point_of(
+            id,
+            issue.value,
+            order.value,
+            datum.value,
+            epoch.value,
+            x.value,
+            y.value,
+            z.value,
+        ),
+        place: order.next,
+        end: z.end,
+    }
+}
+
+// The line of an input that begins at `from`, under a profile (2009 or 2021), as `read_point` reads it; where its datum begins; and where it ends. Past the end of the
+// input there is a line of no bytes.
+pub fn read_placed(profile: i64, input: &[u8], from: usize) -> PlacedLine
+    ensures { λ r. ⌜ r ≡ placedPoint profile (now (input .entry)) from ⌝ }
+{
+    if input.len() < from {
+        let none = read_alone(profile, &input[..0]);
+        let l = none.line;
+        return PlacedLine {
+            line: l,
+            place: none.place,
+            end: from,
+        };
+    }
+    let first = first_line(&input[from..]);
+    if first.good {
+        let p = first.point;
+        return PlacedLine {
+            line: judge_point(profile, p),
+            place: first.place,
+            end: from + first.end,
+        };
+    }
+    let end = line_end(input, from);
+    let r = read_alone(profile, &input[from..end]);
+    let l = r.line;
+    PlacedLine {
+        line: l,
+        place: r.place,
+        end,
     }
 }
 
@@ -98,6 +239,10 @@ pub fn read_placed(profile: i64, line: &[u8]) -> PlacedLine
 pub fn read_point(profile: i64, line: &[u8]) -> PointLine
     ensures { λ r. ⌜ r ≡ readPoint profile (now (line .entry)) ⌝ }
 {
-    let r = read_placed(profile, line);
-    r.line
+    let r = read_placed(profile, line, 0);
+    if r.end == line.len() {
+        return r.line;
+    }
+    let alone = read_alone(profile, line);
+    alone.line
 }

@@ -9,7 +9,6 @@ ghost use lib.IntN.{pos};
 ghost use lib.ListN.{replicate};
 use crate::Reply;
 use crate::State;
-use crate::decide::begins_with;
 use crate::decide::decide;
 use line::LINE_FEED;
 
@@ -71,18 +70,21 @@ pub fn sheet(input: &[u8], out: &mut [u8]) -> usize
             state = passed(state, lines);
             from = from + lines;
         } else {
-            let end = line::line_end(input, from);
-            if begins_with(&input[from..end], b'P') {
-                let done = printed::print_point(state, &numbers, &input[from..end], out, at);
+            if input[from] == b'P' {
+                let read = line::read_placed(state.profile, input, from);
+                let end = read.end;
+                let done = printed::print_point(state, &numbers, &input[from..end], read, out, at);
                 at = done.at;
                 state = done.state;
+                from = end;
             } else {
+                let end = line::line_end(input, from);
                 let decided = decide(state, &mut numbers, &input[from..end]);
                 let reply = decided.reply;
                 at = write_reply(out, at, reply);
                 state = decided.state;
+                from = end;
             }
-            from = end;
         }
     }
     at

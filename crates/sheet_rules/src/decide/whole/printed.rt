@@ -11,6 +11,7 @@ use crate::decide::after;
 use chain::Answer;
 use chain::Point;
 use chain::Prepared;
+use line::PlacedLine;
 use line::PointLine;
 
 // A refusal printed, and whether the line counts as a refused step, and as closing the chain.
@@ -65,21 +66,21 @@ fn print_converted(
     }
 }
 
-// A line that begins with P, as `decide_point` decides it.
+// A line that begins with P, as it was read, printed as `decide_point` decides it.
 pub fn print_point(
     state: State,
     numbers: &Prepared,
     text: &[u8],
+    read: PlacedLine,
     out: &mut [u8],
     at: usize,
 ) -> Printed
-    requires { ⌜ state .line ≤ 1000000 ⌝ }
+    requires { ⌜ (state .line ≤ 1000000) × (read .line ≡ readPoint (state .profile) (now text)) × (read .place ≡ datumPlace (now text)) ⌝ }
     ensures { λ r. ⌜ ((s : Sheet) → Holds state (now (numbers .entry)) s → Shown (pointReply s (readPoint (s .profile) (now (text .entry)))) (afterPoint s (readPoint (s .profile) (now (text .entry)))) (now (numbers .entry)) (now (out .entry)) at (now (out .exit)) r) ⌝ }
 {
-    let placed = line::read_placed(state.profile, text);
-    let read = placed.line;
-    let place = placed.place;
-    match read {
+    let place = read.place;
+    let line = read.line;
+    match line {
         PointLine::Malformed(fault) => print_refusal(
             state,
             fault.number,

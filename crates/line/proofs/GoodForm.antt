@@ -274,11 +274,22 @@ module _ {A : Type 0} (form : Form A) (shape : Shape) (like : (fs : List (List �
   law : Exactly (said form line) (faultOf shape line)
   law = exactly (said form line) (faultOf shape line) good-said
 
+  -- a wrong count of fields is enough
+  uncounted : (s : List ℕ) → body line ≡ some s → (length (fields s) ≡ length (shape (fields s)) → ⊥) → said form line ≡ none
+  uncounted s b n = ap (inBody form) b ∙ go (filled form (fields s)) (filled-good form (shape (fields s)) (fields s) (like (fields s)))
+    where
+      go : (o : Option A) → isSome o ≡ allGood (shape (fields s)) (fields s) → o ≡ none
+      go none e = refl
+      go (some a) e = absurd (n (good-count (shape (fields s)) (fields s) (sym e)))
+
 pub point-exactly : (line : List ℕ) → Exactly (said pointForm line) (faultOf pointShape line)
 point-exactly = law pointForm pointShape (λ fs. like-on pointForm (pointShape fs) fs (point-like fs))
 
 pub step-exactly : (line : List ℕ) → Exactly (said stepForm line) (faultOf stepShape line)
 step-exactly = law stepForm stepShape step-like
+
+pub step-uncounted : (line s : List ℕ) → body line ≡ some s → (length (fields s) ≡ length (stepShape (fields s)) → ⊥) → said stepForm line ≡ none
+step-uncounted = uncounted stepForm stepShape step-like
 
 pub origin-exactly : (line : List ℕ) → Exactly (said originForm line) (faultOf originShape line)
 origin-exactly = law originForm originShape (λ fs. like-on originForm (originShape fs) fs (origin-like fs))

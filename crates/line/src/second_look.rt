@@ -157,6 +157,23 @@ pub(crate) fn found(number: u8, place: usize) -> Fault
     }
 }
 
+// Whether there are as many fields as a line of this mark, and of a step of this kind, is to have.
+fn has_count(s: &[u8], mark: u8, kind: u8) -> bool
+    requires { do ⌜ (← ⟦s.len()⟧) ≤ 200 ⌝ }
+    ensures { λ r. ⌜ r ≡ eqb (length (fields (now (s .entry)))) (length (classesOf mark kind)) ⌝ }
+{
+    let parted = tabs(s) as usize;
+    parted + 1 == count_of(mark, kind)
+}
+
+// The same before a line is read, where nearly every bad one is cut short: no number of such a line need be read.
+pub(crate) fn is_counted(s: &[u8], mark: u8) -> bool
+    requires { do ⌜ (← ⟦s.len()⟧) ≤ 200 ⌝ }
+    ensures { λ r. ⌜ r ≡ eqb (length (fields (now (s .entry)))) (length (shapeOf mark (fields (now (s .entry))))) ⌝ }
+{
+    has_count(s, mark, kind_in(s, mark))
+}
+
 // The fields of a line that ends at `end`: LETTER, COUNT, ID, PLAIN, or 0. Most bad lines have a wrong letter or a wrong count, which take little to see:
 // ids and numbers are read only where both are right.
 fn fields_fault(s: &[u8], first: u8, end: usize) -> Fault
@@ -169,8 +186,7 @@ fn fields_fault(s: &[u8], first: u8, end: usize) -> Fault
     if wrong <= s.len() {
         return found(refusal::LETTER, wrong);
     }
-    let parted = tabs(s) as usize;
-    if parted + 1 != count_of(first, kind) {
+    if !has_count(s, first, kind) {
         return found(refusal::COUNT, end);
     }
     let seen = look(s, first, kind);

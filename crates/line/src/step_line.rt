@@ -7,6 +7,7 @@ use crate::field::nowhere;
 use crate::field::single;
 use crate::number::number;
 use crate::second_look::fault_of;
+use crate::second_look::is_counted;
 ghost use mathlib.Core.Path.{_≡_};
 ghost use mathlib.Core.List.{[], _∷_};
 ghost use Rattle.line.specs.Bytes.{letterT, letterV, letterB, letterF, letterP, letterC};
@@ -193,10 +194,12 @@ pub fn read_step(profile: i64, line: &[u8]) -> StepLine
     let end = body_end(line);
     if end < line.len() {
         let s = &line[..end];
-        let r = step_fields(s);
-        if r.next == end + 1 {
-            let step = r.step;
-            return judge_step(profile, step);
+        if is_counted(s, b'S') {
+            let r = step_fields(s);
+            if r.next == end + 1 {
+                let step = r.step;
+                return judge_step(profile, step);
+            }
         }
     }
     let fault = fault_of(line, b'S');

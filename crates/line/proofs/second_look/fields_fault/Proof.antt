@@ -1,6 +1,7 @@
 -- `line::second_look::fields_fault` meets its contract. Assumes nothing.
-use mathlib.Core.Path.{sym, _∙_}
+use mathlib.Core.Path.{refl, sym, _∙_}
 use native.Mathlib.Omega.{arith}
+use borrow.Author.Tests.{eqb-true, eqb-false, not-true, not-false}
 use Rattle.line.specs.Fields.{fields}
 use Rattle.line.proofs.SecondLook as L
 use borrow.Author.Needs.{needs}
@@ -17,20 +18,20 @@ returns c =
 returns-2 : tie.Need-returns-2
 returns-2 c =
     let n = c .before .before in
-    let w = n .before .before .before in
+    let w = n .before .before in
     let g = w .before .before .before .args in
     c .found2 .ensures
-    ∙ L.is-count (w .letter-place .ensures) (g .end) (omega arith) (n .before .tabs .ensures) (λ e. c .before .if2 .taken (e ∙ sym (n .count-of .ensures)))
+    ∙ L.is-count (w .letter-place .ensures) (g .end) (omega arith) refl (eqb-false _ _ (sym (n .has-count .ensures) ∙ not-true _ (c .before .if2 .taken)))
     ∙ L.by-shape (g .end) (fields (g .s .now)) (w .before .kind-in .ensures)
 
 returns-3 : tie.Need-returns-3
 returns-3 c =
     let k = c .before .before .before in
     let n = k .before .before in
-    let w = n .before .before .before in
+    let w = n .before .before in
     let g = w .before .before .before .args in
     c .found3 .ensures
-    ∙ L.is-id (w .letter-place .ensures) (g .end) (omega arith) (n .before .tabs .ensures) (k .before .if2 .left ∙ n .count-of .ensures) (k .look .ensures)
+    ∙ L.is-id (w .letter-place .ensures) (g .end) (omega arith) refl (eqb-true _ _ (sym (n .has-count .ensures) ∙ not-false _ (k .before .if2 .left))) (k .look .ensures)
     (omega arith)
     ∙ L.by-shape (g .end) (fields (g .s .now)) (w .before .kind-in .ensures)
 
@@ -38,10 +39,10 @@ returns-4 : tie.Need-returns-4
 returns-4 c =
     let k = c .before .before .before .before .before in
     let n = k .before .before in
-    let w = n .before .before .before in
+    let w = n .before .before in
     let g = w .before .before .before .args in
     c .found4 .ensures
-    ∙ L.is-plain (w .letter-place .ensures) (g .end) (omega arith) (n .before .tabs .ensures) (k .before .if2 .left ∙ n .count-of .ensures) (k .look .ensures)
+    ∙ L.is-plain (w .letter-place .ensures) (g .end) (omega arith) refl (eqb-true _ _ (sym (n .has-count .ensures) ∙ not-false _ (k .before .if2 .left))) (k .look .ensures)
     (omega arith) (omega arith)
     ∙ L.by-shape (g .end) (fields (g .s .now)) (w .before .kind-in .ensures)
 
@@ -49,15 +50,15 @@ returns-5 : tie.Need-returns-5
 returns-5 c =
     let k = c .before .before .before .before .before in
     let n = k .before .before in
-    let w = n .before .before .before in
+    let w = n .before .before in
     let g = w .before .before .before .args in
     c .found5 .ensures
-    ∙ L.is-none (w .letter-place .ensures) (g .end) (omega arith) (n .before .tabs .ensures) (k .before .if2 .left ∙ n .count-of .ensures) (k .look .ensures)
+    ∙ L.is-none (w .letter-place .ensures) (g .end) (omega arith) refl (eqb-true _ _ (sym (n .has-count .ensures) ∙ not-false _ (k .before .if2 .left))) (k .look .ensures)
     (omega arith) (omega arith)
     ∙ L.by-shape (g .end) (fields (g .s .now)) (w .before .kind-in .ensures)
 
 pub fields-fault-spec : {M : Type 1} → statement M
 fields-fault-spec =
     tie.close
-    (tie.spec (search needs) (search needs) (search needs) returns (search needs) (search needs) (search needs) (search needs) (search needs) returns-2
+    (tie.spec (search needs) (search needs) (search needs) returns (search needs) (search needs) returns-2
     (search needs) (search needs) returns-3 (search needs) returns-4 (search needs) returns-5)

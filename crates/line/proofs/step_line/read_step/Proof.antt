@@ -11,7 +11,6 @@ use Rattle.line.specs.declared.StepLine.the-variants as line
 use Rattle.line.specs.Readers.{judged, readStep}
 use Rattle.line.proofs.Answers as A
 use Rattle.line.proofs.Faults as F
-use borrow.Author.Needs.{needs}
 use Rattle.line.proofs.step_line.read_step.Statement.{statement}
 use Rattle.line.proofs.step_line.read_step.Tie as tie
 
@@ -39,4 +38,4 @@ returns-2 c =
 pub read-step-spec : {M : Type 1} → statement M
 read-step-spec =
     tie.close
-    (tie.spec (search needs) slice-aggregate-s (search needs) (search needs) (search needs) returns (search needs) returns-2)
+    (tie.spec (omega arith) slice-aggregate-s (omega arith) (omega arith) (omega arith) returns (omega arith) returns-2)

@@ -18,10 +18,11 @@ use Rattle.line.specs.declared.PlacedLine.{PlacedLine}
 use Rattle.line.specs.declared.PointLine.{PointLine}
 use Rattle.line.specs.declared.PointLine.the-variants as P
 use Rattle.line.specs.Fields.{body, fields, front, Form, ends, field, onward, taken, head, filled, inBody, said, letter}
-use Rattle.line.specs.Forms.{pointForm}
+use Rattle.line.specs.Forms.{pointForm, pointOf}
 use Rattle.line.specs.declared.Fault.{Fault}
 use Rattle.line.specs.Lines.{lineEnd, lineAt}
 use Rattle.line.specs.Malformed.{pointShape, faultOf}
+use Rattle.line.specs.Name.{nameOf}
 use Rattle.line.specs.Number.{isDigit, digits, plain, positive, negative, numberOf}
 use Rattle.line.specs.Readers.{judged, readAs, readPoint, placeOf, datumPlace, placedPoint}
 use Rattle.line.specs.Text.{decimal, integer, nameText, lineText, labelText, pointText}
@@ -170,35 +171,30 @@ body-line line s = go (ltb 0 (length line)) (leb (length line) 200) (eqb (getD l
     go true false v p q e = cc
     go false u v p q e = cc
 
--- a field as it is written, and the fields after it
-then-field : {fs : List (List ℕ)} {f g : List ℕ} {rest others : List (List ℕ)} → fs ≡ f ∷ rest → g ≡ f → rest ≡ others → fs ≡ g ∷ others
-then-field e h k = rw (e, h, k)
+-- a filled form's first field as it is written, and what is shown of the fields after it
+shown : {A B C : Type 0} (read : List ℕ → Option B) (text : B → List ℕ) → ((f : List ℕ) (b : B) → read f ≡ some b → text b ≡ f)
+    → (k : B → Form A) (fs : List (List ℕ)) (a : A) → filled (field read k) fs ≡ some a
+    → ((b : B) (rest : List (List ℕ)) → fs ≡ text b ∷ rest → filled (k b) rest ≡ some a → C) → C
+shown read text back k fs a e on =
+    let p = part read k fs a e in
+    on (p .says) (p .rest) (p .is ∙ ap (λ (f : List ℕ). f ∷ p .rest) (sym (back (p .f) (p .says) (p .reads)))) (p .on)
 
 -- a point line of good form is the line of its point
 point-form : (s : List ℕ) (p : Point) → filled pointForm (fields s) ≡ some p → s ++ (10 ∷ []) ≡ pointText p
 unfolding pointForm pointText
 point-form s p e =
-    let a = part _ _ (fields s) p e in
-    let b = part _ _ (a .rest) p (a .on) in
-    let c = part _ _ (b .rest) p (b .on) in
-    let d = part _ _ (c .rest) p (c .on) in
-    let f = part _ _ (d .rest) p (d .on) in
-    let g = part _ _ (f .rest) p (f .on) in
-    let h = part _ _ (g .rest) p (g .on) in
-    let i = part _ _ (h .rest) p (h .on) in
-    let j = part _ _ (i .rest) p (i .on) in
-    let k = last-part _ p (j .rest) (j .on) in
     sym (fields-line s)
-    ∙ ap lineText
-    (then-field (a .is) (sym (letter-text 80 (a .says) (a .f) (a .reads)))
-    (then-field (b .is) (name-text (b .f) (b .says) (b .reads))
-    (then-field (c .is) (number-text (c .f) (c .says) (c .reads))
-    (then-field (d .is) (number-text (d .f) (d .says) (d .reads))
-    (then-field (f .is) (number-text (f .f) (f .says) (f .reads))
-    (then-field (g .is) (number-text (g .f) (g .says) (g .reads))
-    (then-field (h .is) (number-text (h .f) (h .says) (h .reads))
-    (then-field (i .is) (number-text (i .f) (i .says) (i .reads)) (then-field (j .is) (number-text (j .f) (j .says) (j .reads)) (k .0))))))))))
-    ∙ ap pointText (k .1)
+    ∙ (shown (letter 80) (λ b. 80 ∷ []) (λ f b q. sym (letter-text 80 b f q)) _ (fields s) p e λ _ r1 e1 h1.
+    shown nameOf nameText name-text _ r1 p h1 λ id r2 e2 h2.
+    shown numberOf integer number-text _ r2 p h2 λ issue r3 e3 h3.
+    shown numberOf integer number-text _ r3 p h3 λ order r4 e4 h4.
+    shown numberOf integer number-text _ r4 p h4 λ datum r5 e5 h5.
+    shown numberOf integer number-text _ r5 p h5 λ epoch r6 e6 h6.
+    shown numberOf integer number-text _ r6 p h6 λ x r7 e7 h7.
+    shown numberOf integer number-text _ r7 p h7 λ y r8 e8 h8.
+    shown numberOf integer number-text _ r8 p h8 λ z r9 e9 h9.
+    let k = last-part (pointOf id issue order datum epoch x y z) p r9 h9 in
+    rw (e1, e2, e3, e4, e5, e6, e7, e8, e9, k .0) (ap pointText (k .1)))
 
 pub point-said-text : (line : List ℕ) (p : Point) → said pointForm line ≡ some p → line ≡ pointText p
 point-said-text line p = go (body line) refl

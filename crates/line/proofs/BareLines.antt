@@ -83,6 +83,17 @@ five-text n high low last a b e f g = ap (λ (t : List ℕ). 82 ∷ 9 ∷ t) (di
     ends : decimal n ++ rest ≡ decimal n ++ ((9 ∷ []) ++ (decimal refusal.letter ++ ((9 ∷ []) ++ (decimal 0 ++ (10 ∷ [])))))
     ends = rw (sym (T.two-is 19 (omega arith) (omega arith)), T.decimal-one 0 (omega arith))
 
+-- of some lines within one ten, so many are left: the next one, and those after it
+pub ten-on : (line lines left last : ℕ) → 10000 ≤ line → line < 100000 → line % 10 + lines ≤ 10 → 0 < left → left ≤ lines → last ≡ 48 + line % 10 + (lines - left)
+    → ((82 ∷ 9 ∷ []) ++ (two (line / 1000) ++ (two (line / 10 % 100) ++ ((last ∷ []) ++ (9 ∷ 49 ∷ 57 ∷ 9 ∷ 48 ∷ 10 ∷ [])))))
+    ++ feedsText (left - 1) (line + (lines - (left - 1)))
+    ≡ feedsText left (line + (lines - left))
+ten-on line lines left last a b h z l e =
+    let n = line + (lines - left) in
+    ap (λ (t : List ℕ). t ++ feedsText (left - 1) (line + (lines - (left - 1))))
+    (five-text n (line / 1000) (line / 10 % 100) last (omega arith) (omega arith) (omega arith) (omega arith) (omega arith))
+    ∙ sym (feeds-on left n (left - 1) (line + (lines - (left - 1))) z refl (omega arith))
+
 -- ---- a whole call
 pub fed-ten : {s : List ℕ} {p : ℕ} {l : List ℕ} {at n most q : ℕ} {m : List ℕ} (r : Feeds) → 0 < most → r .lines ≡ q - p → Passes s p most q → Wrote l at (feedsText (r .lines) n) m (r .at) → AnswersFeeds s p l at n m r
 fed-ten r h e k w = record {

@@ -7,7 +7,6 @@ use borrow.Author.Tests.{eq-eqb, ne-eqb}
 use Rattle.line.specs.Bytes.{letterP, letterC}
 use Rattle.line.specs.Malformed.{letters, numbers}
 use Rattle.line.proofs.SecondLook as L
-use borrow.Author.Needs.{needs}
 use Rattle.line.proofs.awaited.by_kind_at.Statement.{statement}
 use Rattle.line.proofs.awaited.by_kind_at.Tie as tie
 
@@ -31,4 +30,4 @@ returns-5 c = rw (ne-eqb _ _ (c .before .before .if1 .left), ne-eqb _ _ (c .befo
 pub by-kind-at-spec : {M : Type 1} → statement M
 by-kind-at-spec =
     tie.close
-    (tie.spec (search needs) returns (search needs) returns-2 returns-3 (search needs) (search needs) returns-4 returns-5)
+    (tie.spec (omega arith) returns (omega arith) returns-2 returns-3 (omega arith) (omega arith) returns-4 returns-5)

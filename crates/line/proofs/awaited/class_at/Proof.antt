@@ -1,7 +1,7 @@
 -- `line::awaited::class_at` meets its contract. Assumes nothing.
 use mathlib.Core.Path.{_∙_}
 use borrow.Author.Tests.{eq-eqb, ne-eqb}
-use borrow.Author.Needs.{needs}
+use native.Mathlib.Omega.{arith}
 use Rattle.line.proofs.awaited.class_at.Statement.{statement}
 use Rattle.line.proofs.awaited.class_at.Tie as tie
 
@@ -15,4 +15,4 @@ returns-3 : tie.Need-returns-3
 returns-3 c = c .lettered-at .ensures ∙ rw (ne-eqb _ _ (c .before .before .if1 .left), ne-eqb _ _ (c .before .if2 .left))
 
 pub class-at-spec : {M : Type 1} → statement M
-class-at-spec = tie.close (tie.spec (search needs) returns (search needs) returns-2 (search needs) returns-3)
+class-at-spec = tie.close (tie.spec (omega arith) returns (omega arith) returns-2 (omega arith) returns-3)

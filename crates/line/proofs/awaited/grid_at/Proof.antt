@@ -6,7 +6,6 @@ use native.Mathlib.Omega.{arith}
 use Rattle.line.specs.Bytes.{letterG}
 use Rattle.line.specs.Malformed.{letters, numbers}
 use Rattle.line.proofs.SecondLook as L
-use borrow.Author.Needs.{needs}
 use Rattle.line.proofs.awaited.grid_at.Statement.{statement}
 use Rattle.line.proofs.awaited.grid_at.Tie as tie
 
@@ -19,4 +18,4 @@ returns-2 c =
     c .number-at .ensures ∙ sym (L.later (letters (letterG ∷ [])) (numbers 5) i (i - 1) (omega arith))
 
 pub grid-at-spec : {M : Type 1} → statement M
-grid-at-spec = tie.close (tie.spec returns (search needs) (search needs) returns-2)
+grid-at-spec = tie.close (tie.spec returns (omega arith) (omega arith) returns-2)

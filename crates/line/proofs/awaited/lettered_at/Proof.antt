@@ -8,7 +8,6 @@ use borrow.Author.Tests.{eq-eqb, ne-eqb}
 use Rattle.line.specs.Malformed.{Class, letters, identifier, numbers}
 use Rattle.line.specs.SecondLook.{stepRest, restOf, letteredOf}
 use Rattle.line.proofs.SecondLook as L
-use borrow.Author.Needs.{needs}
 use Rattle.line.proofs.awaited.lettered_at.Statement.{statement}
 use Rattle.line.proofs.awaited.lettered_at.Tie as tie
 
@@ -51,5 +50,5 @@ returns-7 c = let g = c .before .before .before .before .before .before .args in
 pub lettered-at-spec : {M : Type 1} → statement M
 lettered-at-spec =
     tie.close
-    (tie.spec returns (search needs) (search needs) returns-2 (search needs) returns-3 (search needs) returns-4 (search needs) returns-5 (search needs)
+    (tie.spec returns (omega arith) (omega arith) returns-2 (omega arith) returns-3 (omega arith) returns-4 (omega arith) returns-5 (omega arith)
     returns-6 returns-7)

@@ -2,7 +2,7 @@
 use mathlib.Core.Path.{_∙_}
 use native.Mathlib.Numerals.{add-one}
 use borrow.Author.Tests.{eq-eqb, ne-eqb}
-use borrow.Author.Needs.{needs}
+use native.Mathlib.Omega.{arith}
 use Rattle.line.proofs.awaited.lettered_count.Statement.{statement}
 use Rattle.line.proofs.awaited.lettered_count.Tie as tie
 
@@ -27,4 +27,4 @@ returns-6 c = rw (ne-eqb _ _ (c .before .before .before .before .if1 .left), ne-
 pub lettered-count-spec : {M : Type 1} → statement M
 lettered-count-spec =
     tie.close
-    (tie.spec returns (search needs) returns-2 returns-3 returns-4 returns-5 returns-6)
+    (tie.spec returns (omega arith) returns-2 returns-3 returns-4 returns-5 returns-6)

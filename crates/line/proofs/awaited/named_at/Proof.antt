@@ -12,4 +12,4 @@ returns-2 : tie.Need-returns-2
 returns-2 c = let g = c .before .before .args in c .number-at .ensures ∙ sym (L.later identifier (numbers (g .count)) (g .index) (g .index - 1) (omega arith))
 
 pub named-at-spec : {M : Type 1} → statement M
-named-at-spec = tie.close (tie.spec (search needs) (search needs) (λ c. search needs) returns-2)
+named-at-spec = tie.close (tie.spec (omega arith) (omega arith) (λ c. search needs) returns-2)

@@ -14,4 +14,4 @@ returns-3 : tie.Need-returns-3
 returns-3 c = let g = c .before .before .before .args in c .by-kind-at .ensures ∙ sym (L.step-after (g .kind) (g .index) (g .index - 5) (omega arith))
 
 pub step-at-spec : {M : Type 1} → statement M
-step-at-spec = tie.close (tie.spec (λ c. search needs) returns-2 (search needs) returns-3)
+step-at-spec = tie.close (tie.spec (λ c. search needs) returns-2 (omega arith) returns-3)

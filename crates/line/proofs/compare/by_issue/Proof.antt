@@ -1,5 +1,5 @@
 -- `line::compare::by_issue` meets its contract. Assumes nothing.
-use borrow.Author.Needs.{needs}
+use native.Mathlib.Omega.{arith}
 use Rattle.line.proofs.compare.by_issue.Statement.{statement}
 use Rattle.line.proofs.compare.by_issue.Tie as tie
 
@@ -21,5 +21,5 @@ returns-5 c = rw (c .before .before .before .before .before .a3 .given .1, c .be
 pub by-issue-spec : {M : Type 1} → statement M
 by-issue-spec =
     tie.close
-    (tie.spec (search needs) (search needs) (search needs) (search needs) (search needs) (search needs) (search needs) (search needs) (search needs)
-    (search needs) (search needs) returns returns-2 returns-3 returns-4 returns-5)
+    (tie.spec (omega arith) (omega arith) (omega arith) (omega arith) (omega arith) (omega arith) (omega arith) (omega arith) (omega arith)
+    (omega arith) (omega arith) returns returns-2 returns-3 returns-4 returns-5)

@@ -1,7 +1,7 @@
 -- `line::compare::later_verdict` meets its contract. Assumes nothing.
 use mathlib.Core.Path.{_∙_}
 use Rattle.line.specs.Later.{laterOf}
-use borrow.Author.Needs.{needs}
+use native.Mathlib.Omega.{arith}
 use Rattle.line.proofs.compare.later_verdict.Statement.{statement}
 use Rattle.line.proofs.compare.later_verdict.Tie as tie
 
@@ -12,4 +12,4 @@ returns c = c .by-issue .ensures ∙ rw (c .before .same-bytes .ensures, c .befo
 pub later-verdict-spec : {M : Type 1} → statement M
 later-verdict-spec =
     tie.close
-    (tie.spec (search needs) (search needs) (search needs) (search needs) returns)
+    (tie.spec (omega arith) (omega arith) (omega arith) (omega arith) returns)

@@ -38,4 +38,4 @@ returns-3 c = let k = c .before .loop in let g = c .before .before .before .args
 pub same-bytes-spec : {M : Type 1} → statement M
 same-bytes-spec =
     tie.close
-    (tie.spec Inv-loop μ-loop returns (λ c. search needs) (search needs) (search needs) returns-2 (search needs) (search needs) loop-again returns-3)
+    (tie.spec Inv-loop μ-loop returns (λ c. search needs) (omega arith) (omega arith) returns-2 (omega arith) (omega arith) loop-again returns-3)

@@ -5,6 +5,7 @@ use lib.Signed.{ltZ}
 use mir.Syntax.{w64}
 use mir.Val.{toZ, ofZ}
 use Rattle.line.proofs.Compared as K
+use native.Mathlib.Omega.{arith}
 use borrow.Author.Needs.{needs}
 use Rattle.line.proofs.compare.weigh.Statement.{statement}
 use Rattle.line.proofs.compare.weigh.Tie as tie
@@ -72,4 +73,4 @@ returns-6 c =
 pub weigh-spec : {M : Type 1} → statement M
 weigh-spec =
     tie.close
-    (tie.spec (search needs) returns (search needs) returns-2 (search needs) returns-3 (search needs) returns-4 (search needs) returns-5 returns-6)
+    (tie.spec (omega arith) returns (omega arith) returns-2 (omega arith) returns-3 (omega arith) returns-4 (omega arith) returns-5 returns-6)

@@ -38,4 +38,4 @@ returns-2 c =
 pub read-edition-spec : {M : Type 1} → statement M
 read-edition-spec =
     tie.close
-    (tie.spec (search needs) slice-aggregate-s (search needs) (search needs) returns (search needs) returns-2)
+    (tie.spec (omega arith) slice-aggregate-s (omega arith) (omega arith) returns (omega arith) returns-2)

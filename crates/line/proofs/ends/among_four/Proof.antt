@@ -10,4 +10,4 @@ returns c = let s = c .before .before .before .before in either 3 1 (either 2 1 
 pub among-four-spec : {M : Type 1} → statement M
 among-four-spec =
     tie.close
-    (tie.spec (λ c. omega arith) (λ c. omega arith) (λ c. omega arith) (λ c. omega arith) (λ c. omega arith) (λ c. omega arith) (λ c. omega arith) returns)
+    (tie.spec (omega arith) (omega arith) (omega arith) (omega arith) (omega arith) (omega arith) (omega arith) returns)

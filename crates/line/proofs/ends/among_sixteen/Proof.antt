@@ -1,6 +1,6 @@
 -- `line::ends::among_sixteen` meets its contract. Assumes nothing.
 use Rattle.line.proofs.Lines.{either}
-use borrow.Author.Needs.{needs}
+use native.Mathlib.Omega.{arith}
 use Rattle.line.proofs.ends.among_sixteen.Statement.{statement}
 use Rattle.line.proofs.ends.among_sixteen.Tie as tie
 
@@ -11,4 +11,4 @@ returns c =
 pub among-sixteen-spec : {M : Type 1} → statement M
 among-sixteen-spec =
     tie.close
-    (tie.spec (search needs) (search needs) (search needs) (search needs) (search needs) (search needs) (search needs) returns)
+    (tie.spec (omega arith) (omega arith) (omega arith) (omega arith) (omega arith) (omega arith) (omega arith) returns)

@@ -4,7 +4,6 @@ use mathlib.Core.Path.{_≡_, _∙_}
 use native.Mathlib.Omega.{arith}
 use Rattle.line.specs.Lines.{Onward}
 use Rattle.line.proofs.Lines.{at-feed, stands, further}
-use borrow.Author.Needs.{needs}
 use Rattle.line.proofs.ends.end_in_sixteen.Statement.{statement}
 use Rattle.line.proofs.ends.end_in_sixteen.Tie as tie
 
@@ -34,5 +33,5 @@ returns-2 c =
 pub end-in-sixteen-spec : {M : Type 1} → statement M
 end-in-sixteen-spec =
     tie.close
-    (tie.spec Inv-loop μ-loop loop-holds (search needs) (search needs) (search needs) (search needs) returns (search needs) (search needs) loop-again
-    (search needs) (search needs) returns-2)
+    (tie.spec Inv-loop μ-loop loop-holds (omega arith) (omega arith) (omega arith) (omega arith) returns (omega arith) (omega arith) loop-again
+    (omega arith) (omega arith) returns-2)

@@ -1,5 +1,4 @@
 -- `line::ends::end_near` meets its contract: the first line's length is the same from every byte passed. Assumes nothing.
-use borrow.Author.Needs.{needs}
 use Prim.Native.Nat.{_+_, _-_}
 use mathlib.Core.Path.{_≡_}
 use native.Mathlib.Omega.{arith}
@@ -29,4 +28,4 @@ returns-2 c = omega (arith, length-none (c .before .before .args .input .now) (c
 pub end-near-spec : {M : Type 1} → statement M
 end-near-spec =
     tie.close
-    (tie.spec Inv-loop μ-loop (search needs) (search needs) (search needs) returns (search needs) (search needs) loop-again returns-2)
+    (tie.spec Inv-loop μ-loop (omega arith) (omega arith) (omega arith) returns (omega arith) (omega arith) loop-again returns-2)

@@ -4,7 +4,6 @@ use native.Mathlib.Omega.{arith}
 use lib.ListN.{length}
 use Rattle.line.specs.Lines.{Onward}
 use Rattle.line.proofs.Lines.{skip}
-use borrow.Author.Needs.{needs}
 use Rattle.line.proofs.ends.past_sixteens.Statement.{statement}
 use Rattle.line.proofs.ends.past_sixteens.Tie as tie
 
@@ -20,5 +19,5 @@ loop-again c = let k = c .before .before .before .before .loop in skip 16 _ _ _ 
 pub past-sixteens-spec : {M : Type 1} → statement M
 past-sixteens-spec =
     tie.close
-    (tie.spec Inv-loop μ-loop (search needs) (search needs) (search needs) (search needs) (search needs) loop-again (search needs) (search needs)
-    (search needs))
+    (tie.spec Inv-loop μ-loop (omega arith) (omega arith) (omega arith) (omega arith) (omega arith) loop-again (omega arith) (omega arith)
+    (omega arith))

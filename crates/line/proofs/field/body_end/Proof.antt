@@ -2,7 +2,6 @@
 use mathlib.Core.Path.{refl}
 use native.Mathlib.Omega.{arith}
 use Rattle.line.proofs.Walk as W
-use borrow.Author.Needs.{needs}
 use Rattle.line.proofs.field.body_end.Statement.{statement}
 use Rattle.line.proofs.field.body_end.Tie as tie
 
@@ -20,4 +19,4 @@ returns-4 c = rw (W.framed-open (c .before .before .before .before .args .line .
 
 pub body-end-spec : {M : Type 1} → statement M
 body-end-spec =
-    tie.close (tie.spec returns returns-2 (search needs) (search needs) returns-3 returns-4)
+    tie.close (tie.spec returns returns-2 (omega arith) (omega arith) returns-3 returns-4)

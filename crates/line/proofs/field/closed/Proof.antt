@@ -3,7 +3,6 @@ use mathlib.Core.Path.{refl}
 use mathlib.Core.Logic.{⊎-elim}
 use native.Mathlib.Omega.{arith}
 use Rattle.line.proofs.Walk as W
-use borrow.Author.Needs.{needs}
 use Rattle.line.proofs.field.closed.Statement.{statement}
 use Rattle.line.proofs.field.closed.Tie as tie
 
@@ -22,4 +21,4 @@ returns-3 c =
 pub closed-spec : {M : Type 1} → statement M
 closed-spec =
     tie.close
-    (tie.spec (search needs) (search needs) returns (search needs) returns-2 (search needs) returns-3)
+    (tie.spec (omega arith) (omega arith) returns (omega arith) returns-2 (omega arith) returns-3)

@@ -3,7 +3,6 @@ use mathlib.Core.Path.{refl}
 use native.Mathlib.Omega.{arith}
 use borrow.Author.Tests.{eq-eqb, ne-eqb}
 use Rattle.line.proofs.Walk as W
-use borrow.Author.Needs.{needs}
 use Rattle.line.proofs.field.letter.Statement.{statement}
 use Rattle.line.proofs.field.letter.Tie as tie
 
@@ -14,4 +13,4 @@ returns-2 : tie.Need-returns-2
 returns-2 c = W.sift-off _ (c .before .before .before .single .ensures) (rw (ne-eqb _ _ (c .before .if1 .left))) (omega arith)
 
 pub letter-spec : {M : Type 1} → statement M
-letter-spec = tie.close (tie.spec (search needs) (search needs) returns returns-2)
+letter-spec = tie.close (tie.spec (omega arith) (omega arith) returns returns-2)

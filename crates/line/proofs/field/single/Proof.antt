@@ -7,7 +7,6 @@ use mathlib.Core.Path.{refl}
 use mathlib.Core.Logic.{⊎-elim}
 use native.Mathlib.Omega.{arith}
 use Rattle.line.proofs.Walk as W
-use borrow.Author.Needs.{needs}
 use Rattle.line.proofs.field.single.Statement.{statement}
 use Rattle.line.proofs.field.single.Tie as tie
 
@@ -26,4 +25,4 @@ returns-2 c =
 pub single-spec : {M : Type 1} → statement M
 single-spec =
     tie.close
-    (tie.spec (search needs) (search needs) (search needs) (search needs) returns (search needs) returns-2)
+    (tie.spec (omega arith) (omega arith) (omega arith) (omega arith) returns (omega arith) returns-2)

@@ -2,9 +2,10 @@
 use mathlib.Core.Path.{_≡_, _∙_}
 use mir.Syntax.{w64}
 use mir.Val.{toZ, ofZ}
+use Rattle.line.proofs.Places.{told}
 use Rattle.line.proofs.Walk as W
 use Rattle.line.specs.Forms.{geodeticForm}
-use borrow.Author.Needs.{needs}
+use native.Mathlib.Omega.{arith}
 use Rattle.line.proofs.geodetic_line.geodetic_fields.Statement.{statement}
 use Rattle.line.proofs.geodetic_line.geodetic_fields.Tie as tie
 
@@ -14,8 +15,8 @@ returns c =
     let n1 = c .before .before .before .before .before .name in
     let n2 = c .before .before .before .number in
     let n3 = c .before .before .number2 in
-    let e2 : toZ w64 (ofZ w64 (n2 .result .value)) ≡ n2 .result .value = search needs in
-    let e3 : toZ w64 (ofZ w64 (n3 .result .value)) ≡ n3 .result .value = search needs in
+    let e2 : toZ w64 (ofZ w64 (n2 .result .value)) ≡ n2 .result .value = told (n2 .ok .1 .1 .0 .1) in
+    let e3 : toZ w64 (ofZ w64 (n3 .result .value)) ≡ n3 .result .value = told (n3 .ok .1 .1 .0 .1) in
     let l2 = W.lost (n3 .ensures) in
     let l1 = W.lost-on (n2 .ensures) l2 in
     let l0 = W.lost-on (n1 .ensures) l1 in
@@ -27,4 +28,4 @@ returns c =
 
 pub geodetic-fields-spec : {M : Type 1} → statement M
 geodetic-fields-spec =
-    tie.close (tie.spec (search needs) (search needs) (search needs) (search needs) returns)
+    tie.close (tie.spec (omega arith) (omega arith) (omega arith) (omega arith) returns)

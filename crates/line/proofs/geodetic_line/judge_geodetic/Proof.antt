@@ -5,6 +5,7 @@ use mir.Val.{toZ, ofZ}
 use Rattle.line.specs.Readers.{geodeticFault}
 use Rattle.line.specs.declared.GeodeticLine.the-variants.{Geodetic, Refused}
 use Rattle.line.proofs.Answers as A
+use native.Mathlib.Omega.{arith}
 use borrow.Author.Needs.{needs}
 use Rattle.line.proofs.geodetic_line.judge_geodetic.Statement.{statement}
 use Rattle.line.proofs.geodetic_line.judge_geodetic.Tie as tie
@@ -24,4 +25,4 @@ returns-2 c =
     A.judge-some geodeticFault Geodetic Refused g _ (rw (a, o) at (c .before .angles-fault .ensures)) (c .if1 .left)
 
 pub judge-geodetic-spec : {M : Type 1} → statement M
-judge-geodetic-spec = tie.close (tie.spec (search needs) returns returns-2)
+judge-geodetic-spec = tie.close (tie.spec (omega arith) returns returns-2)

@@ -7,7 +7,6 @@ use Rattle.line.specs.declared.GeodeticLine.the-variants.{Malformed}
 use Rattle.line.specs.Readers.{readGeodetic}
 use Rattle.line.proofs.Answers as A
 use Rattle.line.proofs.Faults as F
-use borrow.Author.Needs.{needs}
 use Rattle.line.proofs.geodetic_line.read_geodetic.Statement.{statement}
 use Rattle.line.proofs.geodetic_line.read_geodetic.Tie as tie
 
@@ -33,4 +32,4 @@ returns-2 c =
 pub read-geodetic-spec : {M : Type 1} → statement M
 read-geodetic-spec =
     tie.close
-    (tie.spec (search needs) slice-aggregate-s (search needs) (search needs) (search needs) returns (search needs) returns-2)
+    (tie.spec (omega arith) slice-aggregate-s (omega arith) (omega arith) (omega arith) returns (omega arith) returns-2)

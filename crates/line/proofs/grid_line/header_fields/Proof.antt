@@ -1,6 +1,7 @@
 -- `line::grid_line::header_fields` meets its contract: five numbers in a row, behind a letter. Assumes nothing.
 use mathlib.Core.Path.{refl}
 use lib.IntN.{ℤ}
+use native.Mathlib.Omega.{arith}
 use borrow.Author.Needs.{needs}
 use Rattle.line.specs.declared.GridHeader.{GridHeader}
 use Rattle.line.specs.Forms.{gridForm}
@@ -23,4 +24,4 @@ returns c =
     (m .ensures) (n .ensures) (o .ensures) (i .ensures) (j .ensures) (search needs) (search needs) (search needs) (search needs) (search needs)
 
 pub header-fields-spec : {M : Type 1} → statement M
-header-fields-spec = tie.close (tie.spec (search needs) (search needs) (search needs) (search needs) (search needs) (search needs) returns)
+header-fields-spec = tie.close (tie.spec (omega arith) (omega arith) (omega arith) (omega arith) (omega arith) (omega arith) returns)

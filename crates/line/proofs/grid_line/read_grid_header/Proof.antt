@@ -8,7 +8,6 @@ use Rattle.line.specs.declared.GridLine.the-variants.{Header, Malformed}
 use Rattle.line.specs.Forms.{gridForm}
 use Rattle.line.specs.Malformed.{gridShape, faultOf}
 use Rattle.line.specs.Readers.{gridAs, readGridHeader}
-use borrow.Author.Needs.{needs}
 use Rattle.line.proofs.grid_line.read_grid_header.Statement.{statement}
 use Rattle.line.proofs.grid_line.read_grid_header.Tie as tie
 
@@ -35,4 +34,4 @@ returns-2 c =
 pub read-grid-header-spec : {M : Type 1} → statement M
 read-grid-header-spec =
     tie.close
-    (tie.spec (search needs) slice-aggregate-s (search needs) (search needs) returns (search needs) returns-2)
+    (tie.spec (omega arith) slice-aggregate-s (omega arith) (omega arith) returns (omega arith) returns-2)

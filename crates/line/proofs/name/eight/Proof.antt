@@ -4,7 +4,6 @@ use native.Mathlib.Omega.{arith}
 use borrow.Author.Tests.{not-true, not-false}
 use Rattle.line.specs.Reading.{Run, scaleOf}
 use Rattle.line.proofs.Names as N
-use borrow.Author.Needs.{needs}
 use Rattle.line.proofs.name.eight.Statement.{statement}
 use Rattle.line.proofs.name.eight.Tie as tie
 
@@ -49,5 +48,5 @@ returns-3 c = let k = c .before .before .before .before .before .loop in record 
 pub eight-spec : {M : Type 1} → statement M
 eight-spec =
     tie.close
-    (tie.spec Inv-loop μ-loop loop-holds (search needs) (search needs) (search needs) mul-value add-value (search needs) (search needs) (search needs)
+    (tie.spec Inv-loop μ-loop loop-holds (omega arith) (omega arith) (omega arith) mul-value add-value (omega arith) (omega arith) (omega arith)
     loop-again returns returns-2 returns-3)

@@ -1,6 +1,6 @@
 -- `line::name::is_name_byte` meets its contract. Assumes nothing.
 use Rattle.line.proofs.NameBytes as B
-use borrow.Author.Needs.{needs}
+use native.Mathlib.Omega.{arith}
 use Rattle.line.proofs.name.is_name_byte.Statement.{statement}
 use Rattle.line.proofs.name.is_name_byte.Tie as tie
 
@@ -14,4 +14,4 @@ returns-3 : tie.Need-returns-3
 returns-3 c = B.by-bit _ (c .before .if1 .left) (c .if2 .left)
 
 pub is-name-byte-spec : {M : Type 1} → statement M
-is-name-byte-spec = tie.close (tie.spec returns returns-2 (search needs) (search needs) returns-3)
+is-name-byte-spec = tie.close (tie.spec returns returns-2 (omega arith) (omega arith) returns-3)

@@ -2,7 +2,6 @@
 use native.Mathlib.Omega.{arith}
 use Rattle.line.proofs.Walk as W
 use Rattle.line.proofs.Names as N
-use borrow.Author.Needs.{needs}
 use Rattle.line.proofs.name.name.Statement.{statement}
 use Rattle.line.proofs.name.name.Tie as tie
 
@@ -21,4 +20,4 @@ returns-2 c = N.name-got (c .before .before .before .eight .ensures) (c .before 
 pub name-spec : {M : Type 1} → statement M
 name-spec =
     tie.close
-    (tie.spec (search needs) (search needs) (search needs) (search needs) returns returns-2)
+    (tie.spec (omega arith) (omega arith) (omega arith) (omega arith) returns returns-2)

@@ -1,6 +1,6 @@
 -- `line::node_line::hyphen_line` meets its contract. Assumes nothing.
 use borrow.Author.Tests.{eq-eqb, ne-eqb}
-use borrow.Author.Needs.{needs}
+use native.Mathlib.Omega.{arith}
 use Rattle.line.specs.Readers.{hyphenLine}
 use Rattle.line.proofs.node_line.hyphen_line.Statement.{statement}
 use Rattle.line.proofs.node_line.hyphen_line.Tie as tie
@@ -14,4 +14,4 @@ unfolding hyphenLine
 returns-2 c = rw (eq-eqb _ _ (c .before .before .if1 .left))
 
 pub hyphen-line-spec : {M : Type 1} → statement M
-hyphen-line-spec = tie.close (tie.spec returns (search needs) (search needs) returns-2)
+hyphen-line-spec = tie.close (tie.spec returns (omega arith) (omega arith) returns-2)

@@ -1,6 +1,7 @@
 -- `line::node_line::node_fields` meets its contract: three numbers in a row. Assumes nothing.
 use mathlib.Core.Path.{refl}
 use lib.IntN.{ℤ}
+use native.Mathlib.Omega.{arith}
 use borrow.Author.Needs.{needs}
 use Rattle.line.specs.declared.VelocityParts.{VelocityParts}
 use Rattle.line.specs.Forms.{nodeForm}
@@ -18,4 +19,4 @@ returns c =
     three parts parts (λ p q r. refl) (c3 .before .before .number .ensures) (c3 .before .number2 .ensures) (c3 .number3 .ensures) (search needs) (search needs) (search needs)
 
 pub node-fields-spec : {M : Type 1} → statement M
-node-fields-spec = tie.close (tie.spec (search needs) (search needs) (search needs) returns)
+node-fields-spec = tie.close (tie.spec (omega arith) (omega arith) (omega arith) returns)

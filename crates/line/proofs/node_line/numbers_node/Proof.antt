@@ -8,7 +8,6 @@ use Rattle.line.specs.declared.NodeLine.the-variants.{Parts, Malformed}
 use Rattle.line.specs.Forms.{nodeForm}
 use Rattle.line.specs.Malformed.{nodeShape, faultOf}
 use Rattle.line.specs.Readers.{partsAs, numbersNode}
-use borrow.Author.Needs.{needs}
 use Rattle.line.proofs.node_line.numbers_node.Statement.{statement}
 use Rattle.line.proofs.node_line.numbers_node.Tie as tie
 
@@ -35,4 +34,4 @@ returns-2 c =
 pub numbers-node-spec : {M : Type 1} → statement M
 numbers-node-spec =
     tie.close
-    (tie.spec (search needs) slice-aggregate-s (search needs) (search needs) returns (search needs) returns-2)
+    (tie.spec (omega arith) slice-aggregate-s (omega arith) (omega arith) returns (omega arith) returns-2)

@@ -3,7 +3,6 @@ use native.Mathlib.Omega.{arith}
 use Rattle.line.proofs.Ahead as L
 use Rattle.line.proofs.Words as W
 use Rattle.line.proofs.Sums as S
-use borrow.Author.Needs.{needs}
 use Rattle.line.proofs.number.ahead.Statement.{statement}
 use Rattle.line.proofs.number.ahead.Tie as tie
 
@@ -23,5 +22,5 @@ returns c =
 pub ahead-spec : {M : Type 1} → statement M
 ahead-spec =
     tie.close
-    (tie.spec (search needs) (search needs) (search needs) (search needs) eight-requires (search needs) (search needs) returns (λ c. search needs)
-    (λ c. search needs) (λ c. search needs))
+    (tie.spec (omega arith) (omega arith) (omega arith) (omega arith) eight-requires (omega arith) (omega arith) returns (λ c. L.unmoved _ _ _ (omega arith)) (λ c. L.unmoved _ _ _ (omega arith))
+    (λ c. L.unmoved _ _ _ (omega arith)))

@@ -1,6 +1,6 @@
 -- `line::number::below_zero` meets its contract. Assumes nothing.
 use Rattle.line.proofs.Numbers as N
-use borrow.Author.Needs.{needs}
+use native.Mathlib.Omega.{arith}
 use Rattle.line.proofs.number.below_zero.Statement.{statement}
 use Rattle.line.proofs.number.below_zero.Tie as tie
 
@@ -11,4 +11,4 @@ returns : tie.Need-returns
 returns c = N.neg-is _ (c .pre)
 
 pub below-zero-spec : {M : Type 1} → statement M
-below-zero-spec = tie.close (tie.spec (search needs) sub-result returns)
+below-zero-spec = tie.close (tie.spec (omega arith) sub-result returns)

@@ -4,7 +4,6 @@ use native.Mathlib.Omega.{arith}
 use Rattle.line.specs.Reading.{Onto}
 use Rattle.line.proofs.Numbers as N
 use Rattle.line.proofs.Ahead as L
-use borrow.Author.Needs.{needs}
 use Rattle.line.proofs.number.few.Statement.{statement}
 use Rattle.line.proofs.number.few.Tie as tie
 
@@ -43,5 +42,5 @@ returns-4 c = let k = c .before .before .before .before .before .loop in (k .inv
 pub few-spec : {M : Type 1} → statement M
 few-spec =
     tie.close
-    (tie.spec Inv-loop μ-loop loop-holds (search needs) mul-a (search needs) (search needs) add-a (search needs) (search needs) (search needs) loop-again
+    (tie.spec Inv-loop μ-loop loop-holds (omega arith) mul-a (omega arith) (omega arith) add-a (omega arith) (omega arith) (omega arith) loop-again
     returns returns-2 returns-3 returns-4)

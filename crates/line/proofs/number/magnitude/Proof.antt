@@ -6,7 +6,6 @@ use lib.ListN.{length}
 use Rattle.line.specs.Number.{digits}
 use Rattle.line.specs.Reading.{Got, capped}
 use Rattle.line.proofs.Numbers as N
-use borrow.Author.Needs.{needs}
 use Rattle.line.proofs.number.magnitude.Statement.{statement}
 use Rattle.line.proofs.number.magnitude.Tie as tie
 
@@ -38,5 +37,5 @@ returns-2 c =
 pub magnitude-spec : {M : Type 1} → statement M
 magnitude-spec =
     tie.close
-    (tie.spec Inv-loop μ-loop (search needs) few-requires loop-holds (search needs) (search needs) returns (search needs) (search needs) (search needs)
-    (search needs) (search needs) (search needs) loop-again (search needs) (search needs) returns-2)
+    (tie.spec Inv-loop μ-loop (omega arith) few-requires loop-holds (omega arith) (omega arith) returns (omega arith) (omega arith) (omega arith)
+    (omega arith) (omega arith) (omega arith) loop-again (omega arith) (omega arith) returns-2)

@@ -30,5 +30,5 @@ returns-3 c = let z = c .above-zero .result in let e : toZ w64 (ofZ w64 z) ≡ z
 pub number-spec : {M : Type 1} → statement M
 number-spec =
     tie.close
-    (tie.spec (search needs) returns (search needs) (search needs) (search needs) (search needs) (search needs) (search needs) (search needs) returns-2
+    (tie.spec (omega arith) returns (omega arith) (omega arith) (omega arith) (omega arith) (omega arith) (omega arith) (omega arith) returns-2
     returns-3)

@@ -29,5 +29,5 @@ returns-3 c = c .before .before .loop .inv _ (N.long-close (c .closed3 .ensures)
 pub rest-spec : {M : Type 1} → statement M
 rest-spec =
     tie.close
-    (tie.spec Inv-loop μ-loop (search needs) (search needs) (search needs) returns (search needs) (search needs) returns-2 (search needs) (search needs)
-    loop-again (search needs) returns-3)
+    (tie.spec Inv-loop μ-loop (search needs) (omega arith) (omega arith) returns (omega arith) (omega arith) returns-2 (omega arith) (omega arith)
+    loop-again (omega arith) returns-3)

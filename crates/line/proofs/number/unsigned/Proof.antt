@@ -3,7 +3,6 @@ use mathlib.Core.Logic.{⊎-elim}
 use native.Mathlib.Omega.{arith}
 use Rattle.line.proofs.Walk as W
 use Rattle.line.proofs.Numbers as N
-use borrow.Author.Needs.{needs}
 use Rattle.line.proofs.number.unsigned.Statement.{statement}
 use Rattle.line.proofs.number.unsigned.Tie as tie
 
@@ -22,5 +21,5 @@ returns-3 c =
 pub unsigned-spec : {M : Type 1} → statement M
 unsigned-spec =
     tie.close
-    (tie.spec (search needs) (search needs) (search needs) returns (search needs) (search needs) (search needs) (search needs) returns-2 (search needs)
+    (tie.spec (omega arith) (omega arith) (omega arith) returns (omega arith) (omega arith) (omega arith) (omega arith) returns-2 (omega arith)
     returns-3)

@@ -1,6 +1,7 @@
 -- `line::origin_line::origin_fields` meets its contract: five numbers in a row, behind a letter. Assumes nothing.
 use mathlib.Core.Path.{refl}
 use lib.IntN.{ℤ}
+use native.Mathlib.Omega.{arith}
 use borrow.Author.Needs.{needs}
 use Rattle.angle.specs.declared.OriginNumbers.{OriginNumbers}
 use Rattle.line.specs.Forms.{originForm}
@@ -23,4 +24,4 @@ returns c =
     (m .ensures) (n .ensures) (o .ensures) (i .ensures) (j .ensures) (search needs) (search needs) (search needs) (search needs) (search needs)
 
 pub origin-fields-spec : {M : Type 1} → statement M
-origin-fields-spec = tie.close (tie.spec (search needs) (search needs) (search needs) (search needs) (search needs) (search needs) returns)
+origin-fields-spec = tie.close (tie.spec (omega arith) (omega arith) (omega arith) (omega arith) (omega arith) (omega arith) returns)

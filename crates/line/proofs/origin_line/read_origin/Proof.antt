@@ -7,7 +7,6 @@ use Rattle.line.proofs.Answers as A
 use Rattle.line.proofs.Faults as F
 use Rattle.line.specs.declared.OriginLine.the-variants.{Malformed}
 use Rattle.line.specs.Readers.{readOrigin}
-use borrow.Author.Needs.{needs}
 use Rattle.line.proofs.origin_line.read_origin.Statement.{statement}
 use Rattle.line.proofs.origin_line.read_origin.Tie as tie
 
@@ -33,4 +32,4 @@ returns-2 c =
 pub read-origin-spec : {M : Type 1} → statement M
 read-origin-spec =
     tie.close
-    (tie.spec (search needs) slice-aggregate-s (search needs) (search needs) (search needs) returns (search needs) returns-2)
+    (tie.spec (omega arith) slice-aggregate-s (omega arith) (omega arith) (omega arith) returns (omega arith) returns-2)

@@ -6,7 +6,6 @@ use Rattle.refusal.specs.Numbers as refusal
 use Rattle.line.specs.Malformed.{endOf, fault, faultOf}
 use Rattle.line.proofs.Malformed.{end-low}
 use Rattle.line.proofs.SecondLook as L
-use borrow.Author.Needs.{needs}
 use Rattle.line.proofs.other_line.strange.Statement.{statement}
 use Rattle.line.proofs.other_line.strange.Tie as tie
 
@@ -29,4 +28,4 @@ returns-2 c = let line = c .before .before .before .before .before .args .line .
 pub strange-spec : {M : Type 1} → statement M
 strange-spec =
     tie.close
-    (tie.spec (search needs) (search needs) returns (search needs) found-requires-2 returns-2)
+    (tie.spec (omega arith) (omega arith) returns (omega arith) found-requires-2 returns-2)

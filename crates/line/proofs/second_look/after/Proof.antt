@@ -3,7 +3,6 @@ use Prim.Native.Nat.{_-_}
 use lib.ListN.{length}
 use native.Mathlib.Omega.{arith}
 use Rattle.line.proofs.SecondLook as L
-use borrow.Author.Needs.{needs}
 use Rattle.line.proofs.second_look.after.Statement.{statement}
 use Rattle.line.proofs.second_look.after.Tie as tie
 
@@ -34,4 +33,4 @@ returns-2 c = let g = c .before .before .args in L.begun-end (g .s .now) (g .at)
 pub after-spec : {M : Type 1} → statement M
 after-spec =
     tie.close
-    (tie.spec Inv-loop μ-loop loop-holds (search needs) (search needs) returns (search needs) (search needs) loop-again (search needs) returns-2)
+    (tie.spec Inv-loop μ-loop loop-holds (omega arith) (omega arith) returns (omega arith) (omega arith) loop-again (omega arith) returns-2)

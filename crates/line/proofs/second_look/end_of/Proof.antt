@@ -1,7 +1,6 @@
 -- `line::second_look::end_of` meets its contract. Assumes nothing.
 use native.Mathlib.Omega.{arith}
 use Rattle.line.proofs.SecondLook as L
-use borrow.Author.Needs.{needs}
 use Rattle.line.proofs.second_look.end_of.Statement.{statement}
 use Rattle.line.proofs.second_look.end_of.Tie as tie
 
@@ -19,4 +18,4 @@ returns-4 c = L.end-open (c .before .before .before .before .args .line .now) (o
 
 pub end-of-spec : {M : Type 1} → statement M
 end-of-spec =
-    tie.close (tie.spec returns returns-2 (search needs) (search needs) returns-3 returns-4)
+    tie.close (tie.spec returns returns-2 (omega arith) (omega arith) returns-3 returns-4)

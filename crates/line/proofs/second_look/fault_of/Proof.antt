@@ -10,7 +10,6 @@ use Rattle.line.specs.Malformed.{fault, fieldsFault, faultOf}
 use Rattle.line.specs.SecondLook.{shapeOf}
 use Rattle.line.proofs.Malformed.{body-length, end-low}
 use Rattle.line.proofs.SecondLook as L
-use borrow.Author.Needs.{needs}
 use Rattle.line.proofs.second_look.fault_of.Statement.{statement}
 use Rattle.line.proofs.second_look.fault_of.Tie as tie
 
@@ -46,4 +45,4 @@ returns-2 c = let line = c .before .before .before .before .before .args .line .
 pub fault-of-spec : {M : Type 1} → statement M
 fault-of-spec =
     tie.close
-    (tie.spec (search needs) (search needs) slice-aggregate-s fields-fault-requires returns found-requires returns-2)
+    (tie.spec (omega arith) (omega arith) slice-aggregate-s fields-fault-requires returns found-requires returns-2)

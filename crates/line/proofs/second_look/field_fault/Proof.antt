@@ -5,6 +5,7 @@ use Rattle.refusal.specs.Numbers as refusal
 use Rattle.line.specs.Bytes.{letterT, letterV, letterB, letterF, letterP, letterC}
 use Rattle.line.specs.Malformed.{letters, identifier, number}
 use Rattle.line.proofs.SecondLook as L
+use native.Mathlib.Omega.{arith}
 use borrow.Author.Needs.{needs}
 use Rattle.line.proofs.second_look.field_fault.Statement.{statement}
 use Rattle.line.proofs.second_look.field_fault.Tie as tie
@@ -42,6 +43,6 @@ returns-5 c =
 pub field-fault-spec : {M : Type 1} → statement M
 field-fault-spec =
     tie.close
-    (tie.spec (search needs) (search needs) (search needs) (search needs) (search needs) (search needs) (search needs) (search needs) (search needs)
-    (search needs) (search needs) (search needs) (search needs) (search needs) (search needs) (search needs) returns returns-2 returns-3 returns-4
+    (tie.spec (omega arith) (omega arith) (omega arith) (omega arith) (omega arith) (omega arith) (omega arith) (omega arith) (omega arith)
+    (omega arith) (omega arith) (omega arith) (omega arith) (omega arith) (omega arith) (omega arith) returns returns-2 returns-3 returns-4
     returns-5 (λ c. search needs))

@@ -4,7 +4,6 @@ use native.Mathlib.Omega.{arith}
 use borrow.Author.Tests.{eqb-true, eqb-false, not-true, not-false}
 use Rattle.line.specs.Fields.{fields}
 use Rattle.line.proofs.SecondLook as L
-use borrow.Author.Needs.{needs}
 use Rattle.line.proofs.second_look.fields_fault.Statement.{statement}
 use Rattle.line.proofs.second_look.fields_fault.Tie as tie
 
@@ -60,5 +59,5 @@ returns-5 c =
 pub fields-fault-spec : {M : Type 1} → statement M
 fields-fault-spec =
     tie.close
-    (tie.spec (search needs) (search needs) (search needs) returns (search needs) (search needs) returns-2
-    (search needs) (search needs) returns-3 (search needs) returns-4 (search needs) returns-5)
+    (tie.spec (omega arith) (omega arith) (omega arith) returns (omega arith) (omega arith) returns-2
+    (omega arith) (omega arith) returns-3 (omega arith) returns-4 (omega arith) returns-5)

@@ -5,7 +5,7 @@ use lib.Dec.{eqb}
 use lib.ListN.{length}
 use Rattle.line.specs.Fields.{fields}
 use Rattle.line.specs.Malformed.{Class}
-use borrow.Author.Needs.{needs}
+use native.Mathlib.Omega.{arith}
 use Rattle.line.proofs.second_look.is_counted.Statement.{statement}
 use Rattle.line.proofs.second_look.is_counted.Tie as tie
 
@@ -15,4 +15,4 @@ returns c =
     c .has-count .ensures ∙ ap (λ (cs : List Class). eqb n (length cs)) (c .before .kind-in .ensures)
 
 pub is-counted-spec : {M : Type 1} → statement M
-is-counted-spec = tie.close (tie.spec (search needs) (search needs) returns)
+is-counted-spec = tie.close (tie.spec (omega arith) (omega arith) returns)

@@ -8,7 +8,6 @@ use Rattle.line.specs.Malformed.{Class}
 use Rattle.line.specs.Reading.{from}
 use Rattle.line.specs.SecondLook.{classesOf, firstFault}
 use Rattle.line.proofs.SecondLook as L
-use borrow.Author.Needs.{needs}
 use Rattle.line.proofs.second_look.look.Statement.{statement}
 use Rattle.line.proofs.second_look.look.Tie as tie
 
@@ -36,5 +35,5 @@ returns c = L.looked (c .before .loop .inv) (omega arith)
 pub look-spec : {M : Type 1} → statement M
 look-spec =
     tie.close
-    (tie.spec Inv-loop μ-loop (search needs) loop-holds (search needs) (search needs) (search needs) (search needs) (search needs) (search needs) (search needs)
+    (tie.spec Inv-loop μ-loop (omega arith) loop-holds (omega arith) (omega arith) (omega arith) (omega arith) (omega arith) (omega arith) (omega arith)
     loop-again returns)

@@ -4,7 +4,6 @@ use mathlib.Core.Logic.{⊎-elim}
 use lib.ListN.{length}
 use native.Mathlib.Omega.{arith}
 use Rattle.line.proofs.Tabs as T
-use borrow.Author.Needs.{needs}
 use Rattle.line.proofs.second_look.tabs.Statement.{statement}
 use Rattle.line.proofs.second_look.tabs.Tie as tie
 
@@ -29,4 +28,4 @@ returns c = T.tabs-counted (c .before .loop .inv) (omega arith)
 pub tabs-spec : {M : Type 1} → statement M
 tabs-spec =
     tie.close
-    (tie.spec Inv-loop μ-loop loop-holds (search needs) (search needs) (search needs) (search needs) loop-again returns)
+    (tie.spec Inv-loop μ-loop loop-holds (omega arith) (omega arith) (omega arith) (omega arith) loop-again returns)

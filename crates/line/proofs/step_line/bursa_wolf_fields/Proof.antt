@@ -2,9 +2,10 @@
 use mathlib.Core.Path.{_≡_, ap, _∙_}
 use mir.Syntax.{w64}
 use mir.Val.{toZ, ofZ}
+use Rattle.line.proofs.Places.{told}
 use Rattle.line.proofs.Walk as W
 use Rattle.line.specs.Forms.{bursaWolfForm, conventionOf}
-use borrow.Author.Needs.{needs}
+use native.Mathlib.Omega.{arith}
 use Rattle.line.proofs.step_line.bursa_wolf_fields.Statement.{statement}
 use Rattle.line.proofs.step_line.bursa_wolf_fields.Tie as tie
 
@@ -19,13 +20,13 @@ returns c =
     let n6 = c .before .before .before .before .before .before .before .before .before .before .number5 in
     let n7 = c .before .before .before .before .before .before .before .before .before .number6 in
     let n8 = c .before .before .before .before .before .before .before .before .number7 in
-    let e2 : toZ w64 (ofZ w64 (n2 .result .value)) ≡ n2 .result .value = search needs in
-    let e3 : toZ w64 (ofZ w64 (n3 .result .value)) ≡ n3 .result .value = search needs in
-    let e4 : toZ w64 (ofZ w64 (n4 .result .value)) ≡ n4 .result .value = search needs in
-    let e5 : toZ w64 (ofZ w64 (n5 .result .value)) ≡ n5 .result .value = search needs in
-    let e6 : toZ w64 (ofZ w64 (n6 .result .value)) ≡ n6 .result .value = search needs in
-    let e7 : toZ w64 (ofZ w64 (n7 .result .value)) ≡ n7 .result .value = search needs in
-    let e8 : toZ w64 (ofZ w64 (n8 .result .value)) ≡ n8 .result .value = search needs in
+    let e2 : toZ w64 (ofZ w64 (n2 .result .value)) ≡ n2 .result .value = told (n2 .ok .1 .1 .0 .1) in
+    let e3 : toZ w64 (ofZ w64 (n3 .result .value)) ≡ n3 .result .value = told (n3 .ok .1 .1 .0 .1) in
+    let e4 : toZ w64 (ofZ w64 (n4 .result .value)) ≡ n4 .result .value = told (n4 .ok .1 .1 .0 .1) in
+    let e5 : toZ w64 (ofZ w64 (n5 .result .value)) ≡ n5 .result .value = told (n5 .ok .1 .1 .0 .1) in
+    let e6 : toZ w64 (ofZ w64 (n6 .result .value)) ≡ n6 .result .value = told (n6 .ok .1 .1 .0 .1) in
+    let e7 : toZ w64 (ofZ w64 (n7 .result .value)) ≡ n7 .result .value = told (n7 .ok .1 .1 .0 .1) in
+    let e8 : toZ w64 (ofZ w64 (n8 .result .value)) ≡ n8 .result .value = told (n8 .ok .1 .1 .0 .1) in
     let l7 = W.lost (n8 .ensures) in
     let l6 = W.lost-on (n7 .ensures) l7 in
     let l5 = W.lost-on (n6 .ensures) l6 in
@@ -50,5 +51,5 @@ returns c =
 pub bursa-wolf-fields-spec : {M : Type 1} → statement M
 bursa-wolf-fields-spec =
     tie.close
-    (tie.spec (search needs) (search needs) (search needs) (search needs) (search needs) (search needs) (search needs) (search needs) (search needs)
+    (tie.spec (omega arith) (omega arith) (omega arith) (omega arith) (omega arith) (omega arith) (omega arith) (omega arith) (omega arith)
     returns)

@@ -5,7 +5,7 @@ use mir.Facts.{toZ-ofZ}
 use Rattle.chain.specs.Faults.{stepFault}
 use Rattle.line.specs.declared.StepLine.the-variants.{Step, Refused}
 use Rattle.line.proofs.Answers as A
-use borrow.Author.Needs.{needs}
+use native.Mathlib.Omega.{arith}
 use Rattle.line.proofs.step_line.judge_step.Statement.{statement}
 use Rattle.line.proofs.step_line.judge_step.Tie as tie
 
@@ -20,4 +20,4 @@ returns-2 : tie.Need-returns-2
 returns-2 c = A.judge-some (stepFault (c .before .before .args .profile)) Step Refused (c .before .before .args .step) _ (found (c .before)) (c .if1 .left)
 
 pub judge-step-spec : {M : Type 1} → statement M
-judge-step-spec = tie.close (tie.spec (search needs) returns returns-2)
+judge-step-spec = tie.close (tie.spec (omega arith) returns returns-2)

@@ -3,7 +3,7 @@ use borrow.Author.Tests.{eq-eqb, ne-eqb}
 use mathlib.Core.Path.{refl}
 use Rattle.line.specs.Forms.{frameForm}
 use Rattle.line.proofs.Walk as W
-use borrow.Author.Needs.{needs}
+use native.Mathlib.Omega.{arith}
 use Rattle.line.proofs.step_line.kind_fields.Statement.{statement}
 use Rattle.line.proofs.step_line.kind_fields.Tie as tie
 
@@ -23,4 +23,4 @@ returns-4 c = rw (ne-eqb _ _ (c .before .before .if1 .left), ne-eqb _ _ (c .befo
 pub kind-fields-spec : {M : Type 1} → statement M
 kind-fields-spec =
     tie.close
-    (tie.spec (search needs) returns (search needs) returns-2 (search needs) returns-3 returns-4)
+    (tie.spec (omega arith) returns (omega arith) returns-2 (omega arith) returns-3 returns-4)

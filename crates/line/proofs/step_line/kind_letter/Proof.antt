@@ -5,7 +5,6 @@ use mathlib.Core.List.{[], _∷_}
 use native.Mathlib.Omega.{arith}
 use borrow.Author.Tests.{ne-eqb}
 use Rattle.line.proofs.Walk as W
-use borrow.Author.Needs.{needs}
 use Rattle.line.proofs.step_line.kind_letter.Statement.{statement}
 use Rattle.line.proofs.step_line.kind_letter.Tie as tie
 
@@ -18,4 +17,4 @@ returns-2 c =
     W.sift-off (84 ∷ 86 ∷ 66 ∷ 70 ∷ []) (c .before .before .single .ensures) (rw (ne-eqb _ 84 (λ e. r (inr (inr (inl e)))), ne-eqb _ 86 (λ e. r (inr (inr (inr e)))), ne-eqb _ 66 (λ e. r (inl e)), ne-eqb _ 70 (λ e. r (inr (inl e))))) (omega arith)
 
 pub kind-letter-spec : {M : Type 1} → statement M
-kind-letter-spec = tie.close (tie.spec (search needs) (search needs) returns returns-2)
+kind-letter-spec = tie.close (tie.spec (omega arith) (omega arith) returns returns-2)

@@ -17,7 +17,6 @@ use Rattle.line.proofs.Faults as F
 use Rattle.line.proofs.GoodForm.{step-uncounted}
 use Rattle.line.proofs.Malformed.{body-length}
 use Rattle.line.proofs.SecondLook as L
-use borrow.Author.Needs.{needs}
 use Rattle.line.proofs.step_line.read_step.Statement.{statement}
 use Rattle.line.proofs.step_line.read_step.Tie as tie
 
@@ -60,4 +59,4 @@ returns-2 c =
 pub read-step-spec : {M : Type 1} → statement M
 read-step-spec =
     tie.close
-    (tie.spec (search needs) slice-aggregate-s is-counted-requires (search needs) (search needs) (search needs) returns (search needs) returns-2)
+    (tie.spec (omega arith) slice-aggregate-s is-counted-requires (omega arith) (omega arith) (omega arith) returns (omega arith) returns-2)

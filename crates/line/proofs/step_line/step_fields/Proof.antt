@@ -2,9 +2,10 @@
 use mathlib.Core.Path.{_≡_, _∙_}
 use mir.Syntax.{w64}
 use mir.Val.{toZ, ofZ}
+use Rattle.line.proofs.Places.{told}
 use Rattle.line.proofs.Walk as W
 use Rattle.line.specs.Forms.{stepForm, stepOf}
-use borrow.Author.Needs.{needs}
+use native.Mathlib.Omega.{arith}
 use Rattle.line.proofs.step_line.step_fields.Statement.{statement}
 use Rattle.line.proofs.step_line.step_fields.Tie as tie
 
@@ -17,10 +18,10 @@ returns c =
     let n4 = c .before .before .before .before .before .before .number3 in
     let n5 = c .before .before .before .before .before .number4 in
     let t = c .before .before .before .before .kind-fields .ensures in
-    let e2 : toZ w64 (ofZ w64 (n2 .result .value)) ≡ n2 .result .value = search needs in
-    let e3 : toZ w64 (ofZ w64 (n3 .result .value)) ≡ n3 .result .value = search needs in
-    let e4 : toZ w64 (ofZ w64 (n4 .result .value)) ≡ n4 .result .value = search needs in
-    let e5 : toZ w64 (ofZ w64 (n5 .result .value)) ≡ n5 .result .value = search needs in
+    let e2 : toZ w64 (ofZ w64 (n2 .result .value)) ≡ n2 .result .value = told (n2 .ok .1 .1 .0 .1) in
+    let e3 : toZ w64 (ofZ w64 (n3 .result .value)) ≡ n3 .result .value = told (n3 .ok .1 .1 .0 .1) in
+    let e4 : toZ w64 (ofZ w64 (n4 .result .value)) ≡ n4 .result .value = told (n4 .ok .1 .1 .0 .1) in
+    let e5 : toZ w64 (ofZ w64 (n5 .result .value)) ≡ n5 .result .value = told (n5 .ok .1 .1 .0 .1) in
     let l4 = W.lost-on (n5 .ensures) (t .lost) in
     let l3 = W.lost-on (n4 .ensures) l4 in
     let l2 = W.lost-on (n3 .ensures) l3 in
@@ -38,4 +39,4 @@ returns c =
 pub step-fields-spec : {M : Type 1} → statement M
 step-fields-spec =
     tie.close
-    (tie.spec (search needs) (search needs) (search needs) (search needs) (search needs) (search needs) (search needs) returns)
+    (tie.spec (omega arith) (omega arith) (omega arith) (omega arith) (omega arith) (omega arith) (omega arith) returns)

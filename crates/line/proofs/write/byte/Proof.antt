@@ -10,4 +10,4 @@ returns-2 : tie.Need-returns-2
 returns-2 c = let g = c .before .args in record { place = omega arith; list = sym (set-out (g .out .now) (g .at) (g .b) (omega arith)) }
 
 pub byte-spec : {M : Type 1} → statement M
-byte-spec = tie.close (tie.spec (search needs) (search needs) (search needs) (λ c. search needs) returns-2)
+byte-spec = tie.close (tie.spec (omega arith) (omega arith) (search needs) (λ c. search needs) returns-2)

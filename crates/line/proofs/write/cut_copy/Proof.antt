@@ -6,7 +6,6 @@ use lib.ListN.{length, take}
 use Rattle.line.specs.Text.{Wrote}
 use Rattle.line.proofs.Moved as M
 use Rattle.line.proofs.Texts as T
-use borrow.Author.Needs.{needs}
 use Rattle.line.proofs.write.cut_copy.Statement.{statement}
 use Rattle.line.proofs.write.cut_copy.Tie as tie
 
@@ -45,4 +44,4 @@ returns-2 c =
 pub cut-copy-spec : {M : Type 1} → statement M
 cut-copy-spec =
     tie.close
-    (tie.spec Inv-loop μ-loop loop-holds (search needs) (search needs) (search needs) (search needs) loop-again same-length returns same-length-2 returns-2)
+    (tie.spec Inv-loop μ-loop loop-holds (omega arith) (omega arith) (omega arith) (omega arith) loop-again same-length returns same-length-2 returns-2)

@@ -4,6 +4,7 @@ use mir.Val.{toZ, ofZ}
 use mathlib.Core.Path.{_≡_}
 use Rattle.line.proofs.Moved as M
 use Rattle.line.proofs.Texts as T
+use native.Mathlib.Omega.{arith}
 use borrow.Author.Needs.{needs}
 use Rattle.line.proofs.write.cut_moved.Statement.{statement}
 use Rattle.line.proofs.write.cut_moved.Tie as tie
@@ -41,4 +42,4 @@ same-length : tie.Need-same-length
 same-length c = T.same-size (returns c)
 
 pub cut-moved-spec : {M : Type 1} → statement M
-cut-moved-spec = tie.close (tie.spec (search needs) (search needs) (search needs) (search needs) (search needs) same-length returns)
+cut-moved-spec = tie.close (tie.spec (omega arith) (omega arith) (omega arith) (omega arith) (omega arith) same-length returns)

@@ -4,6 +4,7 @@ use mir.Val.{toZ, ofZ}
 use mathlib.Core.Path.{_≡_}
 use Rattle.line.proofs.Moved as M
 use Rattle.line.proofs.Texts as T
+use native.Mathlib.Omega.{arith}
 use borrow.Author.Needs.{needs}
 use Rattle.line.proofs.write.cut_point.Statement.{statement}
 use Rattle.line.proofs.write.cut_point.Tie as tie
@@ -33,4 +34,4 @@ same-length : tie.Need-same-length
 same-length c = T.same-size (returns c)
 
 pub cut-point-spec : {M : Type 1} → statement M
-cut-point-spec = tie.close (tie.spec (search needs) (search needs) (search needs) (search needs) (search needs) same-length returns)
+cut-point-spec = tie.close (tie.spec (omega arith) (omega arith) (omega arith) (omega arith) (omega arith) same-length returns)

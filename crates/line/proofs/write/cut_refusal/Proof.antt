@@ -1,6 +1,6 @@
 -- `line::write::cut_refusal` meets its contract. Assumes nothing.
 use Rattle.line.proofs.Texts as T
-use borrow.Author.Needs.{needs}
+use native.Mathlib.Omega.{arith}
 use Rattle.line.proofs.write.cut_refusal.Statement.{statement}
 use Rattle.line.proofs.write.cut_refusal.Tie as tie
 
@@ -21,5 +21,5 @@ returns c =
 pub cut-refusal-spec : {M : Type 1} → statement M
 cut-refusal-spec =
     tie.close
-    (tie.spec (search needs) (search needs) (search needs) (search needs) (search needs) (search needs) (search needs) (search needs) (search needs)
-    (search needs) returns)
+    (tie.spec (omega arith) (omega arith) (omega arith) (omega arith) (omega arith) (omega arith) (omega arith) (omega arith) (omega arith)
+    (omega arith) returns)

@@ -1,6 +1,6 @@
 -- `line::write::name` meets its contract. Assumes nothing.
 use Rattle.line.proofs.Texts as T
-use borrow.Author.Needs.{needs}
+use native.Mathlib.Omega.{arith}
 use Rattle.line.proofs.write.name.Statement.{statement}
 use Rattle.line.proofs.write.name.Tie as tie
 
@@ -12,4 +12,4 @@ returns c =
     T.says (T.«then» (c10 .word .ensures) (T.«then» (c6 .word2 .ensures) (c2 .byte .ensures))) (T.name-is _ 9)
 
 pub name-spec : {M : Type 1} → statement M
-name-spec = tie.close (tie.spec (search needs) (search needs) (search needs) (search needs) returns)
+name-spec = tie.close (tie.spec (omega arith) (omega arith) (omega arith) (omega arith) returns)

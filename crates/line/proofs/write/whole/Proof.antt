@@ -2,8 +2,9 @@
 use mir.Syntax.{w64}
 use mir.Val.{toZ, ofZ}
 use mathlib.Core.Path.{_≡_}
+use mir.Facts.{toZ-ofZ}
 use Rattle.line.proofs.Texts as T
-use borrow.Author.Needs.{needs}
+use native.Mathlib.Omega.{arith}
 use Rattle.line.proofs.write.whole.Statement.{statement}
 use Rattle.line.proofs.write.whole.Tie as tie
 
@@ -16,7 +17,7 @@ returns c =
     let c13 = c12 .before in
     let c15 = c13 .before .before in
     let z = c15 .args .z in
-    let e : toZ w64 (ofZ w64 z) ≡ z = search needs in
+    let e : toZ w64 (ofZ w64 z) ≡ z = toZ-ofZ (c15 .fits .z) in
     T.says (T.«then» (c10 .byte .ensures) (T.«then» (c6 .natural .ensures) (c2 .byte2 .ensures))) (T.whole-below z _ _ (rw e at (c13 .size .ensures)) (rw e at (c12 .if1 .taken)))
 
 returns-2 : tie.Need-returns-2
@@ -27,10 +28,10 @@ returns-2 c =
     let c9 = c8 .before in
     let c11 = c9 .before .before in
     let z = c11 .args .z in
-    let e : toZ w64 (ofZ w64 z) ≡ z = search needs in
+    let e : toZ w64 (ofZ w64 z) ≡ z = toZ-ofZ (c11 .fits .z) in
     T.says (T.«then» (c6 .natural2 .ensures) (c2 .byte3 .ensures)) (T.whole-above z _ _ (rw e at (c9 .size .ensures)) (rw e at (c8 .if1 .left)))
 
 pub whole-spec : {M : Type 1} → statement M
 whole-spec =
     tie.close
-    (tie.spec (search needs) (search needs) (search needs) (search needs) (search needs) (search needs) (search needs) returns (search needs) returns-2)
+    (tie.spec (omega arith) (omega arith) (omega arith) (omega arith) (omega arith) (omega arith) (omega arith) returns (omega arith) returns-2)

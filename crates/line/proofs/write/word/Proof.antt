@@ -6,7 +6,6 @@ use mathlib.Core.List.{List}
 use native.Mathlib.Omega.{arith}
 use lib.ListN.{length}
 use Rattle.line.proofs.Texts as T
-use borrow.Author.Needs.{needs}
 use Rattle.line.proofs.write.word.Statement.{statement}
 use Rattle.line.proofs.write.word.Tie as tie
 
@@ -42,5 +41,5 @@ returns-2 c = let k = c .before .before .loop in k .inv .2 _ _ (T.as-text (sym (
 pub word-spec : {M : Type 1} → statement M
 word-spec =
     tie.close
-    (tie.spec Inv-loop μ-loop loop-holds (search needs) (search needs) (search needs) (search needs) (search needs) loop-again same-length returns
+    (tie.spec Inv-loop μ-loop loop-holds (omega arith) (omega arith) (omega arith) (omega arith) (omega arith) loop-again same-length returns
     same-length-2 returns-2)

@@ -1,7 +1,6 @@
 -- `line::write::write_moved` meets its contract. Assumes nothing.
 use native.Mathlib.Omega.{arith}
 use Rattle.line.proofs.Texts as T
-use borrow.Author.Needs.{needs}
 use Rattle.line.proofs.write.write_moved.Statement.{statement}
 use Rattle.line.proofs.write.write_moved.Tie as tie
 
@@ -16,4 +15,4 @@ returns-2 c = T.«then» (c .before .before .before .before .before .before .cut
 
 pub write-moved-spec : {M : Type 1} → statement M
 write-moved-spec =
-    tie.close (tie.spec (search needs) relabelled-requires (search needs) returns (search needs) (search needs) (search needs) returns-2)
+    tie.close (tie.spec (omega arith) relabelled-requires (omega arith) returns (omega arith) (omega arith) (omega arith) returns-2)

@@ -1,6 +1,6 @@
 -- `line::write::write_refusal` meets its contract. Assumes nothing.
 use Rattle.line.proofs.Texts as T
-use borrow.Author.Needs.{needs}
+use native.Mathlib.Omega.{arith}
 use Rattle.line.proofs.write.write_refusal.Statement.{statement}
 use Rattle.line.proofs.write.write_refusal.Tie as tie
 
@@ -11,4 +11,4 @@ returns-2 : tie.Need-returns-2
 returns-2 c = c .before .before .cut-refusal .ensures
 
 pub write-refusal-spec : {M : Type 1} → statement M
-write-refusal-spec = tie.close (tie.spec (search needs) (search needs) returns (search needs) (search needs) returns-2)
+write-refusal-spec = tie.close (tie.spec (omega arith) (omega arith) returns (omega arith) (omega arith) returns-2)

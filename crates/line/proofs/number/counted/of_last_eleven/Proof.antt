@@ -25,4 +25,4 @@ returns c =
     (omega arith))
 
 pub of-last-eleven-spec : {M : Type 1} → statement M
-of-last-eleven-spec = tie.close (tie.spec (search needs) sub-if2 (search needs) above-zero-requires (search needs) returns (search needs) (λ c. search needs))
+of-last-eleven-spec = tie.close (tie.spec (omega arith) sub-if2 (omega arith) above-zero-requires (omega arith) returns (omega arith) (λ c. search needs))

@@ -48,5 +48,5 @@ returns c =
 pub of-minus-twelve-spec : {M : Type 1} → statement M
 of-minus-twelve-spec =
     tie.close
-    (tie.spec (search needs) shared-slice-read-if2 add-if3 shared-slice-read-if3 add-twelve twelve-requires below-zero-requires add-t15 returns
-    (search needs) (λ c. search needs))
+    (tie.spec (omega arith) shared-slice-read-if2 add-if3 shared-slice-read-if3 add-twelve twelve-requires below-zero-requires add-t15 returns
+    (omega arith) (λ c. search needs))

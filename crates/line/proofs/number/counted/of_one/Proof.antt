@@ -27,5 +27,5 @@ returns c =
 pub of-one-spec : {M : Type 1} → statement M
 of-one-spec =
     tie.close
-    (tie.spec (search needs) shared-slice-read-wide (search needs) sub-above-zero (search needs) add-closed (search needs) returns (search needs)
+    (tie.spec (omega arith) shared-slice-read-wide (omega arith) sub-above-zero (omega arith) add-closed (omega arith) returns (omega arith)
     (λ c. search needs))

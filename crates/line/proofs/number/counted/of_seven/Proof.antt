@@ -25,4 +25,4 @@ returns c =
     rw (e, c .above-zero .ensures) (K.counted 7 10000000 _ (a .1) (a .0) (omega arith) (omega arith) (omega arith))
 
 pub of-seven-spec : {M : Type 1} → statement M
-of-seven-spec = tie.close (tie.spec (search needs) seven-alone-requires above-zero-requires add-t7 returns (search needs) (λ c. search needs))
+of-seven-spec = tie.close (tie.spec (omega arith) seven-alone-requires above-zero-requires add-t7 returns (omega arith) (λ c. search needs))

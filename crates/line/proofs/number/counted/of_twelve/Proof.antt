@@ -36,4 +36,4 @@ returns c =
 pub of-twelve-spec : {M : Type 1} → statement M
 of-twelve-spec =
     tie.close
-    (tie.spec (search needs) add-if2 shared-slice-read-if2 twelve-requires above-zero-requires add-t11 returns (search needs) (λ c. search needs))
+    (tie.spec (omega arith) add-if2 shared-slice-read-if2 twelve-requires above-zero-requires add-t11 returns (omega arith) (λ c. search needs))

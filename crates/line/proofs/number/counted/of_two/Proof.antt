@@ -33,5 +33,5 @@ returns c =
 pub of-two-spec : {M : Type 1} → statement M
 of-two-spec =
     tie.close
-    (tie.spec (search needs) shared-slice-read-wide (search needs) (search needs) add-wide shared-slice-read-wide-2 (search needs) (search needs)
-    sub-above-zero (search needs) add-closed (search needs) returns (search needs) (λ c. search needs))
+    (tie.spec (omega arith) shared-slice-read-wide (omega arith) (omega arith) add-wide shared-slice-read-wide-2 (omega arith) (omega arith)
+    sub-above-zero (omega arith) add-closed (omega arith) returns (omega arith) (λ c. search needs))

@@ -4,7 +4,6 @@ use native.Mathlib.Omega.{arith}
 use lib.ListN.{length}
 use borrow.Author.Tests.{leb-true}
 use Rattle.line.proofs.Capped.{never}
-use borrow.Author.Needs.{needs}
 use Rattle.line.proofs.number.counted.reaches.Statement.{statement}
 use Rattle.line.proofs.number.counted.reaches.Tie as tie
 
@@ -12,4 +11,4 @@ returns-2 : tie.Need-returns-2
 returns-2 c = λ e. (let g = c .before .args in omega (arith, leb-true (g .at) (length (g .s .now) - g .k) e))
 
 pub reaches-spec : {M : Type 1} → statement M
-reaches-spec = tie.close (tie.spec (λ c e. absurd (never e)) (search needs) returns-2)
+reaches-spec = tie.close (tie.spec (λ c e. absurd (never e)) (omega arith) returns-2)

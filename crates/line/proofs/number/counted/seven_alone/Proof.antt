@@ -5,7 +5,6 @@ use borrow.Author.Tests.{leb-true}
 use Rattle.line.proofs.Capped.{never}
 use Rattle.line.proofs.Words as W
 use Rattle.line.proofs.Sums as S
-use borrow.Author.Needs.{needs}
 use Rattle.line.proofs.number.counted.seven_alone.Statement.{statement}
 use Rattle.line.proofs.number.counted.seven_alone.Tie as tie
 
@@ -24,4 +23,4 @@ returns-2 c = λ e. (
     ))
 
 pub seven-alone-spec : {M : Type 1} → statement M
-seven-alone-spec = tie.close (tie.spec (search needs) (search needs) (λ c e. absurd (never e)) seven-requires returns-2)
+seven-alone-spec = tie.close (tie.spec (omega arith) (omega arith) (λ c e. absurd (never e)) seven-requires returns-2)

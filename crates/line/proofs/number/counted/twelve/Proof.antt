@@ -6,7 +6,6 @@ use Rattle.line.proofs.Ahead as L
 use Rattle.line.proofs.Capped.{never}
 use Rattle.line.proofs.Words as W
 use Rattle.line.proofs.Sums as S
-use borrow.Author.Needs.{needs}
 use Rattle.line.proofs.number.counted.twelve.Statement.{statement}
 use Rattle.line.proofs.number.counted.twelve.Tie as tie
 
@@ -38,5 +37,5 @@ returns-2 c = λ e. (
 pub twelve-spec : {M : Type 1} → statement M
 twelve-spec =
     tie.close
-    (tie.spec (search needs) (search needs) (search needs) (search needs) (search needs) (λ c e. absurd (never e)) eight-requires (search needs)
-    last-four-requires (search needs) returns-2)
+    (tie.spec (omega arith) (omega arith) (omega arith) (omega arith) (omega arith) (λ c e. absurd (never e)) eight-requires (omega arith)
+    last-four-requires (omega arith) returns-2)

@@ -3,7 +3,6 @@ use native.Mathlib.Omega.{arith}
 use borrow.Author.Tests.{leb-true}
 use Rattle.line.proofs.Capped.{never}
 use Rattle.line.proofs.Counted as K
-use borrow.Author.Needs.{needs}
 use Rattle.line.proofs.number.counted.two_alone.Statement.{statement}
 use Rattle.line.proofs.number.counted.two_alone.Tie as tie
 
@@ -15,5 +14,5 @@ returns-7 c =
 pub two-alone-spec : {M : Type 1} → statement M
 two-alone-spec =
     tie.close
-    (tie.spec (λ c e. absurd (never e)) (search needs) (λ c e. absurd (never e)) (search needs) (search needs) (λ c e. absurd (never e)) (search needs)
-    (λ c e. absurd (never e)) (λ c e. absurd (never e)) (search needs) (search needs) (λ c e. absurd (never e)) returns-7)
+    (tie.spec (λ c e. absurd (never e)) (omega arith) (λ c e. absurd (never e)) (omega arith) (omega arith) (λ c e. absurd (never e)) (omega arith)
+    (λ c e. absurd (never e)) (λ c e. absurd (never e)) (omega arith) (omega arith) (λ c e. absurd (never e)) returns-7)

@@ -1,6 +1,5 @@
 -- `line::number::words::eight` meets its contract. Assumes nothing.
 use native.Mathlib.Omega.{arith}
-use borrow.Author.Needs.{needs}
 use Rattle.line.proofs.number.words.eight.Statement.{statement}
 use Rattle.line.proofs.number.words.eight.Tie as tie
 
@@ -8,4 +7,4 @@ returns : tie.Need-returns
 returns c = rw (c .fours .ensures)
 
 pub eight-spec : {M : Type 1} → statement M
-eight-spec = tie.close (tie.spec (search needs) (search needs) (search needs) returns)
+eight-spec = tie.close (tie.spec (omega arith) (omega arith) (omega arith) returns)

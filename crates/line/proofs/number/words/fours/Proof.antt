@@ -4,7 +4,6 @@ use native.Mathlib.Omega.{arith}
 use lib.Bits.{and-le-r}
 use mathlib.Core.Path.{refl}
 use Rattle.line.specs.Reading.{pairSums, fourSums}
-use borrow.Author.Needs.{needs}
 use Rattle.line.proofs.number.words.fours.Statement.{statement}
 use Rattle.line.proofs.number.words.fours.Tie as tie
 
@@ -19,4 +18,4 @@ unfolding fourSums pairSums
 returns c = refl
 
 pub fours-spec : {M : Type 1} → statement M
-fours-spec = tie.close (tie.spec (search needs) (search needs) mul-result add-result returns)
+fours-spec = tie.close (tie.spec (omega arith) (omega arith) mul-result add-result returns)

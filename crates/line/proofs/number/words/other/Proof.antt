@@ -4,7 +4,7 @@ use Prim.Native.Nat.{ℕ}
 use lib.Bits.{bitAnd, bitOr}
 use borrow.Author.Tests.{eqb-true, not-false}
 use Rattle.line.proofs.Words as W
-use borrow.Author.Needs.{needs}
+use native.Mathlib.Omega.{arith}
 use Rattle.line.proofs.number.words.other.Statement.{statement}
 use Rattle.line.proofs.number.words.other.Tie as tie
 
@@ -15,4 +15,4 @@ returns c = λ e. (
     record { plain = n .0; raised = ap (λ (r : ℕ). bitAnd r (g .mask)) (sym (c .wrapping-add-u64 .ensures)) ∙ n .1 })
 
 pub other-spec : {M : Type 1} → statement M
-other-spec = tie.close (tie.spec (search needs) returns)
+other-spec = tie.close (tie.spec (omega arith) returns)

@@ -4,7 +4,6 @@ use mathlib.Core.List.{[], _∷_}
 use native.Mathlib.Omega.{arith}
 use Rattle.line.specs.Malformed.{numbers}
 use Rattle.line.proofs.Letters as L
-use borrow.Author.Needs.{needs}
 use Rattle.line.proofs.second_look.letters.letter_place.Statement.{statement}
 use Rattle.line.proofs.second_look.letters.letter_place.Tie as tie
 
@@ -37,4 +36,4 @@ returns-4 c =
 pub letter-place-spec : {M : Type 1} → statement M
 letter-place-spec =
     tie.close
-    (tie.spec (search needs) returns (search needs) (search needs) (search needs) returns-2 (search needs) (search needs) returns-3 returns-4)
+    (tie.spec (omega arith) returns (omega arith) (omega arith) (omega arith) returns-2 (omega arith) (omega arith) returns-3 returns-4)

@@ -2,7 +2,6 @@
 use Prim.Native.Nat.{_-_}
 use native.Mathlib.Omega.{arith}
 use Rattle.line.proofs.Letters as L
-use borrow.Author.Needs.{needs}
 use Rattle.line.proofs.second_look.letters.skip.Statement.{statement}
 use Rattle.line.proofs.second_look.letters.skip.Tie as tie
 
@@ -27,4 +26,4 @@ returns-2 c = L.skipped (c .before .loop .inv) (omega arith)
 pub skip-spec : {M : Type 1} → statement M
 skip-spec =
     tie.close
-    (tie.spec Inv-loop μ-loop loop-holds returns (search needs) (search needs) (search needs) loop-again returns-2)
+    (tie.spec Inv-loop μ-loop loop-holds returns (omega arith) (omega arith) (omega arith) loop-again returns-2)

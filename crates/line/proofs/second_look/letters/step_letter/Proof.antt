@@ -6,7 +6,6 @@ use native.Mathlib.Omega.{arith}
 use Rattle.line.specs.Bytes.{letterT, letterV, letterB, letterF, letterP, letterC}
 use Rattle.line.specs.Malformed.{letters, numbers, kindShape}
 use Rattle.line.proofs.Letters as L
-use borrow.Author.Needs.{needs}
 use Rattle.line.proofs.second_look.letters.step_letter.Statement.{statement}
 use Rattle.line.proofs.second_look.letters.step_letter.Tie as tie
 
@@ -46,4 +45,4 @@ returns-4 c =
 pub step-letter-spec : {M : Type 1} → statement M
 step-letter-spec =
     tie.close
-    (tie.spec (search needs) (search needs) returns (search needs) returns-2 (search needs) (search needs) (search needs) (search needs) returns-3 returns-4)
+    (tie.spec (omega arith) (omega arith) returns (omega arith) returns-2 (omega arith) (omega arith) (omega arith) (omega arith) returns-3 returns-4)

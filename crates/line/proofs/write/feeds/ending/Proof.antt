@@ -2,7 +2,6 @@
 use mathlib.Core.Path.{refl}
 use native.Mathlib.Omega.{arith}
 use Rattle.line.proofs.Texts as T
-use borrow.Author.Needs.{needs}
 use Rattle.line.proofs.write.feeds.ending.Statement.{statement}
 use Rattle.line.proofs.write.feeds.ending.Tie as tie
 
@@ -19,4 +18,4 @@ returns c =
 pub ending-spec : {M : Type 1} → statement M
 ending-spec =
     tie.close
-    (tie.spec (search needs) (search needs) (search needs) (search needs) (search needs) (search needs) (search needs) returns)
+    (tie.spec (omega arith) (omega arith) (omega arith) (omega arith) (omega arith) (omega arith) (omega arith) returns)

@@ -3,12 +3,11 @@ use Prim.Native.Nat.{ℕ, _+_, _-_, _*_, _/_, _%_, _≤_}
 use mathlib.Core.Path.{_≡_, refl, sym, _∙_}
 use mathlib.Core.List.{List}
 use native.Mathlib.Omega.{arith}
-use borrow.Author.Needs.{needs}
 use lib.ListN.{length}
 use Rattle.line.specs.Text.{Wrote}
 use Rattle.line.specs.BareLines.{feedsText}
 use Rattle.line.proofs.Texts as T
-use Rattle.line.proofs.BareLines.{feeds-none, feeds-on, five-text}
+use Rattle.line.proofs.BareLines.{feeds-none, ten-on}
 use Rattle.line.proofs.write.feeds.of_one_ten.Statement.{statement}
 use Rattle.line.proofs.write.feeds.of_one_ten.Tie as tie
 
@@ -25,17 +24,20 @@ loop-holds c =
     (omega arith, omega arith, refl, omega arith, λ m r g. rw e at g)
 
 refusal-of-five-requires : tie.Need-refusal-of-five-requires Inv-loop μ-loop
-refusal-of-five-requires c κs = let k = c .before .before .loop in (omega arith, omega arith, omega (arith, k .inv .2, k .inv .3))
+refusal-of-five-requires c κs =
+    let k = c .before .before .loop in
+    let p = c .before .before .before .before .pre in
+    (omega (arith, p .1), omega arith, omega (arith, p .2, p .3, k .inv .0, k .inv .2, k .inv .3, c .before .loop-test .taken))
 
 loop-again : tie.Need-loop-again Inv-loop μ-loop
 loop-again c =
     let call = c .before .before .refusal-of-five in
-    let k = c .before .before .before .before .before .loop in
-    let s = c .before .before .before .before .before .before .before .args in
-    let n = s .line + (s .lines - k .left) in
-    let five = five-text n (s .line / 1000) (s .line / 10 % 100) (k .last) (omega arith) (omega arith) (omega arith) (omega arith) (omega (arith, k .inv .1)) in
-    let on = feeds-on (k .left) n (k .left - 1) (s .line + (s .lines - (k .left - 1))) (omega arith) refl (omega arith) in
-    (omega arith, omega (arith, k .inv .1), call .kept .0 ∙ k .inv .2, omega (arith, call .ensures .most, k .inv .3), λ m r g. k .inv .4 m r (T.as-text (sym on) (T.«then» (T.as-text five (call .ensures .wrote)) g)))
+    let c4 = c .before .before .before .before in
+    let k = c4 .before .loop in
+    let t = c4 .loop-test .taken in
+    let s = c4 .before .before .before in
+    let on = ten-on (s .args .line) (s .args .lines) (k .left) (k .last) (s .pre .0) (s .pre .1) (s .pre .2) t (k .inv .0) (k .inv .1) in
+    (omega (arith, k .inv .0), omega (arith, k .inv .0, k .inv .1, t), call .kept .0 ∙ k .inv .2, omega (arith, k .inv .0, t, call .ensures .most, k .inv .3), λ m r g. k .inv .4 m r (T.says (T.«then» (call .ensures .wrote) g) on))
 
 same-length : tie.Need-same-length Inv-loop μ-loop
 same-length c = c .before .loop .inv .2
@@ -46,5 +48,5 @@ returns c = let k = c .before .loop in k .inv .4 _ _ (T.as-text (sym (feeds-none
 pub of-one-ten-spec : {M : Type 1} → statement M
 of-one-ten-spec =
     tie.close
-    (tie.spec Inv-loop μ-loop (search needs) (search needs) loop-holds refusal-of-five-requires (search needs) (search needs) (search needs) loop-again
+    (tie.spec Inv-loop μ-loop (omega arith) (omega arith) loop-holds refusal-of-five-requires (omega arith) (omega arith) (omega arith) loop-again
     same-length returns)

@@ -1,7 +1,6 @@
 -- `line::write::feeds::past_feeds` meets its contract. Assumes nothing.
 use Prim.Native.Nat.{ℕ, _+_, _-_, _≤_, _<_}
 use native.Mathlib.Omega.{arith}
-use borrow.Author.Needs.{needs}
 use Rattle.line.specs.BareLines.{Feed, Passes, Sooner}
 use Rattle.line.proofs.BareLines.{one-more, not-first}
 use Rattle.line.proofs.write.feeds.past_feeds.Statement.{statement}
@@ -36,4 +35,4 @@ returns-2 c =
 pub past-feeds-spec : {M : Type 1} → statement M
 past-feeds-spec =
     tie.close
-    (tie.spec Inv-loop μ-loop (search needs) loop-holds (search needs) (search needs) (search needs) loop-again returns returns-2)
+    (tie.spec Inv-loop μ-loop (omega arith) loop-holds (omega arith) (omega arith) (omega arith) loop-again returns returns-2)

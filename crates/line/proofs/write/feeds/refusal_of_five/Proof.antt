@@ -2,7 +2,6 @@
 use mathlib.Core.Path.{refl}
 use native.Mathlib.Omega.{arith}
 use Rattle.line.proofs.Texts as T
-use borrow.Author.Needs.{needs}
 use Rattle.line.proofs.write.feeds.refusal_of_five.Statement.{statement}
 use Rattle.line.proofs.write.feeds.refusal_of_five.Tie as tie
 
@@ -18,4 +17,4 @@ returns c =
 pub refusal-of-five-spec : {M : Type 1} → statement M
 refusal-of-five-spec =
     tie.close
-    (tie.spec (search needs) (search needs) (search needs) (search needs) (search needs) (search needs) returns)
+    (tie.spec (omega arith) (omega arith) (omega arith) (omega arith) (omega arith) (omega arith) returns)

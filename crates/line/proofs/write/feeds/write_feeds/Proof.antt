@@ -18,5 +18,5 @@ returns c = fed-ten _ (omega arith) refl (c .before .before .before .before .pas
 pub write-feeds-spec : {M : Type 1} → statement M
 write-feeds-spec =
     tie.close
-    (tie.spec (search needs) (search needs) (search needs) (search needs) of-one-ten-requires (search needs) returns (search needs) (search needs)
+    (tie.spec (omega arith) (omega arith) (omega arith) (omega arith) of-one-ten-requires (omega arith) returns (omega arith) (omega arith)
     (λ c. search needs))

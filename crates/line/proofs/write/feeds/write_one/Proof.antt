@@ -3,7 +3,6 @@ use mathlib.Core.Path.{refl, sym}
 use native.Mathlib.Omega.{arith}
 use Rattle.line.proofs.Texts as T
 use Rattle.line.proofs.BareLines.{only, feeds-one, feeds-none}
-use borrow.Author.Needs.{needs}
 use Rattle.line.proofs.write.feeds.write_one.Statement.{statement}
 use Rattle.line.proofs.write.feeds.write_one.Tie as tie
 
@@ -21,4 +20,4 @@ returns-3 c = record { some = λ f. absurd (omega (arith, f .inside)); each = λ
 pub write-one-spec : {M : Type 1} → statement M
 write-one-spec =
     tie.close
-    (tie.spec (search needs) (search needs) (search needs) returns returns-2 returns-3)
+    (tie.spec (omega arith) (omega arith) (omega arith) returns returns-2 returns-3)

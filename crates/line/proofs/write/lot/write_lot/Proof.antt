@@ -4,6 +4,7 @@ use mir.Val.{toZ, ofZ}
 use mathlib.Core.Path.{_≡_}
 use Rattle.line.proofs.Texts as T
 use Rattle.line.proofs.Lots.{lot-is}
+use native.Mathlib.Omega.{arith}
 use borrow.Author.Needs.{needs}
 use Rattle.line.proofs.write.lot.write_lot.Statement.{statement}
 use Rattle.line.proofs.write.lot.write_lot.Tie as tie
@@ -40,4 +41,4 @@ returns c =
 pub write-lot-spec : {M : Type 1} → statement M
 write-lot-spec =
     tie.close
-    (tie.spec (search needs) (search needs) (search needs) (search needs) (search needs) (search needs) (search needs) returns)
+    (tie.spec (omega arith) (omega arith) (omega arith) (omega arith) (omega arith) (omega arith) (omega arith) returns)

@@ -16,4 +16,4 @@ returns-3 c = let s = c .before .before .before .before .before .before .before 
 pub digits-spec : {M : Type 1} → statement M
 digits-spec =
     tie.close
-    (tie.spec (search needs) (search needs) (λ c. search needs) (search needs) (search needs) (λ c. search needs) (search needs) (search needs) returns-3)
+    (tie.spec (omega arith) (omega arith) (λ c. search needs) (omega arith) (omega arith) (λ c. search needs) (omega arith) (omega arith) returns-3)

@@ -3,6 +3,7 @@ use mir.Syntax.{w64}
 use mir.Val.{toZ, ofZ}
 use mathlib.Core.Path.{_≡_}
 use Rattle.line.proofs.Texts as T
+use native.Mathlib.Omega.{arith}
 use borrow.Author.Needs.{needs}
 use Rattle.line.proofs.write.roomy.label.Statement.{statement}
 use Rattle.line.proofs.write.roomy.label.Tie as tie
@@ -15,4 +16,4 @@ returns c =
     rw (e, f) at (T.after (c .before .before .before .before .before .before .before .before .name .ensures) (c .before .before .two-numbers .ensures))
 
 pub label-spec : {M : Type 1} → statement M
-label-spec = tie.close (tie.spec (search needs) (search needs) (search needs) returns)
+label-spec = tie.close (tie.spec (omega arith) (omega arith) (omega arith) returns)

@@ -2,7 +2,6 @@
 use mathlib.Core.Path.{refl}
 use native.Mathlib.Omega.{arith}
 use Rattle.line.proofs.Texts as T
-use borrow.Author.Needs.{needs}
 use Rattle.line.proofs.write.roomy.letter.Statement.{statement}
 use Rattle.line.proofs.write.roomy.letter.Tie as tie
 
@@ -10,4 +9,4 @@ returns : tie.Need-returns
 returns c = T.both 2 (c .before .before .before .before .before .before .put .ensures) (c .before .before .put2 .ensures) (omega arith) refl
 
 pub letter-spec : {M : Type 1} → statement M
-letter-spec = tie.close (tie.spec (search needs) (search needs) (search needs) returns)
+letter-spec = tie.close (tie.spec (omega arith) (omega arith) (omega arith) returns)

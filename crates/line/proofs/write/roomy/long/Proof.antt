@@ -1,7 +1,6 @@
 use native.Mathlib.Omega.{arith}
 use Rattle.line.proofs.Texts as T
 use Rattle.line.proofs.Leading as D
-use borrow.Author.Needs.{needs}
 use Rattle.line.proofs.write.roomy.long.Statement.{statement}
 use Rattle.line.proofs.write.roomy.long.Tie as tie
 use Rattle.line.proofs.write.roomy.long.Reads as reads
@@ -14,4 +13,4 @@ returns : tie.Need-returns
 returns c = T.named 20 (D.after 8 (c .before .before .before .before .before .before .mostly-four .ensures) (c .before .before .eight-digits .ensures) (omega arith) (omega arith)) (omega arith) (T.eight-end _ (omega arith))
 
 pub long-spec : {M : Type 1} → statement M
-long-spec = tie.close (tie.spec (search needs) (search needs) (search needs) returns)
+long-spec = tie.close (tie.spec (omega arith) (omega arith) (omega arith) returns)

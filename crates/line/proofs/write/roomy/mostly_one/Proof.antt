@@ -10,4 +10,4 @@ returns : tie.Need-returns
 returns c = T.named 20 (c .before .before .put .ensures) (omega arith) (sym (T.decimal-one _ (omega arith)))
 
 pub mostly-one-spec : {M : Type 1} → statement M
-mostly-one-spec = tie.close (tie.spec (search needs) (search needs) (search needs) (search needs) (search needs) returns (search needs) (λ c. search needs))
+mostly-one-spec = tie.close (tie.spec (omega arith) (omega arith) (omega arith) (omega arith) (omega arith) returns (omega arith) (λ c. search needs))

@@ -3,7 +3,6 @@ use mathlib.Core.Path.{refl}
 use native.Mathlib.Omega.{arith}
 use Rattle.line.proofs.Texts as T
 use Rattle.line.proofs.Leading as D
-use borrow.Author.Needs.{needs}
 use Rattle.line.proofs.write.roomy.mostly_seven.Statement.{statement}
 use Rattle.line.proofs.write.roomy.mostly_seven.Tie as tie
 
@@ -16,4 +15,4 @@ returns-2 : tie.Need-returns-2
 returns-2 c = T.both 21 (c .before .before .before .before .before .before .digits .ensures) (c .before .before .put2 .ensures) (omega arith) refl
 
 pub mostly-seven-spec : {M : Type 1} → statement M
-mostly-seven-spec = tie.close (tie.spec (search needs) (search needs) (search needs) returns (search needs) (search needs) (search needs) returns-2)
+mostly-seven-spec = tie.close (tie.spec (omega arith) (omega arith) (omega arith) returns (omega arith) (omega arith) (omega arith) returns-2)

@@ -2,7 +2,6 @@
 use native.Mathlib.Omega.{arith}
 use Rattle.line.proofs.Moved as M
 use Rattle.line.proofs.Texts as T
-use borrow.Author.Needs.{needs}
 use Rattle.line.proofs.write.roomy.moved.Statement.{statement}
 use Rattle.line.proofs.write.roomy.moved.Tie as tie
 
@@ -13,4 +12,4 @@ returns c =
     T.named 110 (T.after (c6 .realization .ensures) (c .before .before .position .ensures)) (omega arith) (M.moved-put (s .args .r) (s .args .p))
 
 pub moved-spec : {M : Type 1} → statement M
-moved-spec = tie.close (tie.spec (search needs) (search needs) (search needs) returns)
+moved-spec = tie.close (tie.spec (omega arith) (omega arith) (omega arith) returns)

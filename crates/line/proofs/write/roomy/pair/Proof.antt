@@ -15,5 +15,5 @@ returns c = T.packed (c .args .out .now) (c .args .at) (c .args .v) (c .pre .0) 
 pub pair-spec : {M : Type 1} → statement M
 pair-spec =
     tie.close
-    (tie.spec (search needs) (search needs) (search needs) (search needs) (search needs) (search needs) (search needs) (search needs) slice-write-out-2
-    (search needs) (search needs) returns)
+    (tie.spec (omega arith) (omega arith) (omega arith) (omega arith) (omega arith) (omega arith) (omega arith) (omega arith) slice-write-out-2
+    (omega arith) (search needs) returns)

@@ -3,7 +3,6 @@ use native.Mathlib.Omega.{arith}
 use Rattle.line.specs.Text.{labelText}
 use Rattle.line.proofs.Moved as M
 use Rattle.line.proofs.Texts as T
-use borrow.Author.Needs.{needs}
 use Rattle.line.proofs.write.roomy.point.Statement.{statement}
 use Rattle.line.proofs.write.roomy.point.Tie as tie
 
@@ -16,4 +15,4 @@ returns c =
     (M.labelled (s .args .p .label) (s .args .p .realization) (s .args .p .position))
 
 pub point-spec : {M : Type 1} → statement M
-point-spec = tie.close (tie.spec (search needs) (search needs) (search needs) (search needs) returns)
+point-spec = tie.close (tie.spec (omega arith) (omega arith) (omega arith) (omega arith) returns)

@@ -3,6 +3,7 @@ use mir.Syntax.{w64}
 use mir.Val.{toZ, ofZ}
 use mathlib.Core.Path.{_≡_}
 use Rattle.line.proofs.Texts as T
+use native.Mathlib.Omega.{arith}
 use borrow.Author.Needs.{needs}
 use Rattle.line.proofs.write.roomy.position.Statement.{statement}
 use Rattle.line.proofs.write.roomy.position.Tie as tie
@@ -16,4 +17,4 @@ returns c =
     rw (e, f, g) at (T.after (c .before .before .before .before .before .before .before .before .number .ensures) (c .before .before .two-numbers .ensures))
 
 pub position-spec : {M : Type 1} → statement M
-position-spec = tie.close (tie.spec (search needs) (search needs) (search needs) returns)
+position-spec = tie.close (tie.spec (omega arith) (omega arith) (omega arith) returns)

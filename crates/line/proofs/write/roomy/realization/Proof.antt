@@ -3,6 +3,7 @@ use mathlib.Core.Path.{_≡_}
 use mir.Syntax.{w64}
 use mir.Val.{toZ, ofZ}
 use Rattle.line.proofs.Texts as T
+use native.Mathlib.Omega.{arith}
 use borrow.Author.Needs.{needs}
 use Rattle.line.proofs.write.roomy.realization.Statement.{statement}
 use Rattle.line.proofs.write.roomy.realization.Tie as tie
@@ -15,4 +16,4 @@ returns c =
     rw (e, f) at (T.after (c .before .before .before .before .before .before .before .number .ensures) (c .before .before .epoch .ensures))
 
 pub realization-spec : {M : Type 1} → statement M
-realization-spec = tie.close (tie.spec (search needs) (search needs) (search needs) returns)
+realization-spec = tie.close (tie.spec (omega arith) (omega arith) (omega arith) returns)

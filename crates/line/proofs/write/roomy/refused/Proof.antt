@@ -1,7 +1,6 @@
 -- `line::write::roomy::refused` meets its contract. Assumes nothing.
 use native.Mathlib.Omega.{arith}
 use Rattle.line.proofs.Texts as T
-use borrow.Author.Needs.{needs}
 use Rattle.line.proofs.write.roomy.refused.Statement.{statement}
 use Rattle.line.proofs.write.roomy.refused.Tie as tie
 
@@ -15,4 +14,4 @@ returns c =
     T.named 33 (T.after (c18 .letter .ensures) (T.after (c14 .digits .ensures) (T.after (c10 .put .ensures) (T.after (c6 .short .ensures) (c2 .short2 .ensures))))) (omega arith) (T.refusal-put _ _ _)
 
 pub refused-spec : {M : Type 1} → statement M
-refused-spec = tie.close (tie.spec (search needs) (search needs) (search needs) (search needs) (search needs) (search needs) returns)
+refused-spec = tie.close (tie.spec (omega arith) (omega arith) (omega arith) (omega arith) (omega arith) (omega arith) returns)

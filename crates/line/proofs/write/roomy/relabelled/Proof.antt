@@ -1,7 +1,6 @@
 -- `line::write::roomy::relabelled` meets its contract. Assumes nothing.
 use native.Mathlib.Omega.{arith}
 use Rattle.line.proofs.Moved as M
-use borrow.Author.Needs.{needs}
 use Rattle.line.proofs.write.roomy.relabelled.Statement.{statement}
 use Rattle.line.proofs.write.roomy.relabelled.Tie as tie
 
@@ -21,4 +20,4 @@ returns c =
     M.relabel (s .args .line .now) (s .args .p) (s .args .r) (s .pre .1) (s .pre .0) (c6 .copied .ensures) (c .before .before .moved .ensures)
 
 pub relabelled-spec : {M : Type 1} → statement M
-relabelled-spec = tie.close (tie.spec copied-requires add-moved moved-requires (search needs) returns)
+relabelled-spec = tie.close (tie.spec copied-requires add-moved moved-requires (omega arith) returns)

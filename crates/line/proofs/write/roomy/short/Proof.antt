@@ -2,7 +2,6 @@
 use native.Mathlib.Omega.{arith}
 use mathlib.Core.Path.{refl}
 use Rattle.line.proofs.Texts as T
-use borrow.Author.Needs.{needs}
 use Rattle.line.proofs.write.roomy.short.Statement.{statement}
 use Rattle.line.proofs.write.roomy.short.Tie as tie
 
@@ -14,4 +13,4 @@ returns c =
     T.named 5 (T.after (rw (c7 .wide .ensures) at (c6 .up-to-four .ensures)) (c2 .put .ensures)) (omega arith) refl
 
 pub short-spec : {M : Type 1} → statement M
-short-spec = tie.close (tie.spec (search needs) (search needs) (search needs) (search needs) returns)
+short-spec = tie.close (tie.spec (omega arith) (omega arith) (omega arith) (omega arith) returns)

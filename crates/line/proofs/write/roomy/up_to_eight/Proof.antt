@@ -12,4 +12,4 @@ returns-2 c = T.named 8 (D.after 4 (c .before .before .before .before .before .b
 pub up-to-eight-spec : {M : Type 1} → statement M
 up-to-eight-spec =
     tie.close
-    (tie.spec (search needs) (search needs) (search needs) (search needs) (λ c. search needs) (search needs) returns-2)
+    (tie.spec (omega arith) (omega arith) (omega arith) (omega arith) (λ c. search needs) (omega arith) returns-2)

@@ -11,4 +11,4 @@ returns-2 c = T.both 4 (c .before .before .before .before .before .before .up-to
 pub up-to-four-spec : {M : Type 1} → statement M
 up-to-four-spec =
     tie.close
-    (tie.spec (search needs) (search needs) (search needs) (search needs) (λ c. search needs) (search needs) returns-2)
+    (tie.spec (omega arith) (omega arith) (omega arith) (omega arith) (λ c. search needs) (omega arith) returns-2)

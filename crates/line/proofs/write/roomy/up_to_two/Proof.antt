@@ -2,7 +2,6 @@
 use mathlib.Core.Path.{sym}
 use native.Mathlib.Omega.{arith}
 use Rattle.line.proofs.Texts as T
-use borrow.Author.Needs.{needs}
 use Rattle.line.proofs.write.roomy.up_to_two.Statement.{statement}
 use Rattle.line.proofs.write.roomy.up_to_two.Tie as tie
 
@@ -15,4 +14,4 @@ returns-2 c = T.named 2 (c .before .before .pair .ensures) (omega arith) (T.two-
 pub up-to-two-spec : {M : Type 1} → statement M
 up-to-two-spec =
     tie.close
-    (tie.spec (search needs) (search needs) (search needs) (search needs) (search needs) returns (search needs) returns-2)
+    (tie.spec (omega arith) (omega arith) (omega arith) (omega arith) (omega arith) returns (omega arith) returns-2)

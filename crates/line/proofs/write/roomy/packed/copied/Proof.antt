@@ -2,7 +2,6 @@
 use native.Mathlib.Omega.{arith}
 use Rattle.line.proofs.Moved as M
 use Rattle.line.proofs.Texts as T
-use borrow.Author.Needs.{needs}
 use Rattle.line.proofs.write.roomy.packed.copied.Statement.{statement}
 use Rattle.line.proofs.write.roomy.packed.copied.Tie as tie
 
@@ -13,4 +12,4 @@ returns c =
     (omega arith) (M.thirty-two (c .before .before .before .before .before .before .before .before .before .before .before .before .before .before .before .before .before .before .args .line .now))
 
 pub copied-spec : {M : Type 1} → statement M
-copied-spec = tie.close (tie.spec (search needs) (search needs) (search needs) (search needs) (search needs) returns)
+copied-spec = tie.close (tie.spec (omega arith) (omega arith) (omega arith) (omega arith) (omega arith) returns)

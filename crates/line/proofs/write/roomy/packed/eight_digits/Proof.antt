@@ -1,7 +1,6 @@
 use native.Mathlib.Omega.{arith}
 use Rattle.line.proofs.Texts as T
 use Rattle.line.proofs.Packed as P
-use borrow.Author.Needs.{needs}
 use Rattle.line.proofs.write.roomy.packed.eight_digits.Statement.{statement}
 use Rattle.line.proofs.write.roomy.packed.eight_digits.Tie as tie
 use Rattle.line.proofs.write.roomy.packed.eight_digits.Reads as reads
@@ -20,4 +19,4 @@ returns c = let s = c .before .before .before .before .before .before .before in
 
 pub eight-digits-spec : {M : Type 1} → statement M
 eight-digits-spec =
-    tie.close (tie.spec (search needs) spread-requires (search needs) (search needs) returns)
+    tie.close (tie.spec (omega arith) spread-requires (omega arith) (omega arith) returns)

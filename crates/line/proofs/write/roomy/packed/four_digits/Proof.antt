@@ -2,7 +2,6 @@ use native.Mathlib.Omega.{arith}
 use Rattle.line.proofs.Texts as T
 use Rattle.line.proofs.Packed as P
 use Prim.Native.Nat.{_/_, _%_}
-use borrow.Author.Needs.{needs}
 use Rattle.line.proofs.write.roomy.packed.four_digits.Statement.{statement}
 use Rattle.line.proofs.write.roomy.packed.four_digits.Tie as tie
 use Rattle.line.proofs.write.roomy.packed.four_digits.Reads as reads
@@ -21,4 +20,4 @@ returns c = let s = c .before .before .before .before .before .before in T.named
 pub four-digits-spec : {M : Type 1} → statement M
 four-digits-spec =
     tie.close
-    (tie.spec (search needs) (search needs) spread-requires (search needs) (search needs) returns)
+    (tie.spec (omega arith) (omega arith) spread-requires (omega arith) (omega arith) returns)

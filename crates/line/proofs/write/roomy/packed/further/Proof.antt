@@ -1,6 +1,5 @@
 use native.Mathlib.Omega.{arith}
 use Rattle.line.proofs.Leading as D
-use borrow.Author.Needs.{needs}
 use Rattle.line.proofs.write.roomy.packed.further.Statement.{statement}
 use Rattle.line.proofs.write.roomy.packed.further.Tie as tie
 use Rattle.line.proofs.write.roomy.packed.further.Reads as reads
@@ -22,4 +21,4 @@ returns c = D.further-is _ _ _ _ (c .before .before .reaches .ensures) (c .befor
 pub further-spec : {M : Type 1} → statement M
 further-spec =
     tie.close
-    (tie.spec (search needs) (search needs) add-result (search needs) add-result-2 returns)
+    (tie.spec (omega arith) (omega arith) add-result (omega arith) add-result-2 returns)

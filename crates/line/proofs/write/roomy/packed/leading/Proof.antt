@@ -2,7 +2,6 @@ use native.Mathlib.Omega.{arith}
 use Rattle.line.proofs.Packed as P
 use Rattle.line.proofs.Leading as D
 use Prim.Native.Nat.{_/_, _%_}
-use borrow.Author.Needs.{needs}
 use Rattle.line.proofs.write.roomy.packed.leading.Statement.{statement}
 use Rattle.line.proofs.write.roomy.packed.leading.Tie as tie
 use Rattle.line.proofs.write.roomy.packed.leading.Reads as reads
@@ -27,5 +26,16 @@ returns c =
 pub leading-spec : {M : Type 1} → statement M
 leading-spec =
     tie.close
-    (tie.spec (search needs) (search needs) spread-requires (search needs) (search needs) (search needs) (search needs) (search needs) (search needs)
-    (search needs) (search needs) returns)
+    (tie.spec
+    (omega arith)
+    (λ c. omega (arith, c .before .pre .0))
+    spread-requires
+    (λ c κs. c .before .before .pre .0)
+    (λ c. omega (arith, c .before .further .ensures .most))
+    (λ c. omega (arith, c .before .further .ensures .most))
+    (λ c. omega (arith, c .before .further .ensures .most))
+    (λ c κs. c .before .before .before .before .pre .1)
+    (omega arith)
+    (omega arith)
+    (λ c. c .before .before .put-half .kept .0)
+    returns)

@@ -14,5 +14,5 @@ returns-2 c = D.three-of-four (c .before .before .four-digits2 .ensures) (omega 
 pub mostly-four-spec : {M : Type 1} → statement M
 mostly-four-spec =
     tie.close
-    (tie.spec (search needs) (search needs) returns (search needs) (search needs) (search needs) (search needs) returns-2 (search needs)
-    (search needs) (λ c. search needs))
+    (tie.spec (omega arith) (omega arith) returns (omega arith) (omega arith) (omega arith) (omega arith) returns-2 (omega arith)
+    (omega arith) (λ c. search needs))

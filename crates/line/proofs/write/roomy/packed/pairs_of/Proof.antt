@@ -4,7 +4,6 @@ use Rattle.line.proofs.Packed as P
 use Prim.Native.Nat.{ℕ, _+_, _*_, _-_, _/_, _%_}
 use mathlib.Core.Path.{_≡_, ap, _∙_}
 use lib.Bits.{bitAnd}
-use borrow.Author.Needs.{needs}
 use Rattle.line.proofs.write.roomy.packed.pairs_of.Statement.{statement}
 use Rattle.line.proofs.write.roomy.packed.pairs_of.Tie as tie
 use Rattle.line.proofs.write.roomy.packed.pairs_of.Reads as reads
@@ -28,4 +27,4 @@ returns c = let n = c .args .n in ap (λ (t : ℕ). (n % 10000 * 4294967296 + n 
 pub pairs-of-spec : {M : Type 1} → statement M
 pairs-of-spec =
     tie.close
-    (tie.spec (search needs) (search needs) (search needs) (search needs) mul-result-2 sub-result returns)
+    (tie.spec (omega arith) (omega arith) (omega arith) (omega arith) mul-result-2 sub-result returns)

@@ -20,4 +20,4 @@ returns c = T.beside (c .args .out .now) (c .args .at) (c .args .w % 256) (c .ar
 pub put-pair-spec : {M : Type 1} → statement M
 put-pair-spec =
     tie.close
-    (tie.spec (search needs) (search needs) (search needs) (search needs) slice-write-out-2 (search needs) (search needs) returns)
+    (tie.spec (omega arith) (omega arith) (omega arith) (omega arith) slice-write-out-2 (omega arith) (search needs) returns)

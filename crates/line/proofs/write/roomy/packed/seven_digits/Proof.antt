@@ -1,7 +1,6 @@
 -- `line::write::roomy::packed::seven_digits` meets its contract. Assumes nothing.
 use native.Mathlib.Omega.{arith}
 use Rattle.line.proofs.Leading as D
-use borrow.Author.Needs.{needs}
 use Rattle.line.proofs.write.roomy.packed.seven_digits.Statement.{statement}
 use Rattle.line.proofs.write.roomy.packed.seven_digits.Tie as tie
 
@@ -9,4 +8,4 @@ returns : tie.Need-returns
 returns c = D.seven-of-eight (c .before .before .eight-digits .ensures) (omega arith) (omega arith)
 
 pub seven-digits-spec : {M : Type 1} → statement M
-seven-digits-spec = tie.close (tie.spec (search needs) (search needs) (search needs) (search needs) returns)
+seven-digits-spec = tie.close (tie.spec (omega arith) (omega arith) (omega arith) (omega arith) returns)

@@ -1,7 +1,6 @@
 use native.Mathlib.Omega.{arith}
 use Rattle.line.proofs.Texts as T
 use Rattle.line.proofs.Packed as P
-use borrow.Author.Needs.{needs}
 use Rattle.line.proofs.write.roomy.packed.spread.Statement.{statement}
 use Rattle.line.proofs.write.roomy.packed.spread.Tie as tie
 use Rattle.line.proofs.write.roomy.packed.spread.Reads as reads
@@ -20,4 +19,4 @@ returns : tie.Need-returns
 returns c = P.spread-is (c .args .pairs) (c .pre)
 
 pub spread-spec : {M : Type 1} → statement M
-spread-spec = tie.close (tie.spec (search needs) (search needs) mul-result-2 sub-result (search needs) returns)
+spread-spec = tie.close (tie.spec (omega arith) (omega arith) mul-result-2 sub-result (omega arith) returns)

@@ -19,28 +19,26 @@ use Rattle.chain.specs.Numbers.{number, chainFrom}
 use Rattle.chain.proofs.LentSteps.{eight-steps}
 use Rattle.line.specs.Bytes.{letterP, lineFeed}
 use Rattle.line.specs.Lines.{lineEnd}
-use Rattle.line.specs.Text.{Wrote}
-use Rattle.sheet_rules.specs.declared.PointAnswer.{PointAnswer}
+use Rattle.sheet_rules.specs.declared.LentPoint.{LentPoint}
 use Rattle.sheet_rules.specs.declared.Reply.{Reply}
 use Rattle.sheet_rules.specs.declared.Standing.{Standing}
 use Rattle.sheet_rules.specs.declared.Response.the-variants as response
-use Rattle.sheet_rules.specs.Sheet.{replyText}
-use Rattle.sheet_rules.specs.OneLine.{mostLines, counted, soundStanding, replyTo, afterLine, answered, pointAnswered}
+use Rattle.sheet_rules.specs.OneLine.{mostLines, counted, soundStanding, replyTo, afterLine, answered, PointAnswer, pointAnswered, PointPrinted}
 use Rattle.sheet_rules.proofs.Answers.{counted-holds}
-use Rattle.sheet_rules.proofs.Points.{point-unsound, point-replied}
+use Rattle.sheet_rules.proofs.Points.{point-unsound, point-replied, unsound-printed, replied-printed}
 use Rattle.sheet_rules.proofs.Room.{answer-short}
 use Rattle.sheet_stream.specs.declared.Fed.{Fed}
 use Rattle.sheet_stream.specs.declared.Stream.{Stream}
 use Rattle.sheet_stream.specs.declared.Outcome.{Outcome}
 use Rattle.sheet_stream.specs.declared.Outcome.the-variants.{Line, Refused}
-use Rattle.sheet_stream.specs.Fragments.{between, fed, unsound, endsWith, fedAt, feedOf, Short}
+use Rattle.sheet_stream.specs.Fragments.{noBytes, between, fed, unsound, endsWith, fedAt, feedOf, Short}
 use Rattle.sheet_stream.proofs.Scanning.{Going, closing-room, fed-line, ended-unsound, ended-replied}
 use Rattle.capi.specs.Fragments.{stateRange, isFlag, flag, bit, chainIn, standingIn, streamFrom, headOf, numbersWith, pointTime, pointPassed, FedCall}
 use Rattle.capi.proofs.Streams.{counts, size-of, countable, two, head, no-new-step, declined, line-ended}
 use Rattle.capi.proofs.OpenCalls.{flag-back, count-back, flags, steps-in, profile-in}
 
 -- what the rules are asked
-pub asked-so : {x : PointAnswer} {c d : Chain} {l m : ℕ} {a b : Bool} (text : List ℕ) → x ≡ pointAnswered c l a text → c ≡ d → l ≡ m → a ≡ b → x ≡ pointAnswered d m b text
+pub asked-so : {c d : Chain} {l m : ℕ} {a b : Bool} (text : List ℕ) {before : List ℕ} {at : ℕ} {after : List ℕ} {r : LentPoint} → PointPrinted (pointAnswered c l a text) before at after r → c ≡ d → l ≡ m → a ≡ b → PointPrinted (pointAnswered d m b text) before at after r
 asked-so text e f g h = rw (← f, ← g, ← h) e
 
 module _ (ns : List ℤ) (bytes : List ℕ) (long : length ns ≡ 111) (ranged : stateRange ns ≡ true) (time : pointTime ns ≡ true) where
@@ -91,9 +89,12 @@ module _ (ns : List ℤ) (bytes : List ℕ) (long : length ns ≡ 111) (ranged :
       ∙ ap (λ (m : List ℤ). sets m 0 (headOf s)) (no-new-step ns (chainIn ns) refl (omega (arith, steps-in ns bytes long ranged)))
 
   -- ---- the answer
-  module _ (text : List ℕ) (p : eqb (getD text 0 0) letterP ≡ true) (end : ℕ) (x : PointAnswer) (q : x ≡ pointAnswered (chainIn ns) (natAbs (number ns 0) + 1) (flag (number ns 2)) text) where
+  module _ (text : List ℕ) (p : eqb (getD text 0 0) letterP ≡ true) (end : ℕ) where
     abbrev here : Stream
     here = streamFrom ns bytes
+
+    abbrev answer : PointAnswer
+    answer = pointAnswered (chainIn ns) (natAbs (number ns 0) + 1) (flag (number ns 2)) text
 
     far : natAbs (number ns 0) + 1 ≤ mostLines
     far = omega (arith, times .1)
@@ -105,13 +106,13 @@ module _ (ns : List ℤ) (bytes : List ℕ) (long : length ns ≡ 111) (ranged :
     unfolding chainIn
     eight = eight-steps _
 
-    bad : x .response ≡ response.Unsound → unsound here ≡ endsWith here text end false
+    bad : answer .response ≡ response.Unsound → unsound here ≡ endsWith here text end false
     unfolding streamFrom
-    bad e = ended-unsound here text end false (answered (standingIn ns) response.Unsound) (point-unsound (standingIn ns) text p far few q e) refl
+    bad e = ended-unsound here text end false (answered (standingIn ns) response.Unsound) (point-unsound (standingIn ns) text p far few {x = answer} refl e) refl
 
-    good : (r : Reply) → x .response ≡ response.Replied r → fed (between (pointPassed ns (x .closes)) false) end (Line r) ≡ endsWith here text end false
+    good : (r : Reply) → answer .response ≡ response.Replied r → fed (between (pointPassed ns (answer .closes)) false) end (Line r) ≡ endsWith here text end false
     unfolding streamFrom
-    good r e = ended-replied here text end false (answered (pointPassed ns (x .closes)) (response.Replied r)) (point-replied (standingIn ns) text p far few q r e eight) r refl
+    good r e = ended-replied here text end false (answered (pointPassed ns (answer .closes)) (response.Replied r)) (point-replied (standingIn ns) text p far few {x = answer} refl r e eight) r refl
 
     short : Short (endsWith here text end false .outcome)
     unfolding streamFrom
@@ -121,18 +122,30 @@ module _ (ns : List ℤ) (bytes : List ℕ) (long : length ns ≡ 111) (ranged :
         go true = answer-short (standingIn ns) text (omega (arith, far))
         go false = tt
 
-    module _ (out : List ℕ) (told : List ℤ) where
-      pub point-state : x .response ≡ response.Unsound → {r : ℤ} → r ≡ negℤ (pos refusal.state) → FedCall (endsWith here text end false) ns ns bytes bytes out out told told r
-      point-state e f = rw (← bad e) (record { state = declined here (Refused refusal.state) ns bytes out refusal.state refl f; tells = refl })
+    -- as it was printed
+    module _ (out : List ℕ) (told : List ℤ) {out' : List ℕ} {r : LentPoint} (w : PointPrinted answer out 0 out' r) where
+      pub point-state : r .sound ≡ false → {k : ℤ} → k ≡ negℤ (pos refusal.state) → FedCall (endsWith here text end false) ns ns bytes bytes out out' told told k
+      point-state e f =
+          let u = unsound-printed w e in
+          rw (u .1, ← bad (u .0)) (record { state = declined here (Refused refusal.state) ns bytes out refusal.state refl f; tells = refl })
+
+      -- an answer is short
+      pub point-fits : r .sound ≡ true → r .at < 9223372036854775808
+      point-fits e =
+          let a = replied-printed w e in
+          let s : Short (Line (a .0)) = subst Short (sym (ap (λ (y : Fed). y .outcome) (good (a .0) (a .1)))) short in
+          omega (arith, a .3 .place, s)
 
       pub point-told :
-          (r : Reply) → x .response ≡ response.Replied r → 200 ≤ length out → length told ≡ 2 → {ns' : List ℤ} {bytes' out' : List ℕ} {told' : List ℤ} {k : ℕ} →
-          ns' ≡ numbersWith ns (between (pointPassed ns (x .closes)) false) → bytes' ≡ between (pointPassed ns (x .closes)) false .kept → Wrote out 0 (replyText r) out' k → told' ≡ pos end ∷ pos 1 ∷ [] →
-          FedCall (endsWith here text end false) ns ns' bytes bytes' out out' told told' (toZ w64 k)
-      point-told r e room two-told f g w t =
-          let o = ap (λ (y : Fed). y .outcome) (good r e) in
-          rw (← good r e)
+          r .sound ≡ true → 200 ≤ length out → length told ≡ 2 → {ns' : List ℤ} {bytes' : List ℕ} {told' : List ℤ} →
+          ns' ≡ numbersWith ns (between (pointPassed ns (r .closes)) false) → bytes' ≡ noBytes → told' ≡ pos end ∷ pos 1 ∷ [] →
+          FedCall (endsWith here text end false) ns ns' bytes bytes' out out' told told' (toZ w64 (r .at))
+      point-told e room two-told f g t =
+          let a = replied-printed w e in
+          let h = good (a .0) (a .1) in
+          let o = ap (λ (y : Fed). y .outcome) h in
+          rw (← h)
           (record {
-            state = line-ended (between (pointPassed ns (x .closes)) false) (Line r) ns bytes out f g r refl (subst Short (sym o) short) room w;
+            state = line-ended (between (pointPassed ns (answer .closes)) false) (Line (a .0)) ns bytes out (f ∙ ap (λ (b : Bool). numbersWith ns (between (pointPassed ns b) false)) (a .2)) g (a .0) refl (subst Short (sym o) short) room (a .3);
             tells = t;
           })

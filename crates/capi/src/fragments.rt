@@ -64,6 +64,14 @@ fn tell(taken: usize, outcome: Outcome, told: &mut [i64])
     }
 }
 
+// Where the first line of a fragment ends. It is handed on as a new slice: one that is handed on as it came is stored by halves and read whole, and its reader waits for
+// the stores.
+fn first_end(fragment: &[u8]) -> usize
+    ensures { λ r. ⌜ r ≡ lineEnd (now (fragment .entry)) 0 ⌝ }
+{
+    line::line_end(&fragment[..fragment.len()], 0)
+}
+
 // A fragment that ends no line, of which `end` bytes are taken: its bytes stand behind those kept, and nothing but their count moves.
 fn feed_open(
     numbers: &mut [i64],
@@ -145,7 +153,7 @@ pub extern "C" fn swivelcrane_feed(
     if !state::in_range(numbers) {
         return minus(refusal::STATE);
     }
-    let end = line::line_end(fragment, 0);
+    let end = first_end(fragment);
     if !sheet_stream::is_fed(fragment, end) {
         return feed_open(numbers, bytes, fragment, end, told);
     }

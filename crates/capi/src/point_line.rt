@@ -7,14 +7,13 @@ ghost use lib.IntN.{natAbs};
 ghost use lib.ListN.{length, getD};
 ghost use Rattle.chain.specs.Numbers.{number};
 ghost use Rattle.line.specs.Bytes.{letterP};
-ghost use Rattle.sheet_rules.specs.OneLine.{pointAnswered};
+ghost use Rattle.sheet_rules.specs.OneLine.{pointAnswered, PointPrinted};
 ghost use Rattle.sheet_stream.specs.Fragments.{between, endsWith};
 ghost use Rattle.capi.specs.Fragments.{stateRange, flag as Fragments·flag, chainIn, streamFrom, numbersWith, pointTime, pointPassed, FedCall};
 use crate::joining::copy;
 use crate::joining::minus;
 use crate::state;
-use sheet_rules::PointAnswer;
-use sheet_rules::Response;
+use sheet_rules::LentPoint;
 
 // At most so many lines of a sheet are answered.
 const MOST_LINES: usize = 1000000;
@@ -30,16 +29,16 @@ pub(crate) fn can_come(n: &[i64]) -> bool
     !finished & (lines < MOST_LINES) & (steps <= lines)
 }
 
-// What the line is answered, by the state's chain.
-fn answer_in(n: &[i64], text: &[u8]) -> PointAnswer
+// What the line is answered by the state's chain, printed.
+fn print_in(n: &[i64], text: &[u8], out: &mut [u8]) -> LentPoint
     requires { ⌜ (length (now n) ≡ 111) × (stateRange (now n) ≡ true) ⌝ }
-    ensures { λ r. ⌜ r ≡ pointAnswered (chainIn (now (n .entry))) (natAbs (number (now (n .entry)) 0) + 1) (Fragments·flag (number (now (n .entry)) 2)) (now (text .entry)) ⌝ }
+    ensures { λ r. ⌜ PointPrinted (pointAnswered (chainIn (now (n .entry))) (natAbs (number (now (n .entry)) 0) + 1) (Fragments·flag (number (now (n .entry)) 2)) (now (text .entry))) (now (out .entry)) 0 (now (out .exit)) r ⌝ }
 {
     let line = state::lines_in(n) as u64 + 1;
     let refused = state::flag(n[2]);
     let profile = n[5];
     let end = state::steps_end(n);
-    sheet_rules::answer_point(line, refused, profile, &n[state::HEAD..end], text)
+    sheet_rules::print_lent(line, refused, profile, &n[state::HEAD..end], text, out, 0)
 }
 
 // The state's numbers after the line: it is counted, no byte is kept, and where it closes the chain, the chain is closed.
@@ -66,18 +65,15 @@ pub(crate) fn feed_point(
         × (end < 9223372036854775808) × (pointTime (now numbers) ≡ true) × (eqb (getD (now text) 0 0) letterP ≡ true) ⌝ }
     ensures { λ r. ⌜ FedCall (endsWith (streamFrom (now (numbers .entry)) (now (bytes .entry))) (now (text .entry)) end false) (now (numbers .entry)) (now (numbers .exit)) (now (bytes .entry)) (now (bytes .exit)) (now (out .entry)) (now (out .exit)) (now (told .entry)) (now (told .exit)) r ⌝ }
 {
-    let answer = answer_in(numbers, text);
-    let closes = answer.closes;
-    let response = answer.response;
-    match response {
-        Response::Unsound => minus(refusal::STATE),
-        Response::Replied(reply) => {
-            let none = [0u8; 200];
-            put_passed(numbers, closes);
-            state::put_bytes(&none, bytes);
-            told[0] = end as i64;
-            told[1] = 1;
-            sheet_rules::write_reply(out, 0, reply) as i64
-        }
+    let printed = print_in(numbers, text, out);
+    if !printed.sound {
+        return minus(refusal::STATE);
     }
+    let none = [0u8; 200];
+    put_passed(numbers, printed.closes);
+    state::put_bytes(&none, bytes);
+    told[0] = end as i64;
+    told[1] = 1;
+    let past = printed.at;
+    past as i64
 }

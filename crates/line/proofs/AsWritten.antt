@@ -24,10 +24,10 @@ use Rattle.line.specs.Lines.{lineEnd, lineAt}
 use Rattle.line.specs.Malformed.{pointShape, faultOf}
 use Rattle.line.specs.Name.{nameOf}
 use Rattle.line.specs.Number.{isDigit, digits, plain, positive, negative, numberOf}
-use Rattle.line.specs.Readers.{judged, readAs, readPoint, placeOf, datumPlace, placedPoint}
+use Rattle.line.specs.Readers.{judged, readAs, readPoint, placeOf, datumPlace, placedPoint, onePoint}
 use Rattle.line.specs.Text.{decimal, integer, nameText, lineText, labelText, pointText}
 use Rattle.line.proofs.Capped.{never}
-use Rattle.line.proofs.Lines.{line-at}
+use Rattle.line.proofs.Lines.{line-at, line-whole}
 use Rattle.line.proofs.Texts as T
 use Rattle.line.proofs.Walk as W
 use Rattle.line.proofs.WrittenNames.{name-text}
@@ -240,6 +240,27 @@ placed-end y input from = refl
 pub placed : (y : ℤ) (input : List ℕ) (from : ℕ) {r : PointLine} {place end : ℕ} → (r ≡ readPoint y (lineAt input from)) × (place ≡ datumPlace (lineAt input from)) → end ≡ lineEnd input from → record { line = r; place = place; end = end } ≡ placedPoint y input from
 unfolding placedPoint
 placed y input from h e = rw (h .0, h .1, e)
+
+-- what is told of a line by itself
+pub one-line : (y : ℤ) (line : List ℕ) → onePoint y line .line ≡ readPoint y line
+unfolding onePoint
+one-line y line = refl
+
+pub one-place : (y : ℤ) (line : List ℕ) → onePoint y line .place ≡ datumPlace line
+unfolding onePoint
+one-place y line = refl
+
+pub one : (y : ℤ) (line : List ℕ) {r : PointLine} {place end : ℕ} → (r ≡ readPoint y line) × (place ≡ datumPlace line) → end ≡ length line → record { line = r; place = place; end = end } ≡ onePoint y line
+unfolding onePoint
+one y line h e = rw (h .0, h .1, e)
+
+pub one-read : (y : ℤ) (line : List ℕ) {r : PlacedLine} → r ≡ onePoint y line → (r .line ≡ readPoint y line) × (r .place ≡ datumPlace line)
+one-read y line e = (ap (λ (p : PlacedLine). p .line) e ∙ one-line y line, ap (λ (p : PlacedLine). p .place) e ∙ one-place y line)
+
+-- the only line of an input
+pub one-whole : (y : ℤ) (input : List ℕ) → lineEnd input 0 ≡ length input → placedPoint y input 0 ≡ onePoint y input
+unfolding onePoint placedPoint
+one-whole y input e = rw (line-whole input e, e)
 
 -- the line is the bytes up to its end
 pub placed-read : (y : ℤ) (input : List ℕ) (from : ℕ) {r : PlacedLine} → r ≡ placedPoint y input from

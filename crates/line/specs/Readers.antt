@@ -67,6 +67,10 @@ datumPlace line = placeOf (said pointForm line)
 unfoldable pub placedPoint : ℤ → List ℕ → ℕ → PlacedLine
 placedPoint y input from = record { line = readPoint y (lineAt input from); place = datumPlace (lineAt input from); end = lineEnd input from }
 
+-- a line by itself, as a point line: where it ends is its length
+unfoldable pub onePoint : ℤ → List ℕ → PlacedLine
+onePoint y line = record { line = readPoint y line; place = datumPlace line; end = length line }
+
 -- under a profile: 18 to 22, 2, 3, 25, 4
 unfoldable pub readStep : ℤ → List ℕ → StepLine
 readStep y line = readAs (stepFault y) S.Step S.Refused (S.Malformed (faultOf stepShape line)) (said stepForm line)

@@ -30,6 +30,7 @@ pub use grid_line::read_grid_header;
 pub use node_line::read_node;
 pub use origin_line::read_origin;
 pub use other_line::strange;
+pub use point_line::read_one;
 pub use point_line::read_placed;
 pub use point_line::read_point;
 pub use step_line::read_step;

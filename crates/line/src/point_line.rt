@@ -20,7 +20,7 @@ ghost use Prim.Native.Nat.{_≤_, _<_};
 ghost use lib.ListN.{length};
 ghost use Rattle.line.specs.FirstLine.{Ended, First};
 ghost use Rattle.line.specs.Forms.{pointForm, pointOf};
-ghost use Rattle.line.specs.Readers.{readPoint, datumPlace, placedPoint, judged};
+ghost use Rattle.line.specs.Readers.{readPoint, placedPoint, onePoint, judged};
 ghost use Rattle.line.specs.Reading.{Told, cappedPlaced};
 ghost use Rattle.chain.specs.Faults.{pointFault};
 
@@ -32,12 +32,6 @@ struct PointFields {
     point: chain::Point,
     place: usize,
     next: usize,
-}
-
-// A point line as it is read, and where its datum begins: 0 where the line is malformed.
-struct ReadLine {
-    line: PointLine,
-    place: usize,
 }
 
 // The last field of a line, where it is a number up to a line feed, and the place past that.
@@ -116,8 +110,8 @@ fn judge_point(profile: i64, p: chain::Point) -> PointLine
 }
 
 // A line by itself. Nearly every one that comes here is malformed, so that is asked first.
-fn read_alone(profile: i64, line: &[u8]) -> ReadLine
-    ensures { λ r. ⌜ (r .line ≡ readPoint profile (now (line .entry))) × (r .place ≡ datumPlace (now (line .entry))) ⌝ }
+fn read_alone(profile: i64, line: &[u8]) -> PlacedLine
+    ensures { λ r. ⌜ r ≡ onePoint profile (now (line .entry)) ⌝ }
 {
     let fault = fault_of(line, b'P');
     if fault.number == 0 {
@@ -126,16 +120,18 @@ fn read_alone(profile: i64, line: &[u8]) -> ReadLine
             let r = point_fields(&line[..end]);
             if r.next == end + 1 {
                 let p = r.point;
-                return ReadLine {
+                return PlacedLine {
                     line: judge_point(profile, p),
                     place: r.place,
+                    end: line.len(),
                 };
             }
         }
     }
-    ReadLine {
+    PlacedLine {
         line: PointLine::Malformed(fault),
         place: 0,
+        end: line.len(),
     }
 }
 
@@ -179,7 +175,8 @@ fn first_line(s: &[u8]) -> FirstLine
     let named = name(s, at);
     let issue = of_two(s, named.next);
     let order = of_one(s, issue.next);
-    let datum = of_one(s, order.next);
+    let place = order.next;
+    let datum = of_one(s, place);
     let epoch = of_seven(s, datum.next);
     let x = of_minus_twelve(s, epoch.next);
     let y = of_twelve(s, x.next);
@@ -197,7 +194,7 @@ fn first_line(s: &[u8]) -> FirstLine
             y.value,
             z.value,
         ),
-        place: order.next,
+        place,
         end: z.end,
     }
 }
@@ -225,7 +222,8 @@ pub fn read_placed(profile: i64, input: &[u8], from: usize) -> PlacedLine
             end: from + first.end,
         };
     }
-    let end = line_end(input, from);
+    // As a new slice: one that is handed on as it came is stored by halves and read whole, and its reader waits for the stores.
+    let end = line_end(&input[..input.len()], from);
     let r = read_alone(profile, &input[from..end]);
     let l = r.line;
     PlacedLine {
@@ -235,14 +233,21 @@ pub fn read_placed(profile: i64, input: &[u8], from: usize) -> PlacedLine
     }
 }
 
+// One line under a profile (2009 or 2021), whatever its bytes: as `read_point` reads it; where its datum begins, 0 where it is malformed; and its length.
+pub fn read_one(profile: i64, line: &[u8]) -> PlacedLine
+    ensures { λ r. ⌜ r ≡ onePoint profile (now (line .entry)) ⌝ }
+{
+    let r = read_placed(profile, line, 0);
+    if r.end == line.len() {
+        return r;
+    }
+    read_alone(profile, line)
+}
+
 // A point line under a profile (2009 or 2021): its point; malformed (LENGTH, LETTER, COUNT, ID, PLAIN); or RANGE, EPOCH, PROFILE.
 pub fn read_point(profile: i64, line: &[u8]) -> PointLine
     ensures { λ r. ⌜ r ≡ readPoint profile (now (line .entry)) ⌝ }
 {
-    let r = read_placed(profile, line, 0);
-    if r.end == line.len() {
-        return r.line;
-    }
-    let alone = read_alone(profile, line);
-    alone.line
+    let r = read_one(profile, line);
+    r.line
 }

@@ -208,6 +208,35 @@ fn is_copied_whole(line: &[u8], place: usize, p: chain::Position) -> bool
     100000000000 <= p.y
 }
 
+// The bytes of a line before a place, then a datum, an epoch, X, Y, Z, each handed over as a number: a record would be stored in parts and read whole, and its reader
+// wait for the stores.
+fn write_apart(
+    out: &mut [u8],
+    at: usize,
+    line: &[u8],
+    place: usize,
+    datum: i64,
+    epoch: i64,
+    x: i64,
+    y: i64,
+    z: i64,
+) -> usize
+    ensures { λ e. ⌜ Wrote (now (out .entry)) at (take place (now (line .entry)) ++ movedText (record { datum = datum; epoch = epoch }) (record { x = x; y = y; z = z })) (now (out .exit)) e ⌝ }
+{
+    let r = chain::Realization { datum, epoch };
+    let p = chain::Position { x, y, z };
+    let room = out.len();
+    if POINT_ROOM <= room {
+        if at <= room - POINT_ROOM {
+            if is_copied_whole(line, place, p) {
+                return roomy::relabelled(out, at, line, place, r, p);
+            }
+        }
+    }
+    let a = cut_copy(out, at, line, place);
+    cut_moved(out, a, r, p)
+}
+
 // The line of a point that was moved: the bytes of its line before a place, which is where the datum begins (`read_placed`), then datum, epoch, X, Y, Z. What stands
 // before the datum is as it was read, and need not be made again.
 pub fn write_moved(
@@ -220,16 +249,7 @@ pub fn write_moved(
 ) -> usize
     ensures { λ e. ⌜ Wrote (now (out .entry)) at (take place (now (line .entry)) ++ movedText r p) (now (out .exit)) e ⌝ }
 {
-    let room = out.len();
-    if POINT_ROOM <= room {
-        if at <= room - POINT_ROOM {
-            if is_copied_whole(line, place, p) {
-                return roomy::relabelled(out, at, line, place, r, p);
-            }
-        }
-    }
-    let a = cut_copy(out, at, line, place);
-    cut_moved(out, a, r, p)
+    write_apart(out, at, line, place, r.datum, r.epoch, p.x, p.y, p.z)
 }
 
 // C, id, E, N; millimetres.

@@ -1,12 +1,12 @@
 -- A point line by itself: the chain stays as it was, and one point goes by the chain's steps. Assumes nothing.
-use mathlib.Core.Path.{_≡_, refl, sym, _∙_, ap}
+use mathlib.Core.Path.{_≡_, refl, sym, _∙_, ap, subst}
 use mathlib.Core.Bool.{Bool, true, false, _||_}
-use mathlib.Core.List.{List}
+use mathlib.Core.List.{List, _++_}
 use Prim.Native.Nat.{ℕ, _+_, _≤_}
 use native.Mathlib.Omega.{arith}
 use borrow.Author.Tests.{eq-eqb, eqb-true, ne-eqb}
 use lib.Dec.{eqb}
-use lib.ListN.{length, getD}
+use lib.ListN.{length, getD, take}
 use Rattle.refusal.specs.Numbers as refusal
 use Rattle.refusal.specs.Order.{pick, first}
 use Rattle.chain.specs.declared.Point.{Point}
@@ -16,19 +16,26 @@ use Rattle.chain.specs.declared.Answer.the-variants as answer
 use Rattle.chain.specs.Faults.{chainTests, stepsOf}
 use Rattle.chain.specs.Convert.{forwardOf}
 use Rattle.chain.specs.Prepared.{chainOf}
-use Rattle.chain.proofs.Readying.{by-steps-forward, converted-good}
+use Rattle.chain.proofs.Keeping.{prepared-forward}
+use Rattle.chain.proofs.KeptTurns.{labelIn, forward-label}
+use Rattle.chain.proofs.Readying.{ready-holds, by-steps-forward, converted-good}
 use Rattle.line.specs.declared.Fault.{Fault}
 use Rattle.line.specs.declared.PointLine.{PointLine}
 use Rattle.line.specs.declared.PointLine.the-variants as point-line
 use Rattle.line.specs.Bytes.{letterS, letterP}
-use Rattle.line.specs.Readers.{readPoint}
+use Rattle.line.specs.Readers.{readPoint, datumPlace}
+use Rattle.line.specs.Text.{pointText, movedText, Wrote}
+use Rattle.line.proofs.Moved.{moved-line}
+use Rattle.line.proofs.Readers.{point-sound}
+use Rattle.line.proofs.Texts.{same-size}
 use Rattle.sheet_rules.specs.declared.Reply.{Reply}
 use Rattle.sheet_rules.specs.declared.Reply.the-variants as reply
 use Rattle.sheet_rules.specs.declared.Standing.{Standing}
-use Rattle.sheet_rules.specs.declared.PointAnswer.{PointAnswer}
+use Rattle.sheet_rules.specs.declared.LentPoint.{LentPoint}
+use Rattle.sheet_rules.specs.declared.Response.{Response}
 use Rattle.sheet_rules.specs.declared.Response.the-variants as response
-use Rattle.sheet_rules.specs.Sheet.{Sheet, refuse, conversionReply, pointReply, afterPoint, closes, replyOf, nextOf}
-use Rattle.sheet_rules.specs.OneLine.{mostLines, sheetAt, counted, soundStanding, answered, answeredTo, whereGood, pointAnswered}
+use Rattle.sheet_rules.specs.Sheet.{Sheet, replyText, refuse, conversionReply, pointReply, afterPoint, closes, replyOf, nextOf}
+use Rattle.sheet_rules.specs.OneLine.{mostLines, sheetAt, counted, soundStanding, answered, answeredTo, PointAnswer, whereGood, pointAnswered, PrintedAs, PointPrinted}
 use Rattle.sheet_rules.proofs.OneLine.{chain-same, within-answered, unsound-answered, sound-answered, sound-told, sound-short}
 
 -- the chain is good
@@ -78,6 +85,53 @@ module _ (c : Chain) (n : ℕ) (refused : Bool) (l : List ℕ) where
       converted-answered o f q =
           let z = converted-good c p o f in
           q ∙ ap replied (sym (by-steps (answer.Converted o) f z)) ∙ (rw (is, eq-eqb (first (chainTests c)) 0 z))
+
+-- ---- printed at once
+-- where the chain is bad, and where it is good
+pub bad-printed : (c : Chain) (p : Reply) (closes : Bool) (before : List ℕ) (at : ℕ) → eqb (first (chainTests c)) 0 ≡ false → PointPrinted (whereGood c p closes) before at before (record { sound = false; at = at; closes = false })
+bad-printed c p closes before at z = record { printed = rw z (refl, refl) }
+
+pub good-printed : (c : Chain) (p : Reply) (closes : Bool) {before : List ℕ} {at : ℕ} {after : List ℕ} {past : ℕ} → eqb (first (chainTests c)) 0 ≡ true → Wrote before at (replyText p) after past → PointPrinted (whereGood c p closes) before at after (record { sound = true; at = past; closes = closes })
+good-printed c p closes z w = record { printed = rw z (refl, refl, w) }
+
+module _ {before : List ℕ} {at : ℕ} {after : List ℕ} {r : LentPoint} where
+  pub printed-so : {a b : PointAnswer} → a ≡ b → PointPrinted a before at after r → PointPrinted b before at after r
+  printed-so e w = subst (λ (a : PointAnswer). PointPrinted a before at after r) e w
+
+  -- nothing gets longer or shorter
+  pub printed-size : {a : PointAnswer} → PointPrinted a before at after r → length after ≡ length before
+  printed-size {a} w = go (a .response) (w .printed)
+    where
+      go : (q : Response) → PrintedAs q (a .closes) before at after r → length after ≡ length before
+      go response.Unsound v = ap length (v .1)
+      go (response.Replied p) v = same-size (v .2)
+
+  -- what was answered, by what is said of it
+  pub unsound-printed : {a : PointAnswer} → PointPrinted a before at after r → r .sound ≡ false → (a .response ≡ response.Unsound) × (after ≡ before)
+  unsound-printed {a} w e = go (a .response) refl (w .printed)
+    where
+      go : (q : Response) → a .response ≡ q → PrintedAs q (a .closes) before at after r → (a .response ≡ response.Unsound) × (after ≡ before)
+      go response.Unsound f v = (f, v .1)
+      go (response.Replied p) f v = absurd (let z : true ≡ false = sym (v .0) ∙ e in let y : _≡_ {A = ℕ} 0 1 = cc in omega arith)
+
+  pub replied-printed : {a : PointAnswer} → PointPrinted a before at after r → r .sound ≡ true → (p : Reply) × (a .response ≡ response.Replied p) × (r .closes ≡ a .closes) × Wrote before at (replyText p) after (r .at)
+  replied-printed {a} w e = go (a .response) refl (w .printed)
+    where
+      go : (q : Response) → a .response ≡ q → PrintedAs q (a .closes) before at after r → (p : Reply) × (a .response ≡ response.Replied p) × (r .closes ≡ a .closes) × Wrote before at (replyText p) after (r .at)
+      go response.Unsound f v = absurd (let z : true ≡ false = sym e ∙ ap (λ (x : LentPoint). x .sound) (v .0) in let y : _≡_ {A = ℕ} 0 1 = cc in omega arith)
+      go (response.Replied p) f v = (p, f, v .1, v .2)
+
+-- a conversion keeps the label, which stands in the line as it is written
+module _ (c : Chain) (l : List ℕ) (p : Point) (is : readPoint (c .profile) l ≡ point-line.Point p) (q : Point) (f : forwardOf c p ≡ answer.Converted q) where
+  relabelled : take (datumPlace l) l ++ movedText (q .realization) (q .position) ≡ pointText q
+  relabelled =
+      let z = converted-good c p q f in
+      let e = prepared-forward (c .profile) _ (stepsOf c) (ready-holds c z) p (point-sound (c .profile) l p is) ∙ by-steps-forward c z p ∙ f in
+      moved-line (c .profile) l p q is (ap (labelIn (p .label)) (sym e) ∙ forward-label _ p)
+
+  pub moved-printed : (n : ℕ) {before : List ℕ} {at : ℕ} {after : List ℕ} {past : ℕ} → Wrote before at (take (datumPlace l) l ++ movedText (q .realization) (q .position)) after past → PointPrinted (pointAnswered c n false l) before at after (record { sound = true; at = past; closes = true })
+  moved-printed n {before} {at} {after} {past} w =
+      printed-so (converted-answered c n false l p is refl q f refl) (record { printed = (refl, refl, subst (λ (t : List ℕ). Wrote before at t after past) relabelled w) })
 
 module _ (st : Standing) (l : List ℕ) (b : eqb (getD l 0 0) letterP ≡ true) where
   no-step : eqb (getD l 0 0) letterS ≡ false

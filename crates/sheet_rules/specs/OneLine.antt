@@ -13,6 +13,7 @@ use Rattle.chain.specs.declared.Chain.{Chain}
 use Rattle.chain.specs.Faults.{latest, chainTests, stepsOf}
 use Rattle.chain.specs.Prepared as prepared
 use Rattle.line.specs.Readers.{readPoint}
+use Rattle.line.specs.Text.{Wrote}
 use Rattle.line.specs.declared.StepLine.{StepLine}
 use Rattle.line.specs.declared.StepLine.the-variants as step-line
 use Rattle.sheet_rules.specs.declared.Standing.{Standing}
@@ -21,8 +22,8 @@ use Rattle.sheet_rules.specs.declared.Response.{Response}
 use Rattle.sheet_rules.specs.declared.Response.the-variants as response
 use Rattle.sheet_rules.specs.declared.Reply.{Reply}
 use Rattle.sheet_rules.specs.declared.Reply.the-variants as reply
-use Rattle.sheet_rules.specs.declared.PointAnswer.{PointAnswer}
-use Rattle.sheet_rules.specs.Sheet.{Sheet, pointReply, closes, replyOf, nextOf}
+use Rattle.sheet_rules.specs.declared.LentPoint.{LentPoint}
+use Rattle.sheet_rules.specs.Sheet.{Sheet, replyText, pointReply, closes, replyOf, nextOf}
 
 -- at most so many lines of a sheet are answered by its rules
 abbrev pub mostLines : ℕ
@@ -76,6 +77,11 @@ answeredTo s l = pick (soundStanding s) (lineAnswered s l) (answered s response.
 unfoldable pub soundAt : ℕ → Chain → Bool
 soundAt line c = counted line (c .length) && eqb (first (chainTests c)) 0
 
+-- what a point line is answered, and whether it closes the chain
+pub record PointAnswer : Type 0 where
+  pub response : Response
+  pub closes : Bool
+
 -- what is answered where the chain is good, and whether the line closes it; no sheet stands at a bad one
 abbrev pub whereGood : Chain → Reply → Bool → PointAnswer
 whereGood c r b = pick (eqb (first (chainTests c)) 0) (record { response = response.Replied r; closes = b }) (record { response = response.Unsound; closes = false })
@@ -86,6 +92,15 @@ pointAnswered c line refused l =
     whereGood c
     (pointReply (record { line = line; profile = c .profile; steps = stepsOf c; refused = refused; closed = false }) (readPoint (c .profile) l))
     (closes (readPoint (c .profile) l))
+
+-- a response printed from a place on: where no sheet stands, nothing is written
+abbrev pub PrintedAs : Response → Bool → List ℕ → ℕ → List ℕ → LentPoint → Type 0
+PrintedAs response.Unsound closes before at after r = (r ≡ record { sound = false; at = at; closes = false }) × (after ≡ before)
+PrintedAs (response.Replied p) closes before at after r = (r .sound ≡ true) × (r .closes ≡ closes) × Wrote before at (replyText p) after (r .at)
+
+-- what a point line is answered, printed
+pub record PointPrinted (a : PointAnswer) (before : List ℕ) (at : ℕ) (after : List ℕ) (r : LentPoint) : Type 0 where
+  pub printed : PrintedAs (a .response) (a .closes) before at after r
 
 -- ---- how the code gets there
 -- a chain prepared step by step: whether it is good, and the numbers that hold it

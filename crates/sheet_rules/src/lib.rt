@@ -1,8 +1,8 @@
 // A sheet's rules: one line decided by value over a state, and a whole sheet from bytes to bytes.
 mod decide;
 
-pub use decide::lent::answer_point;
 pub use decide::lent::is_sound_at;
+pub use decide::lent::print_lent;
 pub use decide::standing::answer_line;
 pub use decide::standing::is_sound;
 pub use decide::whole::sheet;
@@ -61,9 +61,11 @@ pub enum Response {
     Unsound,
 }
 
-// What a point line is answered, and whether it closes the chain.
-pub struct PointAnswer {
-    pub response: Response,
+// What is printed for a point line over a lent chain: whether a sheet can stand there, where nothing is printed if not; the place past it; and whether the line closes
+// the chain.
+pub struct LentPoint {
+    pub sound: bool,
+    pub at: usize,
     pub closes: bool,
 }
 

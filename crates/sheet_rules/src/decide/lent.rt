@@ -1,73 +1,109 @@
 // A point line over a chain that is lent as numbers, 13 to a step: the chain stays as it is, and one point doesn't pay for preparing it.
 ghost use mathlib.Core.Path.{_≡_};
+ghost use mathlib.Core.Bool.{true, false};
 ghost use Rattle.chain.specs.Numbers.{chainFrom};
-ghost use Rattle.sheet_rules.specs.OneLine.{soundAt, whereGood, pointAnswered};
-use crate::PointAnswer;
-use crate::Reply;
-use crate::Response;
+ghost use Rattle.line.specs.Readers.{readPoint, datumPlace};
+ghost use Rattle.line.specs.declared.PointLine.the-variants as point-line;
+ghost use Rattle.sheet_rules.specs.declared.Reply.the-variants as reply;
+ghost use Rattle.sheet_rules.specs.OneLine.{soundAt, whereGood, pointAnswered, PointPrinted};
+use crate::LentPoint;
 use crate::decide::standing::is_counted;
 use chain::Answer;
+use chain::Point;
 use line::PointLine;
 
 // Numbers to a step.
 const STEP: usize = 13;
 
-// What a point line with this reply is answered once the chain is tested.
-fn tested(profile: i64, steps: &[i64], reply: Reply, closes: bool) -> PointAnswer
-    ensures { λ r. ⌜ r ≡ whereGood (chainFrom profile (now (steps .entry))) reply closes ⌝ }
+// A refusal of the line, once the chain is tested.
+fn print_tested(
+    line: u64,
+    number: u8,
+    place: u8,
+    closes: bool,
+    profile: i64,
+    steps: &[i64],
+    out: &mut [u8],
+    at: usize,
+) -> LentPoint
+    ensures { λ r. ⌜ PointPrinted (whereGood (chainFrom profile (now (steps .entry))) (reply.Refused line number place) closes) (now (out .entry)) at (now (out .exit)) r ⌝ }
 {
     if chain::fault_in(profile, steps) != 0 {
-        return PointAnswer {
-            response: Response::Unsound,
+        return LentPoint {
+            sound: false,
+            at,
             closes: false,
         };
     }
-    PointAnswer {
-        response: Response::Replied(reply),
-        closes: closes,
+    LentPoint {
+        sound: true,
+        at: line::write_refusal(out, at, line, number, place),
+        closes,
     }
 }
 
-// A line of this number read as a point line, after a refused step or none, and its point converted by the lent chain; Unsound where the chain is bad. A chain that
-// converts a point needs no other test. The line closes the chain where its form is good.
-pub fn answer_point(
+// A point whose line is good by itself, and where its datum begins in the line: what stands before it is written as it stands. A chain that converts a point needs
+// no other test.
+fn print_moved(
+    line: u64,
+    profile: i64,
+    steps: &[i64],
+    text: &[u8],
+    point: Point,
+    place: usize,
+    out: &mut [u8],
+    at: usize,
+) -> LentPoint
+    requires { ⌜ (readPoint profile (now text) ≡ point-line.Point point) × (place ≡ datumPlace (now text)) ⌝ }
+    ensures { λ r. ⌜ PointPrinted (pointAnswered (chainFrom profile (now (steps .entry))) line false (now (text .entry))) (now (out .entry)) at (now (out .exit)) r ⌝ }
+{
+    match chain::forward_by(profile, steps, point) {
+        Answer::Refused(number) => print_tested(line, number, 0, true, profile, steps, out, at),
+        Answer::Converted(converted) => {
+            let realization = converted.realization;
+            let position = converted.position;
+            LentPoint {
+                sound: true,
+                at: line::write_moved(out, at, text, place, realization, position),
+                closes: true,
+            }
+        }
+    }
+}
+
+// A line of this number read as a point line, after a refused step or none, its point converted by the lent chain, and its answer printed from `at` on, as far as there
+// is room. Where the chain is bad, nothing is printed.
+pub fn print_lent(
     line: u64,
     refused: bool,
     profile: i64,
     steps: &[i64],
     text: &[u8],
-) -> PointAnswer
-    ensures { λ r. ⌜ r ≡ pointAnswered (chainFrom profile (now (steps .entry))) line refused (now (text .entry)) ⌝ }
+    out: &mut [u8],
+    at: usize,
+) -> LentPoint
+    ensures { λ r. ⌜ PointPrinted (pointAnswered (chainFrom profile (now (steps .entry))) line refused (now (text .entry))) (now (out .entry)) at (now (out .exit)) r ⌝ }
 {
-    match line::read_point(profile, text) {
-        PointLine::Malformed(fault) => tested(
+    let read = line::read_one(profile, text);
+    let place = read.place;
+    let found = read.line;
+    match found {
+        PointLine::Malformed(fault) => print_tested(
+            line,
+            fault.number,
+            fault.place,
+            false,
             profile,
             steps,
-            Reply::Refused(line, fault.number, fault.place),
-            false,
+            out,
+            at,
         ),
-        PointLine::Refused(number) => tested(profile, steps, Reply::Refused(line, number, 0), true),
+        PointLine::Refused(number) => print_tested(line, number, 0, true, profile, steps, out, at),
         PointLine::Point(point) => {
             if refused {
-                return tested(
-                    profile,
-                    steps,
-                    Reply::Refused(line, refusal::EARLIER, 0),
-                    true,
-                );
+                return print_tested(line, refusal::EARLIER, 0, true, profile, steps, out, at);
             }
-            match chain::forward_by(profile, steps, point) {
-                Answer::Refused(number) => tested(
-                    profile,
-                    steps,
-                    Reply::Refused(line, number, 0),
-                    true,
-                ),
-                Answer::Converted(converted) => PointAnswer {
-                    response: Response::Replied(Reply::Point(converted)),
-                    closes: true,
-                },
-            }
+            print_moved(line, profile, steps, text, point, place, out, at)
         }
     }
 }

@@ -54,7 +54,7 @@ good c = sym (c .before .in-range .ensures) ∙ not-false _ (c .if2 .left)
 feed-open-requires : tie.Need-feed-open-requires
 feed-open-requires c κs =
     let p = parts (c .before .before .before .before .before .before .before .before .before) in
-    (p .state, good (c .before .before .before .before .before .before), p .line, two-told (c .before .before .before .before .before .before .before .before .before), c .before .before .before .before .before .line-end .ensures, sym (c .before .before .before .before .is-fed .ensures) ∙ not-true _ (c .before .before .before .if3 .taken))
+    (p .state, good (c .before .before .before .before .before .before), p .line, two-told (c .before .before .before .before .before .before .before .before .before), c .before .before .before .before .before .first-end .ensures, sym (c .before .before .before .before .is-fed .ensures) ∙ not-true _ (c .before .before .before .if3 .taken))
 
 returns-3 : tie.Need-returns-3
 returns-3 c =
@@ -70,7 +70,7 @@ returns-3 c =
 feed-line-requires : tie.Need-feed-line-requires
 feed-line-requires c κs =
     let p = parts (c .before .before .before .before .before .before .before .before .before .before) in
-    (p .state, good (c .before .before .before .before .before .before .before), p .line, p .room, two-told (c .before .before .before .before .before .before .before .before .before .before), c .before .before .before .before .before .before .line-end .ensures, sym (c .before .before .before .before .before .is-fed .ensures) ∙ not-false _ (c .before .before .before .before .if3 .left))
+    (p .state, good (c .before .before .before .before .before .before .before), p .line, p .room, two-told (c .before .before .before .before .before .before .before .before .before .before), c .before .before .before .before .before .before .first-end .ensures, sym (c .before .before .before .before .before .is-fed .ensures) ∙ not-false _ (c .before .before .before .before .if3 .left))
 
 returns-4 : tie.Need-returns-4
 returns-4 c =

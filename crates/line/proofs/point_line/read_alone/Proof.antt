@@ -1,5 +1,5 @@
 -- `line::point_line::read_alone` meets its contract. Assumes nothing.
-use mathlib.Core.Path.{sym, _∙_, ap}
+use mathlib.Core.Path.{refl, sym, _∙_, ap}
 use lib.IntN.{ℤ}
 use lib.Seq.{length-take-le}
 use mir.Facts.{toZ-ofZ}
@@ -9,6 +9,7 @@ use Rattle.line.specs.declared.PointLine.the-variants as line
 use Rattle.line.specs.Forms.{pointForm}
 use Rattle.line.specs.Readers.{judged}
 use Rattle.line.proofs.Answers as A
+use Rattle.line.proofs.AsWritten.{one}
 use Rattle.line.proofs.PointAnswers.{answer, answered, good, bad, faulty}
 use borrow.Author.Needs.{needs}
 use Rattle.line.proofs.point_line.read_alone.Statement.{statement}
@@ -25,7 +26,7 @@ returns c =
     let y = s .args .profile in
     let l = s .args .line .now in
     let j = c .judge-point .ensures ∙ ap (λ (z : ℤ). judged (pointFault z) line.Point line.Refused (c4 .point-fields .result .point)) (toZ-ofZ (s .fits .profile)) in
-    answered y l (A.of-form (answer y l) pointForm _ _ (c7 .body-end .ensures) (omega arith) (c4 .point-fields .ensures) _ (c .before .before .if3 .taken) (good y l j))
+    one y l (answered y l (A.of-form (answer y l) pointForm _ _ (c7 .body-end .ensures) (omega arith) (c4 .point-fields .ensures) _ (c .before .before .if3 .taken) (good y l j))) refl
 
 returns-2 : tie.Need-returns-2
 returns-2 c =
@@ -35,7 +36,7 @@ returns-2 c =
     let s = c8 .before .before in
     let y = s .args .profile in
     let l = s .args .line .now in
-    answered y l (bad y l (c8 .fault-of .ensures) ∙ A.no-form (answer y l) pointForm _ _ (c5 .body-end .ensures) (omega arith) (c2 .point-fields .ensures) (c .if3 .left))
+    one y l (answered y l (bad y l (c8 .fault-of .ensures) ∙ A.no-form (answer y l) pointForm _ _ (c5 .body-end .ensures) (omega arith) (c2 .point-fields .ensures) (c .if3 .left))) refl
 
 returns-3 : tie.Need-returns-3
 returns-3 c =
@@ -43,13 +44,15 @@ returns-3 c =
     let s = c4 .before .before in
     let y = s .args .profile in
     let l = s .args .line .now in
-    answered y l (bad y l (c4 .fault-of .ensures) ∙ A.no-frame (answer y l) pointForm _ _ (c .before .body-end .ensures) (omega arith))
+    one y l (answered y l (bad y l (c4 .fault-of .ensures) ∙ A.no-frame (answer y l) pointForm _ _ (c .before .body-end .ensures) (omega arith))) refl
 
 returns-4 : tie.Need-returns-4
 returns-4 c =
     let c2 = c .before .before in
     let s = c2 .before .before in
-    answered (s .args .profile) (s .args .line .now) (faulty (s .args .profile) (s .args .line .now) (c2 .fault-of .ensures) (omega (arith, c .if1 .left)))
+    let y = s .args .profile in
+    let l = s .args .line .now in
+    one y l (answered y l (faulty y l (c2 .fault-of .ensures) (omega (arith, c .if1 .left)))) refl
 
 pub read-alone-spec : {M : Type 1} → statement M
 read-alone-spec =

@@ -1,14 +1,17 @@
 -- `line::point_line::read_placed` meets its contract. Assumes nothing.
 use mathlib.Core.Path.{_≡_, refl, sym, _∙_, ap}
 use lib.IntN.{ℤ}
+use mathlib.Core.List.{List}
+use Prim.Native.Nat.{ℕ}
 use lib.ListN.{length, length-drop}
+use lib.Seq.{length-take-le, take-all}
 use mir.Facts.{toZ-ofZ}
 use native.Mathlib.Omega.{arith}
 use Rattle.chain.specs.Faults.{pointFault}
 use Rattle.line.specs.declared.PointLine.the-variants as line
-use Rattle.line.specs.Lines.{lineAt}
+use Rattle.line.specs.Lines.{lineAt, lineEnd}
 use Rattle.line.specs.Readers.{judged}
-use Rattle.line.proofs.AsWritten.{placed}
+use Rattle.line.proofs.AsWritten.{placed, one-read}
 use Rattle.line.proofs.Lines.{rest, line-inside, line-at, line-of, line-past}
 use Rattle.line.proofs.PointAnswers.{answer, answered, good}
 use borrow.Author.Needs.{needs}
@@ -19,7 +22,7 @@ returns : tie.Need-returns
 returns c =
     let s = c .before .before .before .before in
     let w = line-past (s .args .input .now) (s .args .from) (omega arith) in
-    placed (s .args .profile) (s .args .input .now) (s .args .from) (rw (← w .0) (rw (toZ-ofZ (s .fits .profile)) at (c .read-alone .ensures))) (w .1)
+    placed (s .args .profile) (s .args .input .now) (s .args .from) (rw (← w .0) (rw (toZ-ofZ (s .fits .profile)) at (one-read _ _ (c .read-alone .ensures)))) (w .1)
 
 add-t19 : tie.Need-add-t19
 add-t19 c =
@@ -42,24 +45,33 @@ returns-2 c =
     let says = rw (w .0) at (f .says) in
     placed y (s .args .input .now) (s .args .from) (answered y l (good y l j (f .point) (f .told) ∙ ap (answer y l) (sym says))) (w .1)
 
+-- where the line ends, of the input as it came
+slice-aggregate-line-end : tie.Need-slice-aggregate-line-end
+slice-aggregate-line-end c = sym (length-take-le _ _ (omega arith))
+
+end-is : (c : tie.After-line-end) → let s = c .before .before .before .before .before .before .before in c .line-end .result ≡ lineEnd (s .args .input .now) (s .args .from)
+end-is c =
+    let s = c .before .before .before .before .before .before .before in
+    c .line-end .ensures ∙ ap (λ (l : List ℕ). lineEnd l (s .args .from)) (take-all (length (s .args .input .now)) (s .args .input .now) (omega arith))
+
 sub-read-alone : tie.Need-sub-read-alone
-sub-read-alone c = let l = line-inside _ _ _ (c .line-end .ensures) (omega arith) in omega arith
+sub-read-alone c = let l = line-inside _ _ _ (end-is c) (omega arith) in omega arith
 
 part-read-alone-start : tie.Need-part-read-alone-start
-part-read-alone-start c = let l = line-inside _ _ _ (c .line-end .ensures) (omega arith) in omega arith
+part-read-alone-start c = let l = line-inside _ _ _ (end-is c) (omega arith) in omega arith
 
 part-read-alone-end : tie.Need-part-read-alone-end
-part-read-alone-end c = let l = line-inside _ _ _ (c .line-end .ensures) (omega arith) in omega arith
+part-read-alone-end c = let l = line-inside _ _ _ (end-is c) (omega arith) in omega arith
 
 returns-3 : tie.Need-returns-3
 returns-3 c =
-    let e = c .before .before .line-end .ensures in
-    let s = c .before .before .before .before .before .before .before .before in
+    let e = end-is (c .before .before) in
+    let s = c .before .before .before .before .before .before .before .before .before in
     placed (s .args .profile) (s .args .input .now) (s .args .from)
-    (rw (line-at (s .args .input .now) (s .args .from) _ e) at (rw (toZ-ofZ (s .fits .profile)) at (c .read-alone2 .ensures))) e
+    (rw (line-at (s .args .input .now) (s .args .from) _ e) at (rw (toZ-ofZ (s .fits .profile)) at (one-read _ _ (c .read-alone2 .ensures)))) e
 
 pub read-placed-spec : {M : Type 1} → statement M
 read-placed-spec =
     tie.close
-    (tie.spec (search needs) (search needs) returns (search needs) (search needs) (search needs) (search needs) (search needs) add-t19 returns-2 (search needs) sub-read-alone
-    part-read-alone-start part-read-alone-end (search needs) returns-3)
+    (tie.spec (search needs) (search needs) returns (search needs) (search needs) (search needs) (search needs) (search needs) add-t19 returns-2 slice-aggregate-line-end (search needs)
+    sub-read-alone part-read-alone-start part-read-alone-end (search needs) returns-3)

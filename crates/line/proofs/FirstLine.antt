@@ -139,16 +139,16 @@ first w k {v} h s e t = go (filled pointForm (fields (take k w))) refl (rw (W.fr
     }
 
 -- ---- the last field, by the tests that the code makes
-pub ended : {s : List ℕ} {at feed next : ℕ} {v : ℤ} → (at ≤ feed) × (feed < length s) → Got (take feed s) cappedZ numberOf at v next → ((eqb next (feed + 1) && eqb (getD s feed 0) 10) && ltb feed 200) ≡ true → Ended s at v (feed + 1)
+pub ended : {s : List ℕ} {at feed next : ℕ} {v : ℤ} → (at ≤ feed) × (feed < length s) → Got (take feed s) cappedZ numberOf at v next → ((eqb next (feed + 1) && eqb (getD s feed 0) 10) && ltb feed 200) ≡ true → Ended s at v next
 ended {s} {at} {feed} {next} {v} h g e =
     let a = both (eqb next (feed + 1) && eqb (getD s feed 0) 10) (ltb feed 200) e in
     let b = both (eqb next (feed + 1)) (eqb (getD s feed 0) 10) (a .0) in
     record {
       feed = feed;
-      past = refl;
+      past = eqb-true next (feed + 1) (b .0);
       behind = h .0;
       inside = h .1;
       short = ltb-true feed 200 (a .1);
       is = eqb-true (getD s feed 0) 10 (b .1);
-      got = rw (← eqb-true next (feed + 1) (b .0)) g;
+      got = g;
     }

@@ -6,6 +6,7 @@ use crate::field::LINE_FEED;
 use crate::field::body_end;
 use crate::field::letter;
 use crate::name::name;
+use crate::number::Integer;
 use crate::number::counted::of_last_eleven;
 use crate::number::counted::of_minus_twelve;
 use crate::number::counted::of_one;
@@ -34,11 +35,10 @@ struct PointFields {
     next: usize,
 }
 
-// The last field of a line, where it is a number up to a line feed, and the place past that.
+// A number, and whether a line ends with it: the place where a next field would begin is then where the line ends.
 struct LastField {
     good: bool,
-    value: i64,
-    end: usize,
+    number: Integer,
 }
 
 // The first line of some bytes, where it says a point: its fields, where the datum begins, and where the line ends.
@@ -49,22 +49,34 @@ struct FirstLine {
     end: usize,
 }
 
-fn point_of(
+// The point that its fields tell.
+fn told(
     id: chain::Id,
-    issue: i64,
-    order: i64,
-    datum: i64,
-    epoch: i64,
-    x: i64,
-    y: i64,
-    z: i64,
+    issue: Integer,
+    order: Integer,
+    datum: Integer,
+    epoch: Integer,
+    x: Integer,
+    y: Integer,
+    z: Integer,
 ) -> chain::Point
-    ensures { λ r. ⌜ r ≡ pointOf id issue order datum epoch x y z ⌝ }
+    ensures { λ r. ⌜ r ≡ pointOf id (issue .value) (order .value) (datum .value) (epoch .value) (x .value) (y .value) (z .value) ⌝ }
 {
     chain::Point {
-        label: chain::Label { id, issue, order },
-        realization: chain::Realization { datum, epoch },
-        position: chain::Position { x, y, z },
+        label: chain::Label {
+            id,
+            issue: issue.value,
+            order: order.value,
+        },
+        realization: chain::Realization {
+            datum: datum.value,
+            epoch: epoch.value,
+        },
+        position: chain::Position {
+            x: x.value,
+            y: y.value,
+            z: z.value,
+        },
     }
 }
 
@@ -83,16 +95,7 @@ fn point_fields(s: &[u8]) -> PointFields
     let z = number(s, y.next);
     let id = named.id;
     PointFields {
-        point: point_of(
-            id,
-            issue.value,
-            order.value,
-            datum.value,
-            epoch.value,
-            x.value,
-            y.value,
-            z.value,
-        ),
+        point: told(id, issue, order, datum, epoch, x, y, z),
         place: order.next,
         next: z.next,
     }
@@ -149,21 +152,19 @@ fn feed_after(s: &[u8], at: usize) -> usize
 }
 
 fn last_field(s: &[u8], at: usize) -> LastField
-    ensures { λ r. ⌜ (r .good ≡ true → Ended (now (s .entry)) at (r .value) (r .end)) ⌝ }
+    ensures { λ r. ⌜ (r .good ≡ true → Ended (now (s .entry)) at (r .number .value) (r .number .next)) ⌝ }
 {
     if s.len() <= at {
         return LastField {
             good: false,
-            value: 0,
-            end: 0,
+            number: Integer { value: 0, next: 0 },
         };
     }
     let feed = feed_after(s, at);
     let z = of_last_eleven(&s[..feed], at);
     LastField {
         good: (z.next == feed + 1) & (s[feed] == LINE_FEED) & (feed < LONGEST),
-        value: z.value,
-        end: feed + 1,
+        number: z,
     }
 }
 
@@ -180,22 +181,14 @@ fn first_line(s: &[u8]) -> FirstLine
     let epoch = of_seven(s, datum.next);
     let x = of_minus_twelve(s, epoch.next);
     let y = of_twelve(s, x.next);
-    let z = last_field(s, y.next);
+    let last = last_field(s, y.next);
     let id = named.id;
+    let z = last.number;
     FirstLine {
-        good: z.good,
-        point: point_of(
-            id,
-            issue.value,
-            order.value,
-            datum.value,
-            epoch.value,
-            x.value,
-            y.value,
-            z.value,
-        ),
+        good: last.good,
+        point: told(id, issue, order, datum, epoch, x, y, z),
         place,
-        end: z.end,
+        end: z.next,
     }
 }
 

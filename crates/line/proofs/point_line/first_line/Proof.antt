@@ -1,14 +1,13 @@
 -- `line::point_line::first_line` meets its contract. Assumes nothing.
 use native.Mathlib.Omega.{arith}
 use Rattle.line.proofs.FirstLine.{ahead, fewer, first}
-use Rattle.line.proofs.Places.{told, point-told}
-use borrow.Author.Needs.{needs}
+use Rattle.line.proofs.Places.{point-told}
 use Rattle.line.proofs.point_line.first_line.Statement.{statement}
 use Rattle.line.proofs.point_line.first_line.Tie as tie
 
 returns : tie.Need-returns
 returns c = λ e.
-    let c9 = c .before .before .before .before .before .before .before .before .before in
+    let c9 = c .before .before .before in
     let c15 = c9 .before .before .before .before .before .before in
     let n0 = c15 .before .before .letter in
     let n1 = c15 .before .name in
@@ -38,11 +37,11 @@ returns c = λ e.
     let g6 = fewer (n6 .ensures) k (omega (arith, a7, z .behind)) (omega (arith, h)) in
     let g7 = fewer (n7 .ensures) k (z .behind) (omega (arith, h)) in
     let t = rw (z .past) at (point-told g0 g1 g2 g3 g4 g5 g6 g7 (z .got)) in
-    rw (c .point-of .ensures, told (n2 .ok .1 .1 .0 .1), told (n3 .ok .1 .1 .0 .1), told (n4 .ok .1 .1 .0 .1), told (n5 .ok .1 .1 .0 .1), told (n6 .ok .1 .1 .0 .1), told (n7 .ok .1 .1 .0 .1), told (n8 .ok .1 .1 .1 .0 .1), z .past)
+    rw (c .told .ensures, z .past)
     (first _ k h (z .short) (z .is) t)
 
 pub first-line-spec : {M : Type 1} → statement M
 first-line-spec =
     tie.close
-    (tie.spec (search needs) (search needs) (search needs) (search needs) (search needs) (search needs) (search needs) (search needs) (search needs)
-    (search needs) returns)
+    (tie.spec (omega arith) (omega arith) (omega arith) (omega arith) (omega arith) (omega arith) (omega arith) (omega arith) (omega arith)
+    (omega arith) returns)

@@ -4,8 +4,6 @@ use native.Mathlib.Omega.{arith}
 use lib.Seq.{length-take-le}
 use Rattle.line.proofs.Capped.{never}
 use Rattle.line.proofs.FirstLine.{ended}
-use Rattle.line.proofs.Places.{told}
-use borrow.Author.Needs.{needs}
 use Rattle.line.proofs.point_line.last_field.Statement.{statement}
 use Rattle.line.proofs.point_line.last_field.Tie as tie
 
@@ -16,10 +14,8 @@ slice-aggregate-of-last-eleven : tie.Need-slice-aggregate-of-last-eleven
 slice-aggregate-of-last-eleven c = sym (length-take-le _ _ (omega arith))
 
 returns-2 : tie.Need-returns-2
-returns-2 c = λ e.
-    let z = c .before .before .before .of-last-eleven in
-    rw (told (z .ok .1 .1 .0 .1)) (ended (c .before .before .before .before .before .feed-after .ensures) (z .ensures) e)
+returns-2 c = λ e. ended (c .before .before .before .before .feed-after .ensures) (c .before .before .of-last-eleven .ensures) e
 
 pub last-field-spec : {M : Type 1} → statement M
 last-field-spec =
-    tie.close (tie.spec returns (search needs) slice-aggregate-of-last-eleven (search needs) (search needs) (search needs) (search needs) returns-2)
+    tie.close (tie.spec returns (omega arith) slice-aggregate-of-last-eleven (omega arith) (omega arith) (omega arith) returns-2)

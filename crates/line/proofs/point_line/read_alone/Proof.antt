@@ -11,7 +11,6 @@ use Rattle.line.specs.Readers.{judged}
 use Rattle.line.proofs.Answers as A
 use Rattle.line.proofs.AsWritten.{one}
 use Rattle.line.proofs.PointAnswers.{answer, answered, good, bad, faulty}
-use borrow.Author.Needs.{needs}
 use Rattle.line.proofs.point_line.read_alone.Statement.{statement}
 use Rattle.line.proofs.point_line.read_alone.Tie as tie
 
@@ -57,4 +56,4 @@ returns-4 c =
 pub read-alone-spec : {M : Type 1} → statement M
 read-alone-spec =
     tie.close
-    (tie.spec (search needs) (search needs) slice-aggregate-point-fields (search needs) (search needs) (search needs) returns returns-2 returns-3 returns-4)
+    (tie.spec (omega arith) (omega arith) slice-aggregate-point-fields (omega arith) (omega arith) (omega arith) returns returns-2 returns-3 returns-4)

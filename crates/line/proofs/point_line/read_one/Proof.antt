@@ -4,7 +4,7 @@ use lib.IntN.{ℤ}
 use mir.Facts.{toZ-ofZ}
 use Rattle.line.specs.declared.PlacedLine.{PlacedLine}
 use Rattle.line.proofs.AsWritten.{placed-end, one-whole}
-use borrow.Author.Needs.{needs}
+use native.Mathlib.Omega.{arith}
 use Rattle.line.proofs.point_line.read_one.Statement.{statement}
 use Rattle.line.proofs.point_line.read_one.Tie as tie
 
@@ -19,4 +19,4 @@ returns-2 : tie.Need-returns-2
 returns-2 c = rw (toZ-ofZ (c .before .before .before .before .before .fits .profile)) at (c .read-alone .ensures)
 
 pub read-one-spec : {M : Type 1} → statement M
-read-one-spec = tie.close (tie.spec (search needs) returns (search needs) returns-2)
+read-one-spec = tie.close (tie.spec (omega arith) returns (omega arith) returns-2)

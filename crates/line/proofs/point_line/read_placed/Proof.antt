@@ -14,7 +14,6 @@ use Rattle.line.specs.Readers.{judged}
 use Rattle.line.proofs.AsWritten.{placed, one-read}
 use Rattle.line.proofs.Lines.{rest, line-inside, line-at, line-of, line-past}
 use Rattle.line.proofs.PointAnswers.{answer, answered, good}
-use borrow.Author.Needs.{needs}
 use Rattle.line.proofs.point_line.read_placed.Statement.{statement}
 use Rattle.line.proofs.point_line.read_placed.Tie as tie
 
@@ -73,5 +72,5 @@ returns-3 c =
 pub read-placed-spec : {M : Type 1} → statement M
 read-placed-spec =
     tie.close
-    (tie.spec (search needs) (search needs) returns (search needs) (search needs) (search needs) (search needs) (search needs) add-t19 returns-2 slice-aggregate-line-end (search needs)
-    sub-read-alone part-read-alone-start part-read-alone-end (search needs) returns-3)
+    (tie.spec (omega arith) (omega arith) returns (omega arith) (omega arith) (omega arith) (omega arith) (omega arith) add-t19 returns-2 slice-aggregate-line-end (omega arith)
+    sub-read-alone part-read-alone-start part-read-alone-end (omega arith) returns-3)

@@ -2,6 +2,7 @@ pub mod WholeAnswers
 pub mod Arcs
 pub mod AtOrigin
 pub mod Codes
+pub mod Digits52
 pub mod Finite
 pub mod Formulas
 pub mod GeodeticFinite

@@ -1,7 +1,7 @@
--- What a longitude in its range is past 90 degrees: it fits an i64, and is an f64 exactly. Assumes nothing.
+-- What a longitude in its range is past 90 degrees: it fits an i64, is an f64 exactly, and is a number below 2^52. Assumes nothing.
 use mathlib.Core.Path.{_≡_, sym, ap, _∙_, subst}
 use mathlib.Core.Bool.{true}
-use Prim.Native.Nat.{_-_, _≤_}
+use Prim.Native.Nat.{_-_}
 use native.Mathlib.Omega.{arith}
 use lib.Dec.{T}
 use lib.IntN.{ℤ, pos, _-ℤ_}
@@ -9,8 +9,8 @@ use lib.Ieee.{binary64, inFloat}
 use mir.Syntax.{w64}
 use mir.Val.{SFits}
 use Rattle.bounds.proofs.Zero.{Upto}
-use Rattle.ranges.specs.Ranges.{longitudeRange}
-use Rattle.ranges.proofs.Ranges.{Natural, natural}
+use Rattle.ranges.specs.Ranges.{within, longitudeRange}
+use Rattle.ranges.proofs.Ranges.{Natural, natural, natural-holds}
 use Rattle.angle.proofs.Wholes.{in-float, fits, sub-pos}
 
 module _ (z : ℤ) (r : longitudeRange z ≡ true) where
@@ -28,3 +28,6 @@ module _ (z : ℤ) (r : longitudeRange z ≡ true) where
 
   pub past-float : T (inFloat binary64 (z -ℤ pos 32400000000))
   past-float = in-float 10800000000 (z -ℤ pos 32400000000) tt past-upto
+
+  pub past-small : within (pos 0) (z -ℤ pos 32400000000) (pos 4503599627370495) ≡ true
+  past-small = let h = longitude .high in rw past (natural-holds 0 (longitude .n - 32400000000) 4503599627370495 (omega arith) (omega arith))

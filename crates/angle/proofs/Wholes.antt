@@ -1,7 +1,7 @@
 -- What a passed range test says of a whole number: its size, and so that it fits an i64 and is an f64 exactly; and differences of natural numbers. Assumes nothing.
 use mathlib.Core.Path.{_≡_, refl, sym, ap, _∙_, subst}
 use mathlib.Core.Bool.{Bool, true, false, cond}
-use Prim.Native.Nat.{ℕ, zero, suc, _+_, _-_, _^_, _≤_, _<_}
+use Prim.Native.Nat.{ℕ, zero, suc, _+_, _-_, _^_, _≤_}
 use native.Mathlib.Nat.{le-trans, lt-of-le-of-lt, lt-of-lt-of-le}
 use native.Mathlib.Omega.{arith}
 use borrow.Author.Tests.{le-ltb}
@@ -11,7 +11,7 @@ use lib.Ieee.{binary64, inFloat}
 use mir.Syntax.{w64}
 use mir.Val.{SFits}
 use Rattle.ranges.specs.Ranges.{within}
-use Rattle.ranges.proofs.Ranges.{Natural, bounds, inside, sized}
+use Rattle.ranges.proofs.Ranges.{Natural, natural-holds, bounds, inside, sized}
 use Rattle.rounding.proofs.Zn as zn
 use Rattle.rounding.proofs.Zn.{_⊕_, _⊖_, le, unle}
 use Rattle.bounds.proofs.Zero.{Upto}
@@ -46,6 +46,10 @@ negative lo (negsuc n) hi e =
 
 pub natural-upto : {lo hi : ℕ} {z : ℤ} → Natural lo z hi → Upto hi z
 natural-upto {lo} {hi} {z} p = subst (λ (y : ℤ). Upto hi y) (sym (p .is)) (p .high)
+
+-- a natural number is in a wider range from 0
+pub widened : {lo hi : ℕ} {z : ℤ} (top : ℕ) → Natural lo z hi → hi ≤ top → within (pos 0) z (pos top) ≡ true
+widened top p h = let u = p .high in rw (p .is) (natural-holds 0 (p .n) top (omega arith) (omega arith))
 
 -- up to 2^53 it is an f64 exactly, and it fits an i64
 pub in-float : (b : ℕ) (z : ℤ) → T (leb b (2 ^ 53)) → Upto b z → T (inFloat binary64 z)

@@ -10,6 +10,7 @@ use crate::ellipsoids::ellipsoid;
 use crate::ellipsoids::prime_vertical;
 use crate::faults::angles_fault;
 use crate::units::radians;
+use crate::units::whole;
 use elementary::cosine;
 use elementary::sine;
 use rounding::Rounded;
@@ -23,8 +24,8 @@ fn position(e: Ellipsoid, latitude: i64, longitude: i64, height: i64) -> Cartesi
     requires { ⌜ (latitudeRange latitude ≡ true) × (longitudeRange longitude ≡ true) × (heightRange height ≡ true) ⌝ }
     ensures { λ r. ⌜ r ≡ cartesianAt e latitude longitude height ⌝ }
 {
-    let phi = radians(latitude as f64);
-    let w = radians((longitude - QUARTER) as f64);
+    let phi = radians(whole(latitude));
+    let w = radians(whole(longitude - QUARTER));
     let cos_l = -sine(w);
     let sin_l = cosine(w);
     let h = height as f64 / 100000.0;

@@ -17,13 +17,14 @@ use Rattle.chain.specs.declared.Point.{Point}
 use Rattle.chain.specs.declared.Step.{Step}
 use Rattle.chain.specs.declared.steps.Ready.{Ready}
 use Rattle.chain.specs.declared.steps.kept.rows.Row.{Row}
+use Rattle.chain.specs.declared.Arrival.{Arrival}
 use Rattle.chain.specs.declared.Answer.{Answer}
 use Rattle.chain.specs.declared.Answer.the-variants.{Converted, Refused}
 use Rattle.chain.specs.Faults.{inArea, sameRealization}
 use Rattle.chain.specs.Parts.{Parts, forwardBy, inverseBy}
 use Rattle.chain.specs.Convert.{at, left, onward, walk, answerOf, movedTo}
 use Rattle.chain.specs.Ready.{readyParts, Prepares}
-use Rattle.chain.specs.Prepared.{lengthIn, startIn, endIn, rowAt, rowsOf, preparedTests, carried, reachedWith, forwardPrepared, inversePrepared, Readied}
+use Rattle.chain.specs.Prepared.{lengthIn, startIn, endIn, rowAt, rowsOf, preparedTests, carried, reachedWith, forwardPrepared, arrivalOf, inversePrepared, Readied}
 use Rattle.chain.proofs.KeptRows.{more}
 
 -- ---- the walk over the rows is the walk over the steps
@@ -87,6 +88,41 @@ forward-label l p = go (first (preparedTests (lengthIn l) (startIn l) p)) _ (car
     go : (n : ℕ) (a : Answer) → labelIn (p .label) a ≡ p .label → labelIn (p .label) (unless n Refused a) ≡ p .label
     go zero a e = e
     go (suc n) a e = refl
+
+-- ---- what is refused has a number
+abbrev NumberedIn : Answer → Type 0
+NumberedIn (Converted q) = Unit {0}
+NumberedIn (Refused n) = n ≡ 0 → ⊥
+
+carried-numbered : (f : Parts → Position → Position) (p : Point) (end : Realization) (rs : List Row) (q : Position) → NumberedIn (carried f p end rs q)
+unfolding carried
+carried-numbered f p end [] q = tt
+carried-numbered f p end (r ∷ rs) q = go (r .good) (inArea (f (readyParts (r .ready)) q)) _ (carried-numbered f p end rs (f (readyParts (r .ready)) q))
+  where
+    go : (a b : Bool) (x : Answer) → NumberedIn x → NumberedIn (pick a (pick b x (Refused refusal.left)) (Refused refusal.range))
+    go true true x h = h
+    go true false x h = λ e. omega arith
+    go false b x h = λ e. omega arith
+
+forward-numbered : (l : List ℤ) (p : Point) → NumberedIn (forwardPrepared l p)
+unfolding forwardPrepared
+forward-numbered l p = go (first (preparedTests (lengthIn l) (startIn l) p)) _ (carried-numbered forwardBy p (reachedWith (lengthIn l) (p .realization) (endIn l)) (rowsOf l 1 (natAbs (lengthIn l))) (p .position))
+  where
+    go : (n : ℕ) (a : Answer) → NumberedIn a → NumberedIn (unless n Refused a)
+    go zero a h = h
+    go (suc n) a h = λ e. omega arith
+
+-- ---- an answer from where the point arrives
+pub arrival-refused : (p : Point) (a : Answer) {r : Arrival} → r ≡ arrivalOf p a → (r .refusal ≡ 0 → ⊥) → Refused (r .refusal) ≡ a
+arrival-refused p (Converted q) e h = absurd (h (ap (λ (r : Arrival). r .refusal) e))
+arrival-refused p (Refused n) e h = ap (λ (r : Arrival). Refused (r .refusal)) e
+
+pub arrival-converted : (l : List ℤ) (p : Point) {r : Arrival} → r ≡ arrivalOf p (forwardPrepared l p) → r .refusal ≡ 0 → Converted (movedTo p (r .realization) (r .position)) ≡ forwardPrepared l p
+arrival-converted l p {r} e h = go (forwardPrepared l p) e (forward-label l p) (forward-numbered l p)
+  where
+    go : (a : Answer) → r ≡ arrivalOf p a → labelIn (p .label) a ≡ p .label → NumberedIn a → Converted (movedTo p (r .realization) (r .position)) ≡ a
+    go (Converted q) e k n = rw (e, sym k)
+    go (Refused m) e k n = absurd (n (sym (ap (λ (r : Arrival). r .refusal) e) ∙ h))
 
 -- ---- a turn of the code's loops over the rows
 pub rows-on : (l : List ℤ) (i n : ℕ) → i < n → rowsOf l i (n - i) ≡ rowAt l i ∷ rowsOf l (i + 1) (n - (i + 1))

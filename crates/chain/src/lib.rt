@@ -24,6 +24,7 @@ pub use crate::steps::convert::inverse;
 pub use crate::steps::convert::join::join;
 pub use crate::steps::convert::lent::forward_by;
 pub use crate::steps::convert::lent::inverse_by;
+pub use crate::steps::kept::arrive_prepared;
 pub use crate::steps::kept::extend;
 pub use crate::steps::kept::forward_prepared;
 pub use crate::steps::kept::inverse_prepared;
@@ -128,6 +129,13 @@ pub struct ReadyChain {
     pub refusal: u8,
     pub profile: i64,
     pub numbers: Prepared,
+}
+
+// Where a chain leads a point, its label apart: the refusal number, 0 for none, and the realization and position there; where it is refused, those that it had.
+pub struct Arrival {
+    pub refusal: u8,
+    pub realization: Realization,
+    pub position: Position,
 }
 
 // What a conversion answers: the point, or the refusal number.

@@ -9,8 +9,9 @@ ghost use Rattle.refusal.specs.Order.{first};
 ghost use Rattle.ranges.specs.Ranges.{within};
 ghost use Rattle.chain.specs.Faults.{inArea};
 ghost use Rattle.chain.specs.Parts.{forwardBy, inverseBy};
-ghost use Rattle.chain.specs.Prepared.{startIn, endIn, rowsOf, extendTests, extendFault, startWith, firstRow, extendedBy, preparedTests, carried, reachedWith, forwardPrepared, inversePrepared};
+ghost use Rattle.chain.specs.Prepared.{startIn, endIn, rowsOf, extendTests, extendFault, startWith, firstRow, extendedBy, preparedTests, carried, reachedWith, forwardPrepared, arrivalOf, inversePrepared};
 use crate::Answer;
+use crate::Arrival;
 use crate::Point;
 use crate::Prepared;
 use crate::Realization;
@@ -22,25 +23,42 @@ use crate::steps::convert;
 
 mod rows;
 
+// Where a point is that does not get on: where it was.
+fn refused(point: Point, number: u8) -> Arrival
+    ensures { λ r. ⌜ r ≡ arrivalOf point (Answer.Refused number) ⌝ }
+{
+    let r = point.realization;
+    let p = point.position;
+    Arrival {
+        refusal: number,
+        realization: r,
+        position: p,
+    }
+}
+
 // Forward over the rows from the first step's on.
-fn carry(numbers: &Prepared, rows: usize, point: Point, end: Realization) -> Answer
+fn carry(numbers: &Prepared, rows: usize, point: Point, end: Realization) -> Arrival
     requires { ⌜ (1 ≤ rows) × (rows ≤ 9) × (inArea (point .position) ≡ true) ⌝ }
-    ensures { λ r. ⌜ r ≡ carried forwardBy point end (rowsOf (now (numbers .entry)) 1 (rows - 1)) (point .position) ⌝ }
+    ensures { λ r. ⌜ r ≡ arrivalOf point (carried forwardBy point end (rowsOf (now (numbers .entry)) 1 (rows - 1)) (point .position)) ⌝ }
 {
     let mut p = point.position;
     let mut i = 1;
     while i < rows {
         let moved = rows::forward_row(numbers, i, p);
         if !moved.good {
-            return Answer::Refused(refusal::RANGE);
+            return refused(point, refusal::RANGE);
         }
         p = moved.position;
         if !points::in_area(p) {
-            return Answer::Refused(refusal::LEFT);
+            return refused(point, refusal::LEFT);
         }
         i += 1;
     }
-    Answer::Converted(convert::moved_to(point, end, p))
+    Arrival {
+        refusal: 0,
+        realization: end,
+        position: p,
+    }
 }
 
 // Inverse over the rows, from the last step's down.
@@ -119,19 +137,34 @@ fn reached_with(n: i64, here: Realization, end: Realization) -> Realization
     end
 }
 
-// What is left of a forward conversion once a chain is prepared and the point has no fault of its own (`point_fault` with the chain's profile): the point at the chain's end in units of
-// 0.00001 m, or refused with 9, 10 or 11. Numbers that no chain gives are refused too: a length that is not 0 to 8 with 6, a row that no step gives with 2.
-pub fn forward_prepared(numbers: &Prepared, point: Point) -> Answer
-    ensures { λ r. ⌜ r ≡ forwardPrepared (now (numbers .entry)) point ⌝ }
+// What is left of a forward conversion once a chain is prepared and the point has no fault of its own (`point_fault` with the chain's profile): where the point
+// arrives, in units of 0.00001 m, or refused with 9, 10 or 11. Numbers that no chain gives are refused too: a length that is not 0 to 8 with 6, a row that no step
+// gives with 2.
+pub fn arrive_prepared(numbers: &Prepared, point: Point) -> Arrival
+    ensures { λ r. ⌜ r ≡ arrivalOf point (forwardPrepared (now (numbers .entry)) point) ⌝ }
 {
     let n = numbers[0];
     let f = prepared_fault(n, start_in(numbers), point);
     if f != 0 {
-        return Answer::Refused(f);
+        return refused(point, f);
     }
     let here = point.realization;
     let end = reached_with(n, here, end_in(numbers));
     carry(numbers, count(n) + 1, point, end)
+}
+
+// The same as an answer: the point at the chain's end, or refused as above.
+pub fn forward_prepared(numbers: &Prepared, point: Point) -> Answer
+    ensures { λ r. ⌜ r ≡ forwardPrepared (now (numbers .entry)) point ⌝ }
+{
+    let arrival = arrive_prepared(numbers, point);
+    let number = arrival.refusal;
+    if number != 0 {
+        return Answer::Refused(number);
+    }
+    let r = arrival.realization;
+    let p = arrival.position;
+    Answer::Converted(convert::moved_to(point, r, p))
 }
 
 // The same for an inverse conversion: the point at the chain's start, or refused as above.

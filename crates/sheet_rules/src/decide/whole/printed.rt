@@ -8,7 +8,6 @@ ghost use Rattle.sheet_rules.specs.State.{Holds, refusedIn, Shows, Shown
 use crate::Printed;
 use crate::State;
 use crate::decide::after;
-use chain::Answer;
 use chain::Point;
 use chain::Prepared;
 use line::PlacedLine;
@@ -51,18 +50,18 @@ fn print_converted(
     if state.refused {
         return print_refusal(state, refusal::EARLIER, 0, true, true, out, at);
     }
-    match chain::forward_prepared(numbers, point) {
-        Answer::Refused(number) => print_refusal(state, number, 0, false, true, out, at),
-        Answer::Converted(converted) => {
-            let realization = converted.realization;
-            let position = converted.position;
-            let past = line::write_moved(out, at, text, place, realization, position);
-            let next = after(state, false, true);
-            Printed {
-                at: past,
-                state: next,
-            }
-        }
+    let arrival = chain::arrive_prepared(numbers, point);
+    let number = arrival.refusal;
+    if number != 0 {
+        return print_refusal(state, number, 0, false, true, out, at);
+    }
+    let realization = arrival.realization;
+    let position = arrival.position;
+    let past = line::write_moved(out, at, text, place, realization, position);
+    let next = after(state, false, true);
+    Printed {
+        at: past,
+        state: next,
     }
 }
 

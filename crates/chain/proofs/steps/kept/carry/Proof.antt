@@ -9,11 +9,10 @@ use borrow.Author.Tests.{not-true, not-false}
 use lib.IntN.{ℤ}
 use Rattle.chain.specs.declared.Position.{Position}
 use Rattle.chain.specs.declared.steps.kept.rows.Row.{Row}
-use Rattle.chain.specs.declared.Answer.the-variants.{Converted}
 use Rattle.chain.specs.Faults.{inArea}
 use Rattle.chain.specs.Parts.{forwardBy}
 use Rattle.chain.specs.Ready.{readyParts}
-use Rattle.chain.specs.Prepared.{rowAt, rowsOf, carried}
+use Rattle.chain.specs.Prepared.{rowAt, rowsOf, carried, arrivalOf}
 use Rattle.chain.proofs.Within.{area-small}
 use Rattle.chain.proofs.KeptTurns.{rows-on, no-rows, turn-range, turn-left, turn-on, turn-end}
 use Rattle.chain.proofs.steps.kept.carry.Statement.{statement}
@@ -59,8 +58,10 @@ module _ (c : tie.After-forward-row Inv-loop μ-loop) where
 
 returns : tie.Need-returns Inv-loop μ-loop
 returns c =
-    let a = c .before .before in
-    sym (sym (whole a) ∙ turn-range forwardBy (s a .args .point) (s a .args .end) _ (after a) (rowAt (l a) (i a)) (is a) (q a) (good a false (not-true _ (c .if1 .taken))))
+    let a = c .before .before .before in
+    c .refused .ensures
+    ∙ ap (arrivalOf (s a .args .point))
+    (sym (turn-range forwardBy (s a .args .point) (s a .args .end) _ (after a) (rowAt (l a) (i a)) (is a) (q a) (good a false (not-true _ (c .before .if1 .taken)))) ∙ whole a)
 
 in-area-requires : tie.Need-in-area-requires Inv-loop μ-loop
 in-area-requires c κs = tt
@@ -84,8 +85,11 @@ module _ (c : tie.After-in-area Inv-loop μ-loop) where
 
 returns-2 : tie.Need-returns-2 Inv-loop μ-loop
 returns-2 c =
-    let d = c .before in
-    sym (sym (whole (a d)) ∙ turn-left forwardBy (s (a d) .args .point) (s (a d) .args .end) _ (after (a d)) (rowAt (l (a d)) (i (a d))) (is (a d)) (q (a d)) (sound d) (area d false (not-true _ (c .if2 .taken))))
+    let d = c .before .before in
+    c .refused2 .ensures
+    ∙ ap (arrivalOf (s (a d) .args .point))
+    (sym (turn-left forwardBy (s (a d) .args .point) (s (a d) .args .end) _ (after (a d)) (rowAt (l (a d)) (i (a d))) (is (a d)) (q (a d)) (sound d) (area d false (not-true _ (c .before .if2 .taken))))
+    ∙ whole (a d))
 
 loop-again : tie.Need-loop-again Inv-loop μ-loop
 loop-again c =
@@ -98,16 +102,14 @@ loop-again c =
           ∙ sym (turn-on forwardBy (s (a d) .args .point) (s (a d) .args .end) _ (after (a d)) (rowAt (l (a d)) (i (a d))) (is (a d)) (q (a d)) (sound d) h) ∙ whole (a d),
     )
 
-moved-to-requires : tie.Need-moved-to-requires Inv-loop μ-loop
-moved-to-requires c κs = tt
-
 returns-3 : tie.Need-returns-3 Inv-loop μ-loop
 returns-3 c =
-    let s = c .before .before .before .before in
-    let k = c .before .before .loop in
-    let t = c .before .loop-test .left in
-    ap Converted (c .moved-to .ensures) ∙ sym (turn-end forwardBy (s .args .point) (s .args .end) (k .p))
-    ∙ ap (λ (rs : List Row). carried forwardBy (s .args .point) (s .args .end) rs (k .p)) (sym (no-rows (s .args .numbers .now) (k .i) (s .args .rows) t)) ∙ k .inv .3
+    let s = c .before .before .before in
+    let k = c .before .loop in
+    let t = c .loop-test .left in
+    ap (arrivalOf (s .args .point))
+    (sym (turn-end forwardBy (s .args .point) (s .args .end) (k .p))
+    ∙ ap (λ (rs : List Row). carried forwardBy (s .args .point) (s .args .end) rs (k .p)) (sym (no-rows (s .args .numbers .now) (k .i) (s .args .rows) t)) ∙ k .inv .3)
 
 pub carry-spec : {M : Type 1} → statement M
-carry-spec = tie.close (tie.spec Inv-loop μ-loop loop-holds forward-row-requires returns in-area-requires returns-2 (search needs) (search needs) loop-again moved-to-requires returns-3)
+carry-spec = tie.close (tie.spec Inv-loop μ-loop loop-holds forward-row-requires (search needs) returns in-area-requires (search needs) returns-2 (search needs) (search needs) loop-again returns-3)

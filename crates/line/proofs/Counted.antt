@@ -2,7 +2,6 @@
 use Prim.Native.Nat.{ℕ, _+_, _*_, _-_, _≤_, _<_}
 use mathlib.Core.Path.{_≡_, refl, ap, _∙_}
 use mathlib.Core.List.{List, [], _∷_}
-use mathlib.Core.Bool.{Bool, true, false, not}
 use lib.IntN.{pos, negℤ}
 use lib.ListN.{length, getD}
 use native.Mathlib.Decide.{decLt, ℕ-discrete}
@@ -21,16 +20,6 @@ single s p a b =
       low = λ i h. (let q : p ≡ p + i = omega arith in rw (← q) a);
       high = λ i h. (let q : p ≡ p + i = omega arith in rw (← q) b);
     }
-
--- ---- two
-two-say : (s : List ℕ) (p : ℕ) → p + 2 ≤ length s → Digits 2 s p → Say 2 100 s p (getD s p 0 * 10 + getD s (p + 1) 0 - 528)
-two-say s p h d =
-    let l : 48 ≤ getD s p 0 = rw add-zero at (d .low 0 (omega arith)) in
-    let e : (getD s p 0 - 48) * 10 + (getD s (p + 1) 0 - 48) ≡ getD s p 0 * 10 + getD s (p + 1) 0 - 528 = omega (arith, l, d .low 1 (omega arith)) in
-    rw e at (L.both 10 10 (L.digit s p (omega arith) (L.sooner 1 1 d)) (L.digit s (p + 1) (omega arith) (L.later 1 1 d)))
-
-pub double : (s : List ℕ) (p : ℕ) → 48 ≤ getD s p 0 → getD s p 0 ≤ 57 → 48 ≤ getD s (p + 1) 0 → getD s (p + 1) 0 ≤ 57 → Digits 2 s p
-double s p a b c d = L.joined 1 1 s p (single s p a b) (single s (p + 1) c d)
 
 -- ---- a whole field
 pub first-low : {k : ℕ} {s : List ℕ} {p : ℕ} → Alone k s p → 0 < k → 48 ≤ getD s p 0
@@ -79,12 +68,6 @@ several : (k scale : ℕ) {s : List ℕ} {at v next : ℕ} → Say k scale s at 
 several k scale {s} {at} {v} {next} y a p g c z =
     let lo = first-low a p in
     N.above (omega (arith, a .inside)) (unsigned k scale y a p g c z) (λ q. omega arith)
-
-pub two-digits : {s : List ℕ} {at next : ℕ} → Alone 2 s at → Led s at → Got s itself empty (at + 2) tt next
-    → Got s cappedZ numberOf at (pos (getD s at 0 * 10 + getD s (at + 1) 0 - 528)) next
-two-digits {s} {at} {next} a l g =
-    let y = two-say s at (omega (arith, a .inside)) (a .digits) in
-    several 2 100 y a (omega arith) g (omega (arith, y .less)) l
 
 -- ---- a field whose digits were counted, and where the next one begins
 after : {k : ℕ} {s : List ℕ} {at : ℕ} (next : ℕ) → Alone k s at → next ≡ at + k + 1 → Got s itself empty (at + k) tt next

@@ -27,6 +27,7 @@ pub mod Ahead
 pub mod Counted
 pub mod Words
 pub mod Sums
+pub mod Few
 pub mod Unread
 pub mod InARow
 pub mod AsWritten

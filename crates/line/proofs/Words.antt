@@ -4,7 +4,7 @@ use mathlib.Core.Path.{_≡_, refl, sym, ap, _∙_}
 use mathlib.Core.List.{List}
 use lib.Bits.{bitAnd, bitOr, bitXor, and-block, and-mask, and-high, and-le-l, and-le-r, or-add-and, xor-block, xor-lt, xor-zero-r, xor-add-and}
 use lib.Dec.{ltb}
-use lib.ListN.{length, getD}
+use lib.ListN.{getD}
 use native.Mathlib.Decide.{decLt}
 use native.Mathlib.Nat.{add-zero, pow-suc}
 use native.Mathlib.Omega.{arith}
@@ -26,7 +26,7 @@ unfolding together
 word-is s p = let e = add-zero p in rw e (omega arith)
 
 -- numbers below 256, as far as k of them
-abbrev Bytes : ℕ → (ℕ → ℕ) → Type 0
+abbrev pub Bytes : ℕ → (ℕ → ℕ) → Type 0
 Bytes k f = (i : ℕ) → i < k → f i < 256
 
 further : {k : ℕ} {f : ℕ → ℕ} → Bytes (suc k) f → Bytes k (λ i. f (suc i))
@@ -58,7 +58,7 @@ none-each zero f e i h = absurd (omega arith)
 none-each (suc k) f e zero h = omega arith
 none-each (suc k) f e (suc i) h = none-each k (λ i. f (suc i)) (omega arith) i (omega arith)
 
-below : (k : ℕ) (f : ℕ → ℕ) → Bytes k f → together k f < 256 ^ k
+pub below : (k : ℕ) (f : ℕ → ℕ) → Bytes k f → together k f < 256 ^ k
 unfolding together
 below zero f b = omega arith
 below (suc k) f b =
@@ -75,37 +75,37 @@ same-each (suc k) f g e = let q = same-each k (λ i. f (suc i)) (λ i. g (suc i)
 pub none-set : (a b : ℕ) → bitOr a b ≡ 0 → (a ≡ 0) × (b ≡ 0)
 none-set a b e = (omega (arith, or-add-and a b, and-le-l a b, and-le-r a b), omega (arith, or-add-and a b, and-le-l a b, and-le-r a b))
 
--- ---- eight bytes, without the bits of others, that are clear
-abbrev apart : (ℕ → ℕ) → (ℕ → ℕ) → ℕ → ℕ
-apart f t i = bitXor (f i) (t i)
-
+-- ---- eight bytes that are clear
 abbrev ClearEach : (ℕ → ℕ) → (ℕ → ℕ) → Type 0
 ClearEach g m = (i : ℕ) → i < 8 → bitAnd (g i) (m i) ≡ 0
 
-record Parted (f t m x : ℕ → ℕ) : Type 0 where
-  small : Bytes 8 (apart f t)
-  is : bitXor (together 8 f) (together 8 t) ≡ together 8 (apart f t)
-  plain : ClearEach (apart f t) m
-  raised : Bytes 8 (λ i. apart f t i + x i) → ClearEach (λ i. apart f t i + x i) m
+record Cleared (g m x : ℕ → ℕ) : Type 0 where
+  plain : ClearEach g m
+  raised : Bytes 8 (λ i. g i + x i) → ClearEach (λ i. g i + x i) m
 
-parted : (f t m x : ℕ → ℕ) → Bytes 8 f → Bytes 8 t → Bytes 8 m → Clear (together 8 m) (together 8 x) (bitXor (together 8 f) (together 8 t)) → Parted f t m x
-parted f t m x bf bt bm c = record { small = small; is = is; plain = each (apart f t) small (sym is) (c .plain); raised = raised }
+cleared : (g m x : ℕ → ℕ) → Bytes 8 g → Bytes 8 m → Clear (together 8 m) (together 8 x) (together 8 g) → Cleared g m x
+cleared g m x bg bm c = record { plain = each g bg refl (c .plain); raised = raised }
   where
-    small : Bytes 8 (apart f t)
-    small i h = xor-lt 8 (f i) (t i) (bf i h) (bt i h)
+    each : (f : ℕ → ℕ) {n : ℕ} → Bytes 8 f → together 8 f ≡ n → bitAnd n (together 8 m) ≡ 0 → ClearEach f m
+    each f b e z = none-each 8 (λ i. bitAnd (f i) (m i)) (sym (and-each 8 f m b bm) ∙ ap (λ (n : ℕ). bitAnd n (together 8 m)) e ∙ z)
 
-    is : bitXor (together 8 f) (together 8 t) ≡ together 8 (apart f t)
-    is = xor-each 8 f t bf bt
-
-    each : (g : ℕ → ℕ) {n : ℕ} → Bytes 8 g → together 8 g ≡ n → bitAnd n (together 8 m) ≡ 0 → ClearEach g m
-    each g b e z = none-each 8 (λ i. bitAnd (g i) (m i)) (sym (and-each 8 g m b bm) ∙ ap (λ (n : ℕ). bitAnd n (together 8 m)) e ∙ z)
-
-    raised : Bytes 8 (λ i. apart f t i + x i) → ClearEach (λ i. apart f t i + x i) m
+    raised : Bytes 8 (λ i. g i + x i) → ClearEach (λ i. g i + x i) m
     raised b =
-        let e = ap (λ (n : ℕ). n + together 8 x) is ∙ add-each 8 (apart f t) x in
-        let l = below 8 (λ i. apart f t i + x i) b in
-        let q : together 8 (λ i. apart f t i + x i) ≡ (bitXor (together 8 f) (together 8 t) + together 8 x) % 2 ^ 64 = omega arith in
-        each (λ i. apart f t i + x i) b q (c .raised)
+        let e = add-each 8 g x in
+        let l = below 8 (λ i. g i + x i) b in
+        let q : together 8 (λ i. g i + x i) ≡ (together 8 g + together 8 x) % 2 ^ 64 = omega arith in
+        each (λ i. g i + x i) b q (c .raised)
+
+-- the bytes from p on without the bits of others
+abbrev pub apart : List ℕ → ℕ → (ℕ → ℕ) → ℕ → ℕ
+apart s p t i = bitXor (byteFrom s p i) (t i)
+
+module _ {s : List ℕ} {p w : ℕ} (d : Word s p w) (t : ℕ → ℕ) (b : Bytes 8 t) where
+  pub apart-small : Bytes 8 (apart s p t)
+  apart-small i h = xor-lt 8 (byteFrom s p i) (t i) (d .small (p + i)) (b i h)
+
+  pub apart-is : bitXor w (together 8 t) ≡ together 8 (apart s p t)
+  apart-is = ap (λ (n : ℕ). bitXor n (together 8 t)) (d .is) ∙ xor-each 8 (byteFrom s p) t (λ i h. d .small (p + i)) b
 
 -- ---- one byte
 under : (b : ℕ) → b < 256 → bitAnd b 240 ≡ 0 → b < 16
@@ -134,7 +134,7 @@ pub record Digit (b : ℕ) : Type 0 where
   pub high : b ≤ 57
   pub is : bitXor b 48 ≡ b - 48
 
-digit-byte : (b : ℕ) → bitXor b 48 ≤ 9 → Digit b
+pub digit-byte : (b : ℕ) → bitXor b 48 ≤ 9 → Digit b
 digit-byte b h =
     let e = apart-byte b in
     let z : bitXor (b / 16) 3 ≡ 0 = omega arith in
@@ -142,57 +142,62 @@ digit-byte b h =
     record { low = omega arith; high = omega arith; is = omega arith }
 
 -- below 16, and still with 6 more
-nine-byte : (b : ℕ) → bitXor b 48 < 16 → bitAnd (bitXor b 48 + 6) 240 ≡ 0 → Digit b
-nine-byte b l e = digit-byte b (omega (arith, under (bitXor b 48 + 6) (omega arith) e))
+nine : (n : ℕ) → n < 16 → bitAnd (n + 6) 240 ≡ 0 → n ≤ 9
+nine n l e = omega (arith, under (n + 6) (omega arith) e)
+
+pub nine-each : (g : ℕ → ℕ) → Bytes 8 g → Clear higherHalves sixes (together 8 g) → (i : ℕ) → i < 8 → g i ≤ 9
+unfolding together
+nine-each g b c i h = nine (g i) (u i h) (k .raised (λ j l. omega (arith, u j l)) i h)
+  where
+    k : Cleared g (λ i. 240) (λ i. 6)
+    k = cleared g (λ i. 240) (λ i. 6) b (λ i h. omega arith) c
+
+    u : (i : ℕ) → i < 8 → g i < 16
+    u i h = under (g i) (b i h) (k .plain i h)
 
 tab-byte : (b : ℕ) → bitXor b 9 ≡ 0 → b ≡ 9
 tab-byte b e = omega (arith, xor-add-and b 9, and-le-l b 9, and-le-r b 9)
 
--- ---- eight digits
--- the digits from p on, each in a byte of d
-pub record Spelt (s : List ℕ) (p d : ℕ) : Type 0 where
-  pub digits : Digits 8 s p
-  pub is : d ≡ together 8 (λ i. byteFrom s p i - 48)
-
-pub spelt : {s : List ℕ} {p w : ℕ} → Word s p w → Clear higherHalves sixes (bitXor w 3472328296227680304) → Spelt s p (bitXor w 3472328296227680304)
-unfolding together
-spelt {s} {p} {w} d c =
-    let f = byteFrom s p in
-    let k = parted f (λ i. 48) (λ i. 240) (λ i. 6) (λ i h. d .small (p + i)) (λ i h. omega arith) (λ i h. omega arith) (rw (d .is) at c) in
-    let u : (i : ℕ) → i < 8 → bitXor (byteFrom s p i) 48 < 16 = λ i h. under (bitXor (byteFrom s p i) 48) (k .small i h) (k .plain i h) in
-    let n : (i : ℕ) → i < 8 → Digit (byteFrom s p i) = λ i h. nine-byte (byteFrom s p i) (u i h) (k .raised (λ j l. omega (arith, u j l)) i h) in
-    record {
-      digits = record { low = λ i h. n i h .low; high = λ i h. n i h .high };
-      is = ap (λ (n : ℕ). bitXor n 3472328296227680304) (d .is) ∙ k .is ∙ same-each 8 (apart f (λ i. 48)) (λ i. byteFrom s p i - 48) (λ i h. n i h .is);
-    }
-
--- ---- seven digits
--- a 0 in front
+-- ---- digits behind zeros
+-- a 0 in front, and several
 unfoldable pub after : (ℕ → ℕ) → ℕ → ℕ
 after g zero = 0
 after g (suc i) = g i
 
-pub record Seven (s : List ℕ) (p d : ℕ) : Type 0 where
-  pub digits : Digits 7 s p
-  pub is : sevenAfterZero d ≡ together 8 (after (λ i. byteFrom s p i - 48))
+unfoldable pub behind : ℕ → (ℕ → ℕ) → ℕ → ℕ
+behind zero g = g
+behind (suc j) g = after (behind j g)
+
+abbrev pub digitFrom : List ℕ → ℕ → ℕ → ℕ
+digitFrom s p i = byteFrom s p i - 48
+
+-- the k digits from p on, each in a byte of e, behind as many zeros as make them eight
+pub record Spelt (k : ℕ) (s : List ℕ) (p e : ℕ) : Type 0 where
+  pub most : k ≤ 8
+  pub digits : Digits k s p
+  pub is : e ≡ together 8 (behind (8 - k) (digitFrom s p))
 
 top-off : (x y : ℕ) → y < 72057594037927936 → (x * 72057594037927936 + y) % 72057594037927936 ≡ y
 top-off x y h = omega arith
 
-last-off : (g : ℕ → ℕ) → ((i : ℕ) → i < 7 → g i < 256) → sevenAfterZero (together 8 g) ≡ together 8 (after g)
+pub last-off : (g : ℕ → ℕ) → ((i : ℕ) → i < 7 → g i < 256) → sevenAfterZero (together 8 g) ≡ together 8 (after g)
 unfolding together after
 last-off g b =
     let e : together 8 g ≡ g 7 * 72057594037927936 + together 7 g = omega arith in
     let q = top-off (g 7) (together 7 g) (below 7 g b) in
     ap (λ (n : ℕ). n % 72057594037927936 * 256) e ∙ ap (λ (n : ℕ). n * 256) q ∙ sym (add-zero (together 7 g * 256))
 
-pub first-seven : {s : List ℕ} {p d : ℕ} → Spelt s p d → Seven s p d
+-- the first seven of eight
+pub first-seven : {s : List ℕ} {p d : ℕ} → Spelt 8 s p d → Spelt 7 s p (sevenAfterZero d)
+unfolding behind
 first-seven {s} {p} {d} y =
     record {
+      most = omega arith;
       digits = record { low = λ i h. y .digits .low i (omega arith); high = λ i h. y .digits .high i (omega arith) };
-      is = ap sevenAfterZero (y .is) ∙ last-off (λ i. byteFrom s p i - 48) (λ i h. omega (arith, y .digits .high i (omega arith)));
+      is = ap sevenAfterZero (y .is) ∙ last-off (digitFrom s p) (λ i h. omega (arith, y .digits .high i (omega arith)));
     }
 
+-- ---- seven digits, and a tab
 -- a number seven times, and another
 abbrev then-last : ℕ → ℕ → ℕ → ℕ
 then-last a b i = pick (ltb i 7) a b
@@ -207,51 +212,60 @@ then-small a b ha hb i h = go (decLt i 7)
     go (yes l) = rw (lt-ltb i 7 l) ha
     go (no l) = rw (le-ltb i 7 (omega arith)) hb
 
--- with a tab after them
 module _ {s : List ℕ} {p w : ℕ} (d : Word s p w) (c : Clear sevenHalvesAndByte sevenSixes (bitXor w 662082128748490800)) where
   abbrev bytes : ℕ → ℕ
   bytes = byteFrom s p
 
-  parts : Parted bytes (then-last 48 9) (then-last 240 255) (then-last 6 0)
+  abbrev parts : ℕ → ℕ
+  parts = apart s p (then-last 48 9)
+
+  small : Bytes 8 parts
+  small = apart-small d (then-last 48 9) (then-small 48 9 (omega arith) (omega arith))
+
+  parts-is : bitXor w 662082128748490800 ≡ together 8 parts
   unfolding together
-  parts =
-      parted bytes (then-last 48 9) (then-last 240 255) (then-last 6 0) (λ i h. d .small (p + i))
-      (then-small 48 9 (omega arith) (omega arith)) (then-small 240 255 (omega arith) (omega arith)) (rw (d .is) at c)
+  parts-is = apart-is d (then-last 48 9) (then-small 48 9 (omega arith) (omega arith))
+
+  clear : Cleared parts (then-last 240 255) (then-last 6 0)
+  unfolding together
+  clear = cleared parts (then-last 240 255) (then-last 6 0) small (then-small 240 255 (omega arith) (omega arith)) (rw parts-is at c)
 
   under-each : (i : ℕ) → i < 7 → bitXor (bytes i) 48 < 16
   under-each i h =
-      let b = rw (early 48 9 i h) at (parts .small i (omega arith)) in
-      under (bitXor (bytes i) 48) b (rw (early 48 9 i h, early 240 255 i h) at (parts .plain i (omega arith)))
+      let b = rw (early 48 9 i h) at (small i (omega arith)) in
+      under (bitXor (bytes i) 48) b (rw (early 48 9 i h, early 240 255 i h) at (clear .plain i (omega arith)))
 
   last-none : bitXor (bytes 7) 9 ≡ 0
   last-none =
-      let l : bitXor (bytes 7) 9 < 256 = parts .small 7 (omega arith) in
-      let e : bitXor (bytes 7) 9 % 256 ≡ 0 = sym (and-mask (bitXor (bytes 7) 9) 8) ∙ parts .plain 7 (omega arith) in
+      let l : bitXor (bytes 7) 9 < 256 = small 7 (omega arith) in
+      let e : bitXor (bytes 7) 9 % 256 ≡ 0 = sym (and-mask (bitXor (bytes 7) 9) 8) ∙ clear .plain 7 (omega arith) in
       omega arith
 
   pub tab-last : getD s (p + 7) 0 ≡ 9
   tab-last = tab-byte (bytes 7) last-none
 
-  room : (i : ℕ) → i < 8 → apart bytes (then-last 48 9) i + then-last 6 0 i < 256
+  room : (i : ℕ) → i < 8 → parts i + then-last 6 0 i < 256
   room i h = go (decLt i 7)
     where
-      go : Dec (i < 7) → apart bytes (then-last 48 9) i + then-last 6 0 i < 256
+      go : Dec (i < 7) → parts i + then-last 6 0 i < 256
       go (yes l) = rw (early 48 9 i l, early 6 0 i l) (omega (arith, under-each i l))
       go (no l) =
           let e : i ≡ 7 = omega arith in
           rw e (omega (arith, last-none))
 
   each : (i : ℕ) → i < 7 → Digit (bytes i)
-  each i h = nine-byte (bytes i) (under-each i h) (rw (early 48 9 i h, early 240 255 i h, early 6 0 i h) at (parts .raised room i (omega arith)))
+  each i h =
+      digit-byte (bytes i)
+      (nine (bitXor (bytes i) 48) (under-each i h) (rw (early 48 9 i h, early 240 255 i h, early 6 0 i h) at (clear .raised room i (omega arith))))
 
-  seven-is : sevenAfterZero (bitXor w 662082128748490800) ≡ together 8 (after (λ i. byteFrom s p i - 48))
+  seven-is : sevenAfterZero (bitXor w 662082128748490800) ≡ together 8 (after (digitFrom s p))
   unfolding together after
   seven-is =
-      ap (λ (n : ℕ). sevenAfterZero (bitXor n 662082128748490800)) (d .is)
-      ∙ ap sevenAfterZero (parts .is)
-      ∙ last-off (apart bytes (then-last 48 9)) (λ i h. parts .small i (omega arith))
+      ap sevenAfterZero parts-is
+      ∙ last-off parts (λ i h. small i (omega arith))
       ∙ ap (λ (n : ℕ). n * 256 + 0)
-      (same-each 7 (apart bytes (then-last 48 9)) (λ i. byteFrom s p i - 48) (λ i h. ap (bitXor (bytes i)) (early 48 9 i h) ∙ each i h .is))
+      (same-each 7 parts (digitFrom s p) (λ i h. ap (bitXor (bytes i)) (early 48 9 i h) ∙ each i h .is))
 
-  pub seven-and-tab : Seven s p (bitXor w 662082128748490800)
-  seven-and-tab = record { digits = record { low = λ i h. each i h .low; high = λ i h. each i h .high }; is = seven-is }
+  pub seven-and-tab : Spelt 7 s p (sevenAfterZero (bitXor w 662082128748490800))
+  unfolding behind
+  seven-and-tab = record { most = omega arith; digits = record { low = λ i h. each i h .low; high = λ i h. each i h .high }; is = seven-is }

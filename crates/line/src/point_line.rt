@@ -7,12 +7,12 @@ use crate::field::body_end;
 use crate::field::letter;
 use crate::name::name;
 use crate::number::Integer;
+use crate::number::counted::of_few;
 use crate::number::counted::of_last_eleven;
 use crate::number::counted::of_minus_twelve;
 use crate::number::counted::of_one;
 use crate::number::counted::of_seven;
 use crate::number::counted::of_twelve;
-use crate::number::counted::of_two;
 use crate::number::number;
 use crate::second_look::fault_of;
 ghost use mathlib.Core.Path.{_≡_};
@@ -174,7 +174,7 @@ fn first_line(s: &[u8]) -> FirstLine
 {
     let at = letter(s, 0, b'P');
     let named = name(s, at);
-    let issue = of_two(s, named.next);
+    let issue = of_few(s, named.next);
     let order = of_one(s, issue.next);
     let place = order.next;
     let datum = of_one(s, place);

@@ -11,6 +11,7 @@ use crate::number::number;
 use crate::number::wide;
 use crate::number::words::ZEROS;
 use crate::number::words::ZEROS_AND_TAB;
+use crate::number::words::digits_before;
 use crate::number::words::eight;
 use crate::number::words::last_four;
 use crate::number::words::other_eight;
@@ -19,10 +20,10 @@ use crate::number::words::seven;
 use crate::number::words::word;
 ghost use mathlib.Core.Path.{_≡_};
 ghost use mathlib.Core.Bool.{true};
-ghost use Prim.Native.Nat.{_+_, _≤_};
+ghost use Prim.Native.Nat.{_+_, _^_, _≤_, _<_};
 ghost use lib.ListN.{length};
 ghost use Rattle.line.specs.Number.{numberOf};
-ghost use Rattle.line.specs.Reading.{Got, cappedZ, Alone, Led, Counted};
+ghost use Rattle.line.specs.Reading.{Got, cappedZ, Alone, Counted};
 
 // What digits say of which the first is no 0, at the least.
 const LEAST_OF_SEVEN: u64 = 1000000;
@@ -49,33 +50,6 @@ fn one_alone(s: &[u8], at: usize) -> bool
     b <= NINE
 }
 
-// Two digits with no 0 in front, and a tab?
-fn two_alone(s: &[u8], at: usize) -> bool
-    ensures { λ r. ⌜ (r ≡ true → Alone 2 (now (s .entry)) at × Led (now (s .entry)) at) ⌝ }
-{
-    if s.len() < 3 {
-        return false;
-    }
-    if s.len() - 3 < at {
-        return false;
-    }
-    if s[at + 2] != TAB {
-        return false;
-    }
-    let a = s[at];
-    if a <= ZERO {
-        return false;
-    }
-    if NINE < a {
-        return false;
-    }
-    let b = s[at + 1];
-    if b < ZERO {
-        return false;
-    }
-    b <= NINE
-}
-
 // The number in the field at `at`: an order or a datum, which mostly have one digit.
 pub fn of_one(s: &[u8], at: usize) -> Integer
     ensures { λ r. ⌜ Got (now (s .entry)) cappedZ numberOf at (r .value) (r .next) ⌝ }
@@ -87,19 +61,6 @@ pub fn of_one(s: &[u8], at: usize) -> Integer
         };
     }
     number(s, at)
-}
-
-// The number in the field at `at`: an issue, which mostly has two digits or one.
-pub fn of_two(s: &[u8], at: usize) -> Integer
-    ensures { λ r. ⌜ Got (now (s .entry)) cappedZ numberOf at (r .value) (r .next) ⌝ }
-{
-    if two_alone(s, at) {
-        return Integer {
-            value: above_zero(wide(s[at]) * 10 + wide(s[at + 1]) - 528),
-            next: closed(s, at + 2),
-        };
-    }
-    of_one(s, at)
 }
 
 // Are there k bytes from `at` on?
@@ -175,6 +136,50 @@ fn eleven(s: &[u8], at: usize) -> Run
         good: LEAST_OF_SEVEN <= v,
         value: v * 10000 + last_four(e),
     }
+}
+
+// How many digits stand before a tab, one to seven of which the first is no 0, and what they say: a count of 0 where the field is another.
+struct Few {
+    count: usize,
+    value: u64,
+}
+
+// One digit to seven, the first no 0, and a tab. They are moved up until the last is the eighth byte, and are eight digits then, with zeros in front.
+fn few_alone(s: &[u8], at: usize) -> Few
+    requires { ⌜ at + 8 ≤ length (now s) ⌝ }
+    ensures { λ r. ⌜ r .count ≤ 7 ⌝ }
+    ensures { λ r. ⌜ (0 < r .count → Alone (r .count) (now (s .entry)) at × Counted (r .count) (10 ^ (r .count)) (now (s .entry)) at (r .value)) ⌝ }
+{
+    let d = word(s, at) ^ ZEROS;
+    let k = digits_before(d);
+    if (k == 0) | (k == 8) {
+        return Few { count: 0, value: 0 };
+    }
+    let e = d << (64 - 8 * k);
+    let count = k as usize;
+    if other_eight(e) | (d % 256 == 0) | (s[at + count] != TAB) {
+        return Few { count: 0, value: 0 };
+    }
+    Few {
+        count,
+        value: eight(e),
+    }
+}
+
+// The number in the field at `at`: an issue, which has one digit to five.
+pub fn of_few(s: &[u8], at: usize) -> Integer
+    ensures { λ r. ⌜ Got (now (s .entry)) cappedZ numberOf at (r .value) (r .next) ⌝ }
+{
+    if reaches(s, at, 8) {
+        let v = few_alone(s, at);
+        if 0 < v.count {
+            return Integer {
+                value: above_zero(v.value),
+                next: at + v.count + 1,
+            };
+        }
+    }
+    number(s, at)
 }
 
 // The number in the field at `at`: an epoch, which mostly has seven digits.

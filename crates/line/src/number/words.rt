@@ -46,6 +46,15 @@ fn other(d: u64, mask: u64, more: u64) -> bool
     (d & mask) | (std::num::wrapping_add_u64(d, more) & mask) != 0
 }
 
+// Of eight bytes without the bits of the digit 0: how many were digits before one that was none, and 8 where all were. It is a guess, of which nothing
+// is told but that it is 8 at the most: who takes so many for digits tests them.
+pub fn digits_before(d: u64) -> u64
+    ensures { λ r. ⌜ r ≤ 8 ⌝ }
+{
+    let other = (d | std::num::wrapping_add_u64(d, SIXES)) & HIGHER_HALVES;
+    (u64::trailing_zeros(other) / 8) as u64
+}
+
 // Of eight bytes without the bits of the digit 0: was one of them no digit?
 pub fn other_eight(d: u64) -> bool
     ensures { λ r. ⌜ (r ≡ false → Clear higherHalves sixes d) ⌝ }

@@ -4,12 +4,12 @@ use native.Mathlib.Omega.{arith}
 use borrow.Author.Tests.{leb-true}
 use Rattle.line.proofs.Capped.{never}
 use Rattle.line.proofs.Words as W
-use Rattle.line.proofs.Sums as S
+use Rattle.line.proofs.Few as F
 use Rattle.line.proofs.number.counted.seven_alone.Statement.{statement}
 use Rattle.line.proofs.number.counted.seven_alone.Tie as tie
 
 seven-requires : tie.Need-seven-requires
-seven-requires c κs = S.seven-small (W.seven-and-tab (c .before .before .word .ensures) (c .before .other-seven .ensures (c .if1 .left)))
+seven-requires c κs = F.small (W.seven-and-tab (c .before .before .word .ensures) (c .before .other-seven .ensures (c .if1 .left)))
 
 returns-2 : tie.Need-returns-2
 returns-2 c = λ e. (
@@ -19,7 +19,7 @@ returns-2 c = λ e. (
     let p = c .before .before .before .before .before .pre in
     let l : 1000000 ≤ c .seven .result = leb-true _ _ e in (
       record { inside = omega arith; ends = λ h. W.tab-last d k; digits = y .digits },
-      rw (c .seven .ensures) (S.seven-counted y (omega arith) (rw (c .seven .ensures) at l)),
+      rw (c .seven .ensures) (F.counted-least y (omega arith) (omega arith) (rw (c .seven .ensures) at l)),
     ))
 
 pub seven-alone-spec : {M : Type 1} → statement M

@@ -24,7 +24,8 @@ use Rattle.chain.specs.Faults.{inArea, sameRealization}
 use Rattle.chain.specs.Parts.{Parts, forwardBy, inverseBy}
 use Rattle.chain.specs.Convert.{at, left, onward, walk, answerOf, movedTo}
 use Rattle.chain.specs.Ready.{readyParts, Prepares}
-use Rattle.chain.specs.Prepared.{lengthIn, startIn, endIn, rowAt, rowsOf, preparedTests, carried, reachedWith, forwardPrepared, arrivalOf, inversePrepared, Readied}
+use Rattle.chain.specs.Prepared.{lengthIn, startIn, endIn, rowAt, rowsOf, preparedTests, carried, reachedWith, Readied}
+use Rattle.chain.specs.Prepared.{forwardPrepared, arrivalOf, inversePrepared}
 use Rattle.chain.proofs.KeptRows.{more}
 
 -- ---- the walk over the rows is the walk over the steps
@@ -106,7 +107,9 @@ carried-numbered f p end (r ∷ rs) q = go (r .good) (inArea (f (readyParts (r .
 
 forward-numbered : (l : List ℤ) (p : Point) → NumberedIn (forwardPrepared l p)
 unfolding forwardPrepared
-forward-numbered l p = go (first (preparedTests (lengthIn l) (startIn l) p)) _ (carried-numbered forwardBy p (reachedWith (lengthIn l) (p .realization) (endIn l)) (rowsOf l 1 (natAbs (lengthIn l))) (p .position))
+forward-numbered l p =
+    go (first (preparedTests (lengthIn l) (startIn l) p)) _
+    (carried-numbered forwardBy p (reachedWith (lengthIn l) (p .realization) (endIn l)) (rowsOf l 1 (natAbs (lengthIn l))) (p .position))
   where
     go : (n : ℕ) (a : Answer) → NumberedIn a → NumberedIn (unless n Refused a)
     go zero a h = h
@@ -117,7 +120,8 @@ pub arrival-refused : (p : Point) (a : Answer) {r : Arrival} → r ≡ arrivalOf
 arrival-refused p (Converted q) e h = absurd (h (ap (λ (r : Arrival). r .refusal) e))
 arrival-refused p (Refused n) e h = ap (λ (r : Arrival). Refused (r .refusal)) e
 
-pub arrival-converted : (l : List ℤ) (p : Point) {r : Arrival} → r ≡ arrivalOf p (forwardPrepared l p) → r .refusal ≡ 0 → Converted (movedTo p (r .realization) (r .position)) ≡ forwardPrepared l p
+pub arrival-converted : (l : List ℤ) (p : Point) {r : Arrival} → r ≡ arrivalOf p (forwardPrepared l p) → r .refusal ≡ 0
+    → Converted (movedTo p (r .realization) (r .position)) ≡ forwardPrepared l p
 arrival-converted l p {r} e h = go (forwardPrepared l p) e (forward-label l p) (forward-numbered l p)
   where
     go : (a : Answer) → r ≡ arrivalOf p a → labelIn (p .label) a ≡ p .label → NumberedIn a → Converted (movedTo p (r .realization) (r .position)) ≡ a

@@ -9,7 +9,8 @@ ghost use Rattle.refusal.specs.Order.{first};
 ghost use Rattle.ranges.specs.Ranges.{within};
 ghost use Rattle.chain.specs.Faults.{inArea};
 ghost use Rattle.chain.specs.Parts.{forwardBy, inverseBy};
-ghost use Rattle.chain.specs.Prepared.{startIn, endIn, rowsOf, extendTests, extendFault, startWith, firstRow, extendedBy, preparedTests, carried, reachedWith, forwardPrepared, arrivalOf, inversePrepared};
+ghost use Rattle.chain.specs.Prepared.{startIn, endIn, rowsOf, extendTests, extendFault, startWith, firstRow, extendedBy};
+ghost use Rattle.chain.specs.Prepared.{preparedTests, carried, reachedWith, forwardPrepared, arrivalOf, inversePrepared};
 use crate::Answer;
 use crate::Arrival;
 use crate::Point;
@@ -137,9 +138,9 @@ fn reached_with(n: i64, here: Realization, end: Realization) -> Realization
     end
 }
 
-// What is left of a forward conversion once a chain is prepared and the point has no fault of its own (`point_fault` with the chain's profile): where the point
-// arrives, in units of 0.00001 m, or refused with 9, 10 or 11. Numbers that no chain gives are refused too: a length that is not 0 to 8 with 6, a row that no step
-// gives with 2.
+// What is left of a forward conversion once a chain is prepared and the point has no fault of its own (`point_fault` with the chain's profile): where
+// the point arrives, in units of 0.00001 m, or refused with 9, 10 or 11. Numbers that no chain gives are refused too: a length that is not 0 to 8 with 6, a row
+// that no step gives with 2.
 pub fn arrive_prepared(numbers: &Prepared, point: Point) -> Arrival
     ensures { λ r. ⌜ r ≡ arrivalOf point (forwardPrepared (now (numbers .entry)) point) ⌝ }
 {

@@ -87,4 +87,5 @@ returns-2 c =
 pub arrive-prepared-spec : {M : Type 1} → statement M
 arrive-prepared-spec =
     tie.close
-    (tie.spec (search needs) (search needs) (search needs) (search needs) returns (search needs) (search needs) count-requires add-carry carry-requires returns-2)
+    (tie.spec (search needs) (search needs) (search needs) (search needs) returns (search needs) (search needs) count-requires add-carry
+    carry-requires returns-2)

@@ -61,7 +61,9 @@ returns c =
     let a = c .before .before .before in
     c .refused .ensures
     ∙ ap (arrivalOf (s a .args .point))
-    (sym (turn-range forwardBy (s a .args .point) (s a .args .end) _ (after a) (rowAt (l a) (i a)) (is a) (q a) (good a false (not-true _ (c .before .if1 .taken)))) ∙ whole a)
+    (sym
+    (turn-range forwardBy (s a .args .point) (s a .args .end) _ (after a) (rowAt (l a) (i a)) (is a) (q a) (good a false (not-true _ (c .before .if1 .taken))))
+    ∙ whole a)
 
 in-area-requires : tie.Need-in-area-requires Inv-loop μ-loop
 in-area-requires c κs = tt
@@ -88,7 +90,9 @@ returns-2 c =
     let d = c .before .before in
     c .refused2 .ensures
     ∙ ap (arrivalOf (s (a d) .args .point))
-    (sym (turn-left forwardBy (s (a d) .args .point) (s (a d) .args .end) _ (after (a d)) (rowAt (l (a d)) (i (a d))) (is (a d)) (q (a d)) (sound d) (area d false (not-true _ (c .before .if2 .taken))))
+    (sym
+    (turn-left forwardBy (s (a d) .args .point) (s (a d) .args .end) _ (after (a d)) (rowAt (l (a d)) (i (a d))) (is (a d)) (q (a d)) (sound d)
+    (area d false (not-true _ (c .before .if2 .taken))))
     ∙ whole (a d))
 
 loop-again : tie.Need-loop-again Inv-loop μ-loop
@@ -109,7 +113,11 @@ returns-3 c =
     let t = c .loop-test .left in
     ap (arrivalOf (s .args .point))
     (sym (turn-end forwardBy (s .args .point) (s .args .end) (k .p))
-    ∙ ap (λ (rs : List Row). carried forwardBy (s .args .point) (s .args .end) rs (k .p)) (sym (no-rows (s .args .numbers .now) (k .i) (s .args .rows) t)) ∙ k .inv .3)
+    ∙ ap (λ (rs : List Row). carried forwardBy (s .args .point) (s .args .end) rs (k .p))
+    (sym (no-rows (s .args .numbers .now) (k .i) (s .args .rows) t)) ∙ k .inv .3)
 
 pub carry-spec : {M : Type 1} → statement M
-carry-spec = tie.close (tie.spec Inv-loop μ-loop loop-holds forward-row-requires (search needs) returns in-area-requires (search needs) returns-2 (search needs) (search needs) loop-again returns-3)
+carry-spec =
+    tie.close
+    (tie.spec Inv-loop μ-loop loop-holds forward-row-requires (search needs) returns in-area-requires (search needs) returns-2 (search needs)
+    (search needs) loop-again returns-3)

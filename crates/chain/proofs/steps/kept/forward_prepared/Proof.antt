@@ -12,7 +12,8 @@ returns c = let a = c .before in arrival-refused (a .before .args .point) _ (a .
 returns-2 : tie.Need-returns-2
 returns-2 c =
     let a = c .before .before .before .before in
-    ap Converted (c .moved-to .ensures) ∙ arrival-converted (a .before .args .numbers .now) (a .before .args .point) (a .arrive-prepared .ensures) (c .before .before .before .if1 .left)
+    ap Converted (c .moved-to .ensures)
+    ∙ arrival-converted (a .before .args .numbers .now) (a .before .args .point) (a .arrive-prepared .ensures) (c .before .before .before .if1 .left)
 
 pub forward-prepared-spec : {M : Type 1} → statement M
 forward-prepared-spec = tie.close (tie.spec (search needs) returns (search needs) returns-2)

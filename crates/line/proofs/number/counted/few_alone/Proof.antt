@@ -72,4 +72,5 @@ pub few-alone-spec : {M : Type 1} → statement M
 few-alone-spec =
     tie.close
     (tie.spec (omega arith) (omega arith) (λ c. (omega arith, λ o. absurd (omega arith))) (omega arith) (omega arith) (λ c. omega (arith, some c))
-    (omega arith) (omega arith) (λ c. omega (arith, some (c .before .before))) (λ c. (omega arith, λ o. absurd (omega arith))) (λ c κs. F.small (spelt c)) returns-3)
+    (omega arith) (omega arith) (λ c. omega (arith, some (c .before .before))) (λ c. (omega arith, λ o. absurd (omega arith)))
+    (λ c κs. F.small (spelt c)) returns-3)

@@ -35,8 +35,10 @@ returns-2 c = λ s h.
 
 -- a conversion keeps the label, which stands in the line as it is written
 relabel : (y : ℤ) (p : Point) (line : List ℕ) (r : Realization) (q : Position) → readPoint y line ≡ point-line.Point p
-    → {before after : List ℕ} {at past : ℕ} → Wrote before at (take (datumPlace line) line ++ movedText r q) after past → Wrote before at (pointText (movedTo p r q)) after past
-relabel y p line r q read {before} {after} {at} {past} w = subst (λ (t : List ℕ). Wrote before at t after past) (moved-line y line p (movedTo p r q) read refl) w
+    → {before after : List ℕ} {at past : ℕ} → Wrote before at (take (datumPlace line) line ++ movedText r q) after past
+    → Wrote before at (pointText (movedTo p r q)) after past
+relabel y p line r q read {before} {after} {at} {past} w =
+    subst (λ (t : List ℕ). Wrote before at t after past) (moved-line y line p (movedTo p r q) read refl) w
 
 returns-3 : tie.Need-returns-3
 returns-3 c = λ s h.

@@ -4,6 +4,7 @@ use crate::GeodeticLine;
 use crate::field::body_end;
 use crate::field::letter;
 use crate::name::name;
+use crate::number::counted::of_last_eleven;
 use crate::number::number;
 use crate::second_look::fault_of;
 ghost use mathlib.Core.Path.{_≡_};
@@ -24,7 +25,7 @@ fn geodetic_fields(s: &[u8]) -> GeodeticFields
     let named = name(s, at);
     let id = named.id;
     let latitude = number(s, named.next);
-    let longitude = number(s, latitude.next);
+    let longitude = of_last_eleven(s, latitude.next);
     GeodeticFields {
         geodetic: Geodetic {
             id,

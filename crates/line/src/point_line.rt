@@ -116,7 +116,8 @@ fn judge_point(profile: i64, p: chain::Point) -> PointLine
 fn read_alone(profile: i64, line: &[u8]) -> PlacedLine
     ensures { λ r. ⌜ r ≡ onePoint profile (now (line .entry)) ⌝ }
 {
-    let fault = fault_of(line, b'P');
+    // As a new slice, as where `read_placed` says why.
+    let fault = fault_of(&line[..line.len()], b'P');
     if fault.number == 0 {
         let end = body_end(line);
         if end < line.len() {

@@ -202,6 +202,7 @@ pub fn read_step(profile: i64, line: &[u8]) -> StepLine
             }
         }
     }
-    let fault = fault_of(line, b'S');
+    // As a new slice, as where `read_placed` (point_line.rt) says why.
+    let fault = fault_of(&line[..line.len()], b'S');
     StepLine::Malformed(fault)
 }

@@ -236,7 +236,7 @@ pub fn of_twelve(s: &[u8], at: usize) -> Integer
     number(s, at)
 }
 
-// The number in the field at `at`: Z, which mostly has eleven digits and is a line's last.
+// The number in the field at `at`: Z or a position's longitude, which mostly have eleven digits and are a line's last.
 pub fn of_last_eleven(s: &[u8], at: usize) -> Integer
     ensures { λ r. ⌜ Got (now (s .entry)) cappedZ numberOf at (r .value) (r .next) ⌝ }
 {

@@ -14,7 +14,7 @@ unfolding geodeticForm
 returns c =
     let n1 = c .before .before .before .before .before .name in
     let n2 = c .before .before .before .number in
-    let n3 = c .before .before .number2 in
+    let n3 = c .before .before .of-last-eleven in
     let e2 : toZ w64 (ofZ w64 (n2 .result .value)) ≡ n2 .result .value = told (n2 .ok .1 .1 .0 .1) in
     let e3 : toZ w64 (ofZ w64 (n3 .result .value)) ≡ n3 .result .value = told (n3 .ok .1 .1 .0 .1) in
     let l2 = W.lost (n3 .ensures) in

@@ -3,6 +3,7 @@ use mathlib.Core.Path.{_≡_, refl, sym, _∙_, ap}
 use mathlib.Core.Bool.{true}
 use mathlib.Core.List.{List, [], _∷_, _++_}
 use Prim.Native.Nat.{ℕ, zero, suc, _≤_}
+use native.Mathlib.Omega.{arith}
 use lib.IntN.{ℤ}
 use borrow.Author.Tests.{ltb-false}
 use lib.Dec.{T, ltb}
@@ -13,11 +14,14 @@ use Rattle.chain.specs.declared.Realization.{Realization}
 use Rattle.chain.specs.declared.Point.{Point}
 use Rattle.chain.specs.declared.Step.{Step}
 use Rattle.chain.specs.declared.Chain.{Chain}
+use Rattle.chain.specs.declared.Arrival.{Arrival}
+use Rattle.chain.specs.declared.Answer.{Answer}
 use Rattle.chain.specs.declared.Answer.the-variants.{Converted, Refused}
 use Rattle.chain.specs.Faults.{sameRealization, inArea, hasStep, pointTests, stepTests, StepOk, stepFault, joinTest, laterTests, stepsTests, chainTests, stepsOf}
 use Rattle.ranges.specs.Ranges.{profileRange}
 use Rattle.chain.proofs.Sizes.{step-ok, step-had}
-use Rattle.chain.specs.Convert.{Walk, at, left, realizationAndAreaTests, conversionTests, movedTo, answerOf, convert}
+use Rattle.chain.specs.Convert.{Walk, at, left, walk, forwardStep, startOf, endOf, realizationAndAreaTests, conversionTests, movedTo}
+use Rattle.chain.specs.Convert.{answerOf, arrivalOf, convert, forwardOf}
 
 -- something holds of each step
 abbrev pub Each : (Step → Type 0) → List Step → Type 0
@@ -117,6 +121,26 @@ module _ (c : Chain) (p : Point) (wanted reached : Realization) (w : Walk) where
   pub by-walk : first (chainTests c) ≡ 0 → entry (c .profile) p wanted ≡ 0 → answerOf p reached w ≡ convert c p wanted reached w
   unfolding convert
   by-walk e h = ap (λ (n : ℕ). unless n Refused (answerOf p reached w)) (sym h ∙ sym (chain-silent e))
+
+-- ---- an answer from where the point arrives
+pub arrival-refused : (p : Point) (a : Answer) {r : Arrival} → r ≡ arrivalOf p a → (r .refusal ≡ 0 → ⊥) → Refused (r .refusal) ≡ a
+arrival-refused p (Converted q) e h = absurd (h (ap (λ (r : Arrival). r .refusal) e))
+arrival-refused p (Refused n) e h = ap (λ (r : Arrival). Refused (r .refusal)) e
+
+pub walk-arrived : (n : ℕ) (p : Point) (reached : Realization) (w : Walk) {r : Arrival} → r ≡ arrivalOf p (unless n Refused (answerOf p reached w))
+    → r .refusal ≡ 0 → Converted (movedTo p (r .realization) (r .position)) ≡ unless n Refused (answerOf p reached w)
+unfolding answerOf
+walk-arrived zero p reached (at q) e h = rw e
+walk-arrived zero p reached left e h = absurd (let z = sym (ap (λ (r : Arrival). r .refusal) e) ∙ h in omega arith)
+walk-arrived (suc n) p reached w e h = absurd (let z = sym (ap (λ (r : Arrival). r .refusal) e) ∙ h in omega arith)
+
+pub forward-arrived : (c : Chain) (p : Point) {r : Arrival} → r ≡ arrivalOf p (forwardOf c p) → r .refusal ≡ 0
+    → Converted (movedTo p (r .realization) (r .position)) ≡ forwardOf c p
+unfolding forwardOf convert
+forward-arrived c p e h =
+    let r = p .realization in
+    let ss = stepsOf c in
+    walk-arrived (first (conversionTests c p (startOf r ss))) p (endOf r ss) (walk forwardStep ss (p .position)) e h
 
 -- ---- a converted point
 pub record Conversion (c : Chain) (p : Point) (wanted reached : Realization) (w : Walk) (q : Point) : Type 0 where

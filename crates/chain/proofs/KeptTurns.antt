@@ -22,10 +22,10 @@ use Rattle.chain.specs.declared.Answer.{Answer}
 use Rattle.chain.specs.declared.Answer.the-variants.{Converted, Refused}
 use Rattle.chain.specs.Faults.{inArea, sameRealization}
 use Rattle.chain.specs.Parts.{Parts, forwardBy, inverseBy}
-use Rattle.chain.specs.Convert.{at, left, onward, walk, answerOf, movedTo}
+use Rattle.chain.specs.Convert.{at, left, onward, walk, answerOf, arrivalOf, movedTo}
 use Rattle.chain.specs.Ready.{readyParts, Prepares}
 use Rattle.chain.specs.Prepared.{lengthIn, startIn, endIn, rowAt, rowsOf, preparedTests, carried, reachedWith, Readied}
-use Rattle.chain.specs.Prepared.{forwardPrepared, arrivalOf, inversePrepared}
+use Rattle.chain.specs.Prepared.{forwardPrepared, inversePrepared}
 use Rattle.chain.proofs.KeptRows.{more}
 
 -- ---- the walk over the rows is the walk over the steps
@@ -116,10 +116,6 @@ forward-numbered l p =
     go (suc n) a h = λ e. omega arith
 
 -- ---- an answer from where the point arrives
-pub arrival-refused : (p : Point) (a : Answer) {r : Arrival} → r ≡ arrivalOf p a → (r .refusal ≡ 0 → ⊥) → Refused (r .refusal) ≡ a
-arrival-refused p (Converted q) e h = absurd (h (ap (λ (r : Arrival). r .refusal) e))
-arrival-refused p (Refused n) e h = ap (λ (r : Arrival). Refused (r .refusal)) e
-
 pub arrival-converted : (l : List ℤ) (p : Point) {r : Arrival} → r ≡ arrivalOf p (forwardPrepared l p) → r .refusal ≡ 0
     → Converted (movedTo p (r .realization) (r .position)) ≡ forwardPrepared l p
 arrival-converted l p {r} e h = go (forwardPrepared l p) e (forward-label l p) (forward-numbered l p)

@@ -10,6 +10,7 @@ use Rattle.chain.specs.declared.Realization.{Realization}
 use Rattle.chain.specs.declared.Point.{Point}
 use Rattle.chain.specs.declared.Step.{Step}
 use Rattle.chain.specs.declared.Chain.{Chain}
+use Rattle.chain.specs.declared.Arrival.{Arrival}
 use Rattle.chain.specs.declared.Answer.{Answer}
 use Rattle.chain.specs.declared.Answer.the-variants.{Converted, Refused}
 use Rattle.chain.specs.Faults.{inArea, sameRealization, pointTests, chainTests, stepsOf}
@@ -70,6 +71,11 @@ movedTo p r q = record { label = p .label; realization = r; position = q }
 unfoldable pub answerOf : Point → Realization → Walk → Answer
 answerOf p r (at q) = Converted (movedTo p r q)
 answerOf p r left = Refused refusal.left
+
+-- where an answer says that a point is, its label apart: where it was, if it is refused
+abbrev pub arrivalOf : Point → Answer → Arrival
+arrivalOf p (Converted q) = record { refusal = 0; realization = q .realization; position = q .position }
+arrivalOf p (Refused n) = record { refusal = n; realization = p .realization; position = p .position }
 
 unfoldable pub convert : Chain → Point → Realization → Realization → Walk → Answer
 convert c p wanted reached w = unless (first (conversionTests c p wanted)) Refused (answerOf p reached w)

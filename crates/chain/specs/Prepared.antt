@@ -21,7 +21,6 @@ use Rattle.chain.specs.declared.steps.Ready.{Ready}
 use Rattle.chain.specs.declared.steps.Ready.the-variants.{Fixed, Turned, Scaled}
 use Rattle.chain.specs.declared.steps.kept.rows.Row.{Row}
 use Rattle.chain.specs.declared.steps.kept.rows.Moved.{Moved}
-use Rattle.chain.specs.declared.Arrival.{Arrival}
 use Rattle.chain.specs.declared.Answer.{Answer}
 use Rattle.chain.specs.declared.Answer.the-variants.{Converted, Refused}
 use Rattle.chain.specs.Faults.{inArea, sameRealization, stepTests, chainTests}
@@ -143,11 +142,6 @@ unfoldable pub forwardPrepared : List ℤ → Point → Answer
 forwardPrepared l p =
     unless (first (preparedTests (lengthIn l) (startIn l) p)) Refused
     (carried forwardBy p (reachedWith (lengthIn l) (p .realization) (endIn l)) (rowsOf l 1 (natAbs (lengthIn l))) (p .position))
-
--- where an answer says that a point is, its label apart: where it was, if it is refused
-abbrev pub arrivalOf : Point → Answer → Arrival
-arrivalOf p (Converted q) = record { refusal = 0; realization = q .realization; position = q .position }
-arrivalOf p (Refused n) = record { refusal = n; realization = p .realization; position = p .position }
 
 unfoldable pub inversePrepared : List ℤ → Point → Answer
 inversePrepared l p =

@@ -22,6 +22,7 @@ pub use crate::row::ready_chain;
 pub use crate::steps::convert::forward;
 pub use crate::steps::convert::inverse;
 pub use crate::steps::convert::join::join;
+pub use crate::steps::convert::lent::arrive_by;
 pub use crate::steps::convert::lent::forward_by;
 pub use crate::steps::convert::lent::inverse_by;
 pub use crate::steps::kept::arrive_prepared;

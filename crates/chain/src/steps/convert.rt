@@ -5,8 +5,9 @@ ghost use mathlib.Core.List.{reverse};
 ghost use Prim.Native.Nat.{_≤_};
 ghost use Rattle.refusal.specs.Order.{first};
 ghost use Rattle.chain.specs.Faults.{StepOk, inArea, chainTests, stepsOf};
-ghost use Rattle.chain.specs.Convert.{forwardStep, inverseStep, walk, startOf, endOf, movedTo, answerOf, forwardOf, inverseOf};
+ghost use Rattle.chain.specs.Convert.{forwardStep, inverseStep, walk, startOf, endOf, movedTo, answerOf, arrivalOf, forwardOf, inverseOf};
 use crate::Answer;
+use crate::Arrival;
 use crate::Chain;
 use crate::Kind;
 use crate::Point;
@@ -57,6 +58,19 @@ pub(crate) fn moved_to(point: Point, r: Realization, p: Position) -> Point
         label: label,
         realization: r,
         position: p,
+    }
+}
+
+// Where a point is that does not get on: where it was.
+pub(crate) fn refused(point: Point, number: u8) -> Arrival
+    ensures { λ r. ⌜ r ≡ arrivalOf point (Answer.Refused number) ⌝ }
+{
+    let r = point.realization;
+    let was = point.position;
+    Arrival {
+        refusal: number,
+        realization: r,
+        position: was,
     }
 }
 

@@ -9,8 +9,9 @@ ghost use Rattle.refusal.specs.Order.{first};
 ghost use Rattle.ranges.specs.Ranges.{within};
 ghost use Rattle.chain.specs.Faults.{inArea};
 ghost use Rattle.chain.specs.Parts.{forwardBy, inverseBy};
+ghost use Rattle.chain.specs.Convert.{arrivalOf};
 ghost use Rattle.chain.specs.Prepared.{startIn, endIn, rowsOf, extendTests, extendFault, startWith, firstRow, extendedBy};
-ghost use Rattle.chain.specs.Prepared.{preparedTests, carried, reachedWith, forwardPrepared, arrivalOf, inversePrepared};
+ghost use Rattle.chain.specs.Prepared.{preparedTests, carried, reachedWith, forwardPrepared, inversePrepared};
 use crate::Answer;
 use crate::Arrival;
 use crate::Point;
@@ -24,19 +25,6 @@ use crate::steps::convert;
 
 mod rows;
 
-// Where a point is that does not get on: where it was.
-fn refused(point: Point, number: u8) -> Arrival
-    ensures { λ r. ⌜ r ≡ arrivalOf point (Answer.Refused number) ⌝ }
-{
-    let r = point.realization;
-    let p = point.position;
-    Arrival {
-        refusal: number,
-        realization: r,
-        position: p,
-    }
-}
-
 // Forward over the rows from the first step's on.
 fn carry(numbers: &Prepared, rows: usize, point: Point, end: Realization) -> Arrival
     requires { ⌜ (1 ≤ rows) × (rows ≤ 9) × (inArea (point .position) ≡ true) ⌝ }
@@ -47,11 +35,11 @@ fn carry(numbers: &Prepared, rows: usize, point: Point, end: Realization) -> Arr
     while i < rows {
         let moved = rows::forward_row(numbers, i, p);
         if !moved.good {
-            return refused(point, refusal::RANGE);
+            return convert::refused(point, refusal::RANGE);
         }
         p = moved.position;
         if !points::in_area(p) {
-            return refused(point, refusal::LEFT);
+            return convert::refused(point, refusal::LEFT);
         }
         i += 1;
     }
@@ -147,7 +135,7 @@ pub fn arrive_prepared(numbers: &Prepared, point: Point) -> Arrival
     let n = numbers[0];
     let f = prepared_fault(n, start_in(numbers), point);
     if f != 0 {
-        return refused(point, f);
+        return convert::refused(point, f);
     }
     let here = point.realization;
     let end = reached_with(n, here, end_in(numbers));

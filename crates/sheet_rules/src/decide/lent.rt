@@ -8,7 +8,6 @@ ghost use Rattle.sheet_rules.specs.declared.Reply.the-variants as reply;
 ghost use Rattle.sheet_rules.specs.OneLine.{soundAt, whereGood, pointAnswered, PointPrinted};
 use crate::LentPoint;
 use crate::decide::standing::is_counted;
-use chain::Answer;
 use chain::Point;
 use line::PointLine;
 
@@ -57,23 +56,22 @@ fn print_moved(
     requires { ⌜ (readPoint profile (now text) ≡ point-line.Point point) × (place ≡ datumPlace (now text)) ⌝ }
     ensures { λ r. ⌜ PointPrinted (pointAnswered (chainFrom profile (now (steps .entry))) line false (now (text .entry))) (now (out .entry)) at (now (out .exit)) r ⌝ }
 {
-    match chain::forward_by(profile, steps, point) {
-        Answer::Refused(number) => print_tested(line, number, 0, true, profile, steps, out, at),
-        Answer::Converted(converted) => {
-            let realization = converted.realization;
-            let position = converted.position;
-            LentPoint {
-                sound: true,
-                at: line::write_moved(out, at, text, place, realization, position),
-                closes: true,
-            }
-        }
+    let arrival = chain::arrive_by(profile, steps, point);
+    let number = arrival.refusal;
+    if number != 0 {
+        return print_tested(line, number, 0, true, profile, steps, out, at);
+    }
+    let realization = arrival.realization;
+    let position = arrival.position;
+    LentPoint {
+        sound: true,
+        at: line::write_moved(out, at, text, place, realization, position),
+        closes: true,
     }
 }
 
-// A line of this number read as a point line, after a refused step or none, its point converted by the lent chain, and its answer printed from `at` on, as far as there
-// is room. Where the chain is bad, nothing is printed.
-pub fn print_lent(
+// Any line, whatever is wrong with it.
+fn print_any(
     line: u64,
     refused: bool,
     profile: i64,
@@ -106,6 +104,35 @@ pub fn print_lent(
             print_moved(line, profile, steps, text, point, place, out, at)
         }
     }
+}
+
+// A line of this number read as a point line, after a refused step or none, its point converted by the lent chain, and its answer printed from `at` on, as far as there
+// is room. Where the chain is bad, nothing is printed.
+pub fn print_lent(
+    line: u64,
+    refused: bool,
+    profile: i64,
+    steps: &[i64],
+    text: &[u8],
+    out: &mut [u8],
+    at: usize,
+) -> LentPoint
+    ensures { λ r. ⌜ PointPrinted (pointAnswered (chainFrom profile (now (steps .entry))) line refused (now (text .entry))) (now (out .entry)) at (now (out .exit)) r ⌝ }
+{
+    // Most lines are good points: they are taken as they are first read, and what is read is not put together with another reading.
+    let first = line::read_placed(profile, text, 0);
+    if (first.end == text.len()) & !refused {
+        let place = first.place;
+        let found = first.line;
+        match found {
+            PointLine::Point(point) => {
+                return print_moved(line, profile, steps, text, point, place, out, at);
+            }
+            PointLine::Malformed(_fault) => {}
+            PointLine::Refused(_number) => {}
+        }
+    }
+    print_any(line, refused, profile, steps, text, out, at)
 }
 
 // Whether a sheet can stand before the line of this number with the lent chain: what `is_sound` says of a standing.

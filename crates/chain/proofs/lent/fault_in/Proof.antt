@@ -4,6 +4,8 @@ use mathlib.Core.Bool.{true}
 use Prim.Native.Nat.{_/_, _≤_}
 use lib.IntN.{ℤ}
 use lib.ListN.{length}
+use lib.Seq.{length-take-le, take-all}
+use native.Mathlib.Omega.{arith}
 use borrow.Author.Needs.{needs}
 use borrow.Author.Tests.{leb-true}
 use Rattle.refusal.specs.Order.{first}
@@ -36,11 +38,16 @@ returns c =
     let g = sym (c .before .are-good .ensures ∙ ap (λ (y : ℤ). goodSteps y (stepsIn (s .args .steps .now))) (rd (s .fits .profile))) ∙ c .if2 .taken in
     sym (good-chain (s .args .profile) (s .args .steps .now) p (tests t .1) g)
 
+slice-aggregate-chain-from : tie.Need-slice-aggregate-chain-from
+slice-aggregate-chain-from c = sym (length-take-le _ _ (omega arith))
+
 returns-2 : tie.Need-returns-2
 returns-2 c =
-    let s = c .before .before .before .before in
+    let s = c .before .before .before .before .before in
+    let l = s .args .steps .now in
     c .chain-fault .ensures
-    ∙ ap (λ (h : Chain). first (chainTests h)) (c .before .chain-from .ensures ∙ ap (λ (y : ℤ). chainFrom y (s .args .steps .now)) (rd (s .fits .profile)))
+    ∙ ap (λ (h : Chain). first (chainTests h))
+    (c .before .chain-from .ensures ∙ ap₂ chainFrom (rd (s .fits .profile)) (take-all (length l) l (omega arith)))
 
 pub fault-in-spec : {M : Type 1} → statement M
-fault-in-spec = tie.close (tie.spec (search needs) are-good-requires returns (search needs) (search needs) returns-2)
+fault-in-spec = tie.close (tie.spec (search needs) are-good-requires returns slice-aggregate-chain-from (search needs) (search needs) returns-2)

@@ -18,7 +18,8 @@ use Rattle.chain.specs.declared.Point.{Point}
 use Rattle.chain.specs.declared.Answer.the-variants.{Refused}
 use Rattle.chain.specs.Faults.{inArea}
 use Rattle.chain.specs.Parts.{forwardBy}
-use Rattle.chain.specs.Prepared.{lengthIn, startIn, endIn, rowsOf, preparedTests, carried, reachedWith, arrivalOf}
+use Rattle.chain.specs.Convert.{arrivalOf}
+use Rattle.chain.specs.Prepared.{lengthIn, startIn, endIn, rowsOf, preparedTests, carried, reachedWith}
 use Rattle.chain.proofs.KeptTurns.{forward-refused, forward-carried, prepared-passed}
 use Rattle.chain.proofs.steps.kept.arrive_prepared.Statement.{statement}
 use Rattle.chain.proofs.steps.kept.arrive_prepared.Tie as tie

@@ -11,8 +11,9 @@ use Rattle.chain.specs.declared.Position.{Position}
 use Rattle.chain.specs.declared.steps.kept.rows.Row.{Row}
 use Rattle.chain.specs.Faults.{inArea}
 use Rattle.chain.specs.Parts.{forwardBy}
+use Rattle.chain.specs.Convert.{arrivalOf}
 use Rattle.chain.specs.Ready.{readyParts}
-use Rattle.chain.specs.Prepared.{rowAt, rowsOf, carried, arrivalOf}
+use Rattle.chain.specs.Prepared.{rowAt, rowsOf, carried}
 use Rattle.chain.proofs.Within.{area-small}
 use Rattle.chain.proofs.KeptTurns.{rows-on, no-rows, turn-range, turn-left, turn-on, turn-end}
 use Rattle.chain.proofs.steps.kept.carry.Statement.{statement}

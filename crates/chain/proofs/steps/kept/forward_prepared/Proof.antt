@@ -2,7 +2,8 @@
 use mathlib.Core.Path.{ap, _∙_}
 use borrow.Author.Needs.{needs}
 use Rattle.chain.specs.declared.Answer.the-variants.{Converted}
-use Rattle.chain.proofs.KeptTurns.{arrival-refused, arrival-converted}
+use Rattle.chain.proofs.Accepted.{arrival-refused}
+use Rattle.chain.proofs.KeptTurns.{arrival-converted}
 use Rattle.chain.proofs.steps.kept.forward_prepared.Statement.{statement}
 use Rattle.chain.proofs.steps.kept.forward_prepared.Tie as tie
 

@@ -1,17 +1,23 @@
--- `sheet_rules::decide::lent::print_lent` meets its contract. Assumes nothing.
-use mathlib.Core.Path.{_≡_, refl, sym, _∙_, ap}
-use mathlib.Core.Bool.{Bool, false}
+-- `sheet_rules::decide::lent::print_lent` meets its contract: a good point is what it is first read as, and any other line is read again. Assumes nothing.
+use mathlib.Core.Path.{_≡_, sym, _∙_, ap}
+use mathlib.Core.Bool.{Bool}
+use mathlib.Core.List.{List}
+use Prim.Native.Nat.{ℕ}
+use lib.Dec.{eqb}
 use lib.IntN.{ℤ}
+use lib.ListN.{length}
 use mir.Syntax.{w64}
 use mir.Val.{toZ, ofZ}
 use borrow.Author.Needs.{needs}
+use borrow.Author.Tests.{eqb-true, not-true}
+use Rattle.ranges.proofs.Ranges.{both}
 use Rattle.chain.specs.declared.Chain.{Chain}
 use Rattle.chain.specs.Numbers.{chainFrom}
-use Rattle.line.specs.declared.PointLine.{PointLine}
-use Rattle.line.specs.Readers.{readPoint}
-use Rattle.line.proofs.AsWritten.{one-read}
+use Rattle.line.specs.declared.PlacedLine.{PlacedLine}
+use Rattle.line.specs.Readers.{readPoint, datumPlace, placedPoint}
+use Rattle.line.proofs.AsWritten.{one-read, one-whole, placed-end}
 use Rattle.sheet_rules.specs.OneLine.{pointAnswered}
-use Rattle.sheet_rules.proofs.Points.{malformed-answered, refused-answered, earlier-answered, printed-so, printed-size}
+use Rattle.sheet_rules.proofs.Points.{printed-so}
 use Rattle.sheet_rules.proofs.decide.lent.print_lent.Statement.{statement}
 use Rattle.sheet_rules.proofs.decide.lent.print_lent.Tie as tie
 
@@ -22,64 +28,33 @@ year-is s = search needs
 abbrev chain : tie.Start → Chain
 chain s = chainFrom (s .args .profile) (s .args .steps .now)
 
--- what the line reads as
-reads : (c : tie.After-read-one) {l : PointLine} → c .read-one .result .line ≡ l → readPoint (chain (c .before .before .before) .profile) (c .before .before .before .args .text .now) ≡ l
-reads c e =
-    let s = c .before .before .before in
-    sym (one-read _ _ (c .read-one .ensures) .0 ∙ ap (λ (y : ℤ). readPoint y (s .args .text .now)) (year-is s)) ∙ e
-
-same-length : tie.Need-same-length
-same-length c = printed-size (c .before .before .print-tested3 .ensures)
-
-returns : tie.Need-returns
-returns c =
-    let t = c .before .before in
-    let i = t .before .before in
-    let g = i .before .before in
-    let r = g .before .before in
-    let s = r .before .before .before in
-    printed-so (earlier-answered (chain s) (s .args .line) (s .args .refused) (s .args .text .now) _ (reads r (g .found3 .given .1)) (i .if1 .taken) refl) (rw (year-is s) at (t .print-tested3 .ensures))
+-- a text that is one line is read as that line
+whole : (y : ℤ) (text : List ℕ) {r : PlacedLine} → r ≡ placedPoint y text 0 → r .end ≡ length text → (r .line ≡ readPoint y text) × (r .place ≡ datumPlace text)
+whole y text e h = one-read y text (e ∙ one-whole y text (sym (ap (λ (r : PlacedLine). r .end) e ∙ placed-end y text 0) ∙ h))
 
 print-moved-requires : tie.Need-print-moved-requires
 print-moved-requires c κs =
-    let g = c .before .before .before in
-    let o = one-read _ _ (g .before .before .read-one .ensures) in
-    (sym (o .0) ∙ g .found3 .given .1, o .1)
+    let g = c .before .before in
+    let i = g .before .before in
+    let o = whole _ _ (i .before .before .read-placed .ensures) (eqb-true _ _ (both _ _ (i .if1 .taken) .0)) in
+    (sym (o .0) ∙ g .found .given .1, o .1)
 
-same-length-2 : tie.Need-same-length-2
-same-length-2 c = printed-size (c .before .before .print-tested .ensures)
+returns : tie.Need-returns
+returns c =
+    let m = c .before .before in
+    let i = m .before .before .before .before .before in
+    let s = i .before .before .before .before .before in
+    let t = both (eqb (i .before .before .read-placed .result .end) (length (s .args .text .now))) _ (i .if1 .taken) in
+    printed-so (ap (λ (b : Bool). pointAnswered (chain s) (s .args .line) b (s .args .text .now)) (sym (not-true _ (t .1))))
+    (rw (year-is s) at (m .print-moved .ensures))
 
 returns-2 : tie.Need-returns-2
 returns-2 c =
-    let t = c .before .before in
-    let g = t .before .before .before in
-    let r = g .before .before in
-    let s = r .before .before .before in
-    printed-so (malformed-answered (chain s) (s .args .line) (s .args .refused) (s .args .text .now) _ (reads r (g .found .given .1)) refl) (rw (year-is s) at (t .print-tested .ensures))
-
-same-length-3 : tie.Need-same-length-3
-same-length-3 c = printed-size (c .before .before .print-tested2 .ensures)
-
-returns-3 : tie.Need-returns-3
-returns-3 c =
-    let t = c .before .before in
-    let g = t .before .before .before in
-    let r = g .before .before in
-    let s = r .before .before .before in
-    printed-so (refused-answered (chain s) (s .args .line) (s .args .refused) (s .args .text .now) _ (reads r (g .found2 .given .1)) refl) (rw (year-is s) at (t .print-tested2 .ensures))
-
-same-length-4 : tie.Need-same-length-4
-same-length-4 c = printed-size (c .before .before .print-moved .ensures)
-
-returns-4 : tie.Need-returns-4
-returns-4 c =
-    let m = c .before .before in
-    let i = m .before .before in
-    let s = i .before .before .before .before .before .before .before in
-    printed-so (ap (λ (b : Bool). pointAnswered (chain s) (s .args .line) b (s .args .text .now)) (sym (i .if1 .left))) (rw (year-is s) at (m .print-moved .ensures))
+    let a = c .before .before in
+    let s = a .before .before .before .before .before .before .before in
+    rw (year-is s) at (a .print-any .ensures)
 
 pub print-lent-spec : {M : Type 1} → statement M
 print-lent-spec =
     tie.close
-    (tie.spec (search needs) (search needs) (search needs) (search needs) (search needs) (search needs) (search needs) same-length returns print-moved-requires same-length-2 returns-2
-    same-length-3 returns-3 same-length-4 returns-4)
+    (tie.spec (search needs) (search needs) print-moved-requires (search needs) returns (search needs) (search needs) (search needs) (search needs) returns-2)

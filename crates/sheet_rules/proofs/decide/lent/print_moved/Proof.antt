@@ -6,10 +6,9 @@ use mir.Syntax.{w64}
 use mir.Val.{toZ, ofZ}
 use borrow.Author.Needs.{needs}
 use Rattle.chain.specs.declared.Chain.{Chain}
-use Rattle.chain.specs.declared.Point.{Point}
-use Rattle.chain.specs.declared.Answer.{Answer}
-use Rattle.chain.specs.Convert.{forwardOf}
+use Rattle.chain.specs.Convert.{arrivalOf, forwardOf}
 use Rattle.chain.specs.Numbers.{chainFrom}
+use Rattle.chain.proofs.Accepted.{arrival-refused, forward-arrived}
 use Rattle.sheet_rules.proofs.Points.{unconverted-answered, printed-so, printed-size, moved-printed}
 use Rattle.sheet_rules.proofs.decide.lent.print_moved.Statement.{statement}
 use Rattle.sheet_rules.proofs.decide.lent.print_moved.Tie as tie
@@ -22,10 +21,10 @@ abbrev chain : tie.Start → Chain
 chain s = chainFrom (s .args .profile) (s .args .steps .now)
 
 -- so what was asked with it is said of the chain
-converted-by : (c : tie.After-forward-by) {x : Answer} → c .forward-by .result ≡ x → forwardOf (chain (c .before .before .before)) (c .before .before .before .args .point) ≡ x
-converted-by c e =
+arrived : (c : tie.After-arrive-by) → let s = c .before .before .before in c .arrive-by .result ≡ arrivalOf (s .args .point) (forwardOf (chain s) (s .args .point))
+arrived c =
     let s = c .before .before .before in
-    sym (c .forward-by .ensures ∙ ap (λ (y : ℤ). forwardOf (chainFrom y (s .args .steps .now)) (s .args .point)) (year-is s)) ∙ e
+    c .arrive-by .ensures ∙ ap (λ (y : ℤ). arrivalOf (s .args .point) (forwardOf (chainFrom y (s .args .steps .now)) (s .args .point))) (year-is s)
 
 same-length : tie.Need-same-length
 same-length c = printed-size (c .before .before .print-tested .ensures)
@@ -33,20 +32,22 @@ same-length c = printed-size (c .before .before .print-tested .ensures)
 returns : tie.Need-returns
 returns c =
     let t = c .before .before in
-    let n = t .before .before .before in
-    let f = n .before .before in
-    let s = f .before .before .before in
-    printed-so (unconverted-answered (chain s) (s .args .line) false (s .args .text .now) (s .args .point) (s .pre .0) refl _ (converted-by f (n .number .given .1)) refl) (rw (year-is s) at (t .print-tested .ensures))
+    let n = t .before .before in
+    let d = n .before in
+    let s = d .before .before .before in
+    let f = sym (arrival-refused (s .args .point) _ (arrived d) (n .if1 .taken)) in
+    printed-so (unconverted-answered (chain s) (s .args .line) false (s .args .text .now) (s .args .point) (s .pre .0) refl _ f refl) (rw (year-is s) at (t .print-tested .ensures))
 
 returns-2 : tie.Need-returns-2
 returns-2 c =
     let w = c .before .before in
-    let o = w .before .before .before .before .before in
-    let f = o .before .before in
-    let s = f .before .before .before in
-    moved-printed (chain s) (s .args .text .now) (s .args .point) (s .pre .0) _ (converted-by f (o .converted .given .1)) (s .args .line) (rw (s .pre .1) at (w .write-moved .ensures))
+    let k = w .before .before .before .before in
+    let d = k .before in
+    let s = d .before .before .before in
+    let f = sym (forward-arrived (chain s) (s .args .point) (arrived d) (k .if1 .left)) in
+    moved-printed (chain s) (s .args .text .now) (s .args .point) (s .pre .0) _ f (s .args .line) (rw (s .pre .1) at (w .write-moved .ensures))
 
 pub print-moved-spec : {M : Type 1} → statement M
 print-moved-spec =
     tie.close
-    (tie.spec (search needs) (search needs) (search needs) (search needs) (search needs) same-length returns (search needs) returns-2)
+    (tie.spec (search needs) (search needs) same-length returns (search needs) (search needs) returns-2)

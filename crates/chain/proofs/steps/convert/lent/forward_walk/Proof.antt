@@ -9,9 +9,8 @@ use borrow.Author.Tests.{not-true, not-false}
 use lib.IntN.{ℤ}
 use lib.ListN.{length, take, drop, getD}
 use Rattle.chain.specs.declared.Step.{Step}
-use Rattle.chain.specs.declared.Answer.the-variants.{Converted}
 use Rattle.chain.specs.Faults.{inArea, StepOk}
-use Rattle.chain.specs.Convert.{Walk, left, walk, forwardStep, answerOf}
+use Rattle.chain.specs.Convert.{Walk, left, walk, forwardStep, answerOf, arrivalOf}
 use Rattle.chain.specs.Numbers.{stepFrom, eightFrom, stepsIn}
 use Rattle.chain.proofs.Accepted.{Sound}
 use Rattle.chain.proofs.AtIndex.{no-step, left-there, on-from-there, none-left}
@@ -81,7 +80,10 @@ module _ (c : tie.After-in-area Inv-loop μ-loop) where
 
 returns : tie.Need-returns Inv-loop μ-loop
 unfolding answerOf
-returns c = let s = start (l (c .before)) .args in ap (answerOf (s .point) (s .reached)) (gone (c .before) (area (c .before) false (not-true _ (c .if1 .taken))))
+returns c =
+    let a = c .before .before in
+    let s = start (l a) .args in
+    c .refused .ensures ∙ ap (arrivalOf (s .point)) (ap (answerOf (s .point) (s .reached)) (gone a (area a false (not-true _ (c .before .if1 .taken)))))
 
 loop-again : tie.Need-loop-again Inv-loop μ-loop
 loop-again c =
@@ -92,12 +94,16 @@ loop-again c =
 returns-2 : tie.Need-returns-2 Inv-loop μ-loop
 unfolding answerOf walk
 returns-2 c =
-    let s = c .before .before .before .before in
-    let at = c .before .before .loop in
+    let s = c .before .before .before in
+    let at = c .before .loop in
     let ns = s .args .steps .now in
-    let last : at .i ≡ length ns / 13 = omega (arith, c .before .loop-test .left) in
+    let last : at .i ≡ length ns / 13 = omega (arith, c .loop-test .left) in
     let none : drop (at .i) (stepsIn ns) ≡ [] = ap (λ (k : ℕ). drop k (stepsIn ns)) last ∙ none-left (eightFrom ns) (length ns / 13) in
-    ap Converted (c .moved-to .ensures) ∙ ap (answerOf (s .args .point) (s .args .reached)) (ap (λ (ss : List Step). walk forwardStep ss (at .p)) (sym none) ∙ at .inv .2)
+    ap (arrivalOf (s .args .point))
+    (ap (answerOf (s .args .point) (s .args .reached)) (ap (λ (ss : List Step). walk forwardStep ss (at .p)) (sym none) ∙ at .inv .2))
 
 pub forward-walk-spec : {M : Type 1} → statement M
-forward-walk-spec = tie.close (tie.spec Inv-loop μ-loop loop-holds step-at-requires forward-step-requires (search needs) returns (search needs) (search needs) loop-again (search needs) returns-2)
+forward-walk-spec =
+    tie.close
+    (tie.spec Inv-loop μ-loop loop-holds step-at-requires forward-step-requires (search needs) (search needs) returns (search needs) (search needs)
+    loop-again returns-2)

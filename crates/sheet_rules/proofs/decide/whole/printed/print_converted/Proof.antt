@@ -9,7 +9,8 @@ use Rattle.chain.specs.declared.Point.{Point}
 use Rattle.chain.specs.declared.Position.{Position}
 use Rattle.chain.specs.declared.Realization.{Realization}
 use Rattle.chain.specs.Convert.{movedTo}
-use Rattle.chain.proofs.KeptTurns.{arrival-refused, arrival-converted}
+use Rattle.chain.proofs.Accepted.{arrival-refused}
+use Rattle.chain.proofs.KeptTurns.{arrival-converted}
 use Rattle.line.specs.declared.PointLine.the-variants as point-line
 use Rattle.line.specs.Readers.{readPoint, datumPlace}
 use Rattle.line.specs.Text.{pointText, movedText, Wrote}

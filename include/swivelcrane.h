@@ -5,19 +5,14 @@
  * Epochs: thousandths of a year, 0 for none. Rotations: 0.00001". Scale: 10^-11. False eastings and northings: mm.
  *
  * Answers. A call answers 0 and writes its results, or answers a refusal number (enum swivelcrane_refusal) or
- * SWIVELCRANE_WRONG_LENGTH, and then writes nothing. swivelcrane_sheet, swivelcrane_plan and swivelcrane_latest answer the length of what
+ * SWIVELCRANE_WRONG_LENGTH, and then writes nothing. swivelcrane_sheet and swivelcrane_plan answer the length of what
  * they wrote, or minus SWIVELCRANE_WRONG_LENGTH; swivelcrane_join the count of numbers, swivelcrane_feed and
  * swivelcrane_finish the length of what a line prints, or minus the number. Every input has its answer: nothing has to be
  * checked beforehand.
  *
- * Every array is handed over as a pointer and the number of its elements, and must be valid for that many; with 0 the pointer
- * may be NULL. An array that is written must not overlap another of the same call. Where it does, nothing says so, and what is
- * answered may be nonsense: swivelcrane_join with out over first or second, swivelcrane_row in place (answers over points or chain),
- * swivelcrane_forward and swivelcrane_inverse with out over chain or point, swivelcrane_rso_forward and swivelcrane_rso_reverse
- * with out over parameters, swivelcrane_sheet and swivelcrane_plan with out over input, swivelcrane_feed and swivelcrane_finish
- * with out over line or fragment, or any two of state, line, out and told, swivelcrane_grid_velocity and swivelcrane_grid_fault
- * with out over grid. Arrays that are only read may overlap. There is no state but what the caller keeps: calls may run side by
- * side. README.md says how much stack they take. */
+ * Every array is handed over as a pointer and the number of its elements. A pointer must be valid for that many elements,
+ * also where there are none; arrays that are written must not overlap others of the same call. There is no state but what
+ * the caller keeps: calls may run side by side. */
 #ifndef SWIVELCRANE_H
 #define SWIVELCRANE_H
 
@@ -47,7 +42,7 @@ enum swivelcrane_refusal {
     SWIVELCRANE_REFUSAL_GEODETIC = 12, /* a latitude, longitude or height out of its range */
     SWIVELCRANE_REFUSAL_APART = 13,    /* longitudes too far apart */
     SWIVELCRANE_REFUSAL_SIZE = 14,     /* an f64 that is not finite, or is 10,000,000 or more in size */
-    SWIVELCRANE_REFUSAL_LONG = 15,     /* input that is too long: only in the text of a sheet, a plan or a pile */
+    SWIVELCRANE_REFUSAL_LONG = 15,     /* input that is too long: only in the text of a sheet or a plan */
     SWIVELCRANE_REFUSAL_IDS = 16,      /* two point lines with different ids */
     SWIVELCRANE_REFUSAL_SAME = 17,     /* two point lines with one issue and different bytes */
     SWIVELCRANE_REFUSAL_LENGTH = 18,   /* a line over 200 bytes with its line feed, or with no line feed at its end */
@@ -169,26 +164,6 @@ int64_t swivelcrane_later_fault(const uint8_t *first, size_t first_length, const
  * names, `E`, tab, 2009 or 2021, and under 2021 where there is no such line. */
 int64_t swivelcrane_sheet(const uint8_t *input, size_t input_length, uint8_t *out, size_t out_length);
 int64_t swivelcrane_plan(const uint8_t *input, size_t input_length, uint8_t *out, size_t out_length);
-
-/* The latest line of every point: of a pile of P lines, each id's line of the highest issue. Of the good lines with one id and the highest
- * issue the first is printed as it stands; where two of them differ, each is refused with 17 and none is printed. Any other line prints its R
- * line (18 to 22, 2, 3, as swivelcrane_later reads a line), and where there is one such line no P line is printed at all: it might have
- * been the newer issue. What a line prints stands in the order of the lines. A pile of more than 2,097,152 bytes prints only R, 0, 15, 0.
- *
- * Work space is lent in seven columns, each with a row for every good line; what they hold afterwards is of no use. For a pile of n
- * bytes SWIVELCRANE_LATEST_ROWS(n) rows in each and SWIVELCRANE_LATEST_ROOM(n) bytes in out are always enough, and are asked for.
- * SWIVELCRANE_LATEST_WORK(words, rows) hands over an array of 7 * rows elements of uint64_t as the seven columns; size_t is taken to be as
- * wide as uint64_t. The answer is the length of the text at the start of out, whose bytes past it are as they were; or minus
- * SWIVELCRANE_WRONG_LENGTH, and then out is as it was. */
-#define SWIVELCRANE_LATEST_BYTES(n) ((n) < 2097152 ? (size_t)(n) : (size_t)2097152)
-#define SWIVELCRANE_LATEST_ROWS(n) (SWIVELCRANE_LATEST_BYTES(n) / 18)
-#define SWIVELCRANE_LATEST_ROOM(n) (15 * SWIVELCRANE_LATEST_BYTES(n) + 9)
-#define SWIVELCRANE_LATEST_WORK(words, rows)                                                                                        \
-    (words), (rows), (words) + (rows), (rows), (words) + 2 * (rows), (rows), (size_t *)((words) + 3 * (rows)), (rows),              \
-        (size_t *)((words) + 4 * (rows)), (rows), (size_t *)((words) + 5 * (rows)), (rows), (words) + 6 * (rows), (rows)
-int64_t swivelcrane_latest(const uint8_t *pile, size_t pile_length, uint64_t *high, size_t high_rows, uint64_t *low, size_t low_rows,
-                           uint64_t *issue, size_t issue_rows, size_t *start, size_t start_rows, size_t *order, size_t order_rows,
-                           size_t *spare, size_t spare_rows, uint64_t *verdict, size_t verdict_rows, uint8_t *out, size_t out_length);
 
 /* A sheet in fragments, as they come over a radio link. The caller keeps its state between the calls: numbers, and the bytes of the
  * line that is open. Numbers to a state, in this order:

@@ -22,8 +22,8 @@ extern "C" {
  * Refusals, as minus the number, with nothing written: 27 (out has fewer than 200 bytes); the chain's first refused line (18 to 22, where any
  * line but E and S is 19; E: 7, 2; S: 2, 3, 25, 4, 5, 6); the point line's 18 to 22, 2, 3, 25, 9, 10, 11; to angles 2 (ellipsoid), 12; onto
  * Cassini 2 (false easting, false northing), 12 (the origin), 13, 14.
- * Every array is handed over as a pointer and the number of its elements; with 0 the pointer may be NULL. out must not overlap chain or point:
- * nothing would say so, and the line would be nonsense. */
+ * Every array is handed over as a pointer and the number of its elements, and the pointer must be valid also where there are none; out must not
+ * overlap the others. */
 int64_t swivelcrane_lot_plan(const uint8_t *chain, size_t chain_length, const uint8_t *point, size_t point_length, int64_t ellipsoid,
                              int64_t origin_latitude, int64_t origin_longitude, int64_t false_easting, int64_t false_northing,
                              uint8_t *out, size_t out_length);

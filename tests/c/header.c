@@ -1,5 +1,5 @@
 /* Every function of include/swivelcrane.h, called with arguments of which no two could change places unseen, and held to stored.h, which the
- * independent program worked out; the texts of whole sheets and plans are document 01's lines, with refusals worked out by hand. A refusal and a wrong length write nothing. */
+ * independent program worked out; the texts at the end are document 01's lines, with refusals worked out by hand. A refusal and a wrong length write nothing. */
 #include <stdio.h>
 #include <string.h>
 
@@ -358,98 +358,44 @@ static void programs(void) {
     prints(swivelcrane_plan, TEXT("O\t1\t1440000000\t036720000000\t50000\t-25000\nG\tb1\t1\t2\n"), "R\t1\t22\t15\nR\t2\t21\t2\n", "places in a plan");
 }
 
-#define OF(id, issue, z) "P\t" id "\t" issue "\t1\t5\t2006586\t-113105165410\t620471033650\t" z "\n"
-
-/* A pile: what it prints, and nothing past it; with a row or a byte of room less in one place, nothing. */
-static void hands_out(const uint8_t *pile, size_t length, const char *stored, const char *what) {
-    static uint64_t work[7 * SWIVELCRANE_LATEST_ROWS(2097153)];
-    static uint8_t text[4096];
-    const size_t rows = SWIVELCRANE_LATEST_ROWS(length), room = SWIVELCRANE_LATEST_ROOM(length), size = strlen(stored);
-    static uint8_t large[SWIVELCRANE_LATEST_ROOM(2097153)];
-    uint8_t *to = room <= sizeof text ? text : large;
-    memset(to, 0xA5, size + 1);
-    hold(swivelcrane_latest(pile, length, SWIVELCRANE_LATEST_WORK(work, rows), to, room - 1) == -SWIVELCRANE_WRONG_LENGTH && to[0] == 0xA5, what);
-    for (size_t column = 0; rows > 0 && column < 7; column++) {
-        size_t n[7];
-        for (size_t i = 0; i < 7; i++)
-            n[i] = rows - (i == column);
-        const int64_t answer = swivelcrane_latest(pile, length, work, n[0], work + rows, n[1], work + 2 * rows, n[2], (size_t *)(work + 3 * rows), n[3],
-                                                  (size_t *)(work + 4 * rows), n[4], (size_t *)(work + 5 * rows), n[5], work + 6 * rows, n[6], to, room);
-        hold(answer == -SWIVELCRANE_WRONG_LENGTH && to[0] == 0xA5, what);
-    }
-    hold(swivelcrane_latest(pile, length, SWIVELCRANE_LATEST_WORK(work, rows), to, room) == (int64_t)size && memcmp(to, stored, size) == 0, what);
-    hold(to[size] == 0xA5, what);
-}
-
-static void piles(void) {
-    static uint8_t longest[2097153];
-    memset(longest, '\n', sizeof longest);
-    hands_out(TEXT(OF("A", "9", "1") OF("A", "10", "2")), OF("A", "10", "2"), "issue 10 after 9");
-    hands_out(TEXT(OF("A", "10", "2") OF("A", "9", "1")), OF("A", "10", "2"), "issue 9 after 10");
-    hands_out(TEXT(OF("B", "1", "1") OF("A", "3", "1") OF("B", "1", "1")), OF("B", "1", "1") OF("A", "3", "1"), "the first of equal lines");
-    hands_out(TEXT(OF("A", "2", "1") OF("A", "3", "1") OF("A", "3", "2") OF("AB", "1", "1")), "R\t2\t17\t0\nR\t3\t17\t0\n" OF("AB", "1", "1"), "two that differ");
-    hands_out(TEXT(OF("A", "3", "1") OF("A", "3", "2") OF("B", "1", "1") OF("B", "70000", "1") "P\n"), "R\t1\t17\t0\nR\t2\t17\t0\nR\t4\t2\t0\nR\t5\t20\t1\n", "a bad line");
-    hands_out(longest, 0, "", "an empty pile");
-    hands_out(longest, sizeof longest, "R\t0\t15\t0\n", "a pile that is too long");
-}
-
-#define JOHOR "P\tJOHOR-07\t12\t4\t1\t0\t-122145678901\t622012345678\t53876543210\n"
-#define RADIO                                                                                                  \
-    "E\t2021\nS\tB\t1\t0\t5\t2000000\tC\t-1100000\t85100000\t500000\t12500\t-8300\t40250\t-1350\n"              \
-    "S\tT\t5\t2000000\t6\t2006586\t-15832\t-4363\t-9706\nS\tV\t6\t2006586\t6\t2010000\t-1876\t-90\t-684\n"     \
-    "S\tF\t6\t2010000\t10\t2010000\n" JOHOR "\nE\t2009\n"                                                     \
-    "P\tJOHOR-08\t12\t4\t1\t0\t-122145678901\t622012345678\t+53876543210\n"                                    \
-    "S\tT\t10\t2010000\t10\t2010000\t1\t2\t3\n" JOHOR "P\tJOHOR-0"
-#define RADIO_2009                                                                                             \
-    "E\t2009\nS\tB\t1\t0\t5\t2000000\tP\t-1100000\t85100000\t500000\t12500\t-8300\t40250\t-1350\n"              \
-    "S\tT\t5\t2000000\t7\t2006586\t-15832\t-4363\t-9706\n" JOHOR                                               \
-    "P\tARAU\t1\t3\t6\t2000000\t-113105165410\t623631179950\t71174811140\n"
-
-struct radio {
-    const uint8_t *sheet;
-    size_t length;
-    const char *text;
-    const int64_t *lengths, *open, *closed;
-};
-
-/* A sheet in pieces of one length: what each line prints, how long it is, and the state before the finish and after it are as stored. */
-static void in_pieces(const struct radio *r, size_t piece) {
+/* A sheet in pieces of one length, whose answers together are those of one run; then the state is finished. */
+static void in_pieces(const uint8_t *sheet, size_t length, size_t piece) {
     enum { NUMBERS = SWIVELCRANE_STREAM_NUMBERS, LINE = SWIVELCRANE_STREAM_LINE };
+    static uint8_t whole[SWIVELCRANE_ROOM(65536)];
     int64_t state[NUMBERS] = {0, 0, 0, 0, 0, 2021}, told[2] = {0, 0};
     uint8_t line[LINE] = {0}, answer[LINE];
-    const char *text = r->text;
-    size_t lines = 0;
-    for (size_t at = 0; at < r->length; at += (size_t)told[0]) {
-        const size_t left = r->length - at < piece ? r->length - at : piece;
+    size_t printed = 0, lines = 0;
+    const int64_t size = swivelcrane_sheet(sheet, length, whole, SWIVELCRANE_ROOM(length));
+    for (size_t at = 0; at < length; at += (size_t)told[0]) {
+        const size_t left = length - at < piece ? length - at : piece;
         memset(answer, 0xA5, LINE);
-        const int64_t count = swivelcrane_feed(state, NUMBERS, line, LINE, r->sheet + at, left, answer, LINE, told, 2);
+        const int64_t count = swivelcrane_feed(state, NUMBERS, line, LINE, sheet + at, left, answer, LINE, told, 2);
         if (count < 0 || told[0] <= 0) {
             hold(0, "feed");
             return;
         }
-        hold(told[1] == (r->sheet[at + (size_t)told[0] - 1] == '\n'), "feed, a line answered");
-        hold(count == (told[1] ? r->lengths[lines] : 0) && memcmp(text, answer, (size_t)count) == 0 && answer[count] == 0xA5, "feed");
-        text += count;
+        hold(memcmp(whole + printed, answer, (size_t)count) == 0 && answer[count] == 0xA5, "feed, as in one run");
+        hold(told[1] == (sheet[at + (size_t)told[0] - 1] == '\n') && (told[1] == 1 || count == 0), "feed, a line answered");
+        printed += (size_t)count;
         lines += (size_t)told[1];
     }
-    hold(memcmp(state, r->open, sizeof state) == 0, "feed, the state");
+    const int open = length > 0 && sheet[length - 1] != '\n';
     const int64_t count = swivelcrane_finish(state, NUMBERS, line, LINE, answer, LINE);
-    hold(count == r->lengths[lines] && memcmp(text, answer, (size_t)count) == 0 && text[count] == 0, "finish");
-    hold(memcmp(state, r->closed, sizeof state) == 0 && line[0] == 0, "finish, the state");
+    hold(count >= 0 && memcmp(whole + printed, answer, (size_t)count) == 0 && (int64_t)printed + count == size, "finish, as in one run");
+    hold(state[0] == (int64_t)lines + open && state[1] == 0 && state[4] == 1 && line[0] == 0, "finish, the state");
     hold(swivelcrane_finish(state, NUMBERS, line, LINE, answer, LINE) == -SWIVELCRANE_REFUSAL_STATE, "finish: 29");
-    hold(swivelcrane_feed(state, NUMBERS, line, LINE, r->sheet, 0, answer, LINE, told, 2) == -SWIVELCRANE_REFUSAL_STATE, "feed, after the finish: 29");
+    hold(swivelcrane_feed(state, NUMBERS, line, LINE, sheet, 0, answer, LINE, told, 2) == -SWIVELCRANE_REFUSAL_STATE, "feed, after the finish: 29");
 }
 
 static void streams(void) {
     enum { NUMBERS = SWIVELCRANE_STREAM_NUMBERS, LINE = SWIVELCRANE_STREAM_LINE };
-    static const struct radio now = {TEXT(RADIO), stored_radio, stored_radio_lengths, stored_radio_open, stored_radio_closed};
-    static const struct radio then = {TEXT(RADIO_2009), stored_radio_2009, stored_radio_2009_lengths, stored_radio_2009_open, stored_radio_2009_closed};
+    static const char sheet[] = "E\t2021\n" SHIFT A1 "\nP\t" SHIFT A1 "P\tA1";
     int64_t state[NUMBERS] = {0}, told[2] = {CANARY, CANARY};
     uint8_t line[LINE] = {'S'}, answer[LINE + 1] = {0xA5};
-    for (size_t piece = 1; piece <= now.length; piece++) {
-        in_pieces(&now, piece);
-        in_pieces(&then, piece);
-    }
+    for (size_t piece = 1; piece < sizeof sheet; piece++)
+        in_pieces(TEXT(sheet), piece);
+    in_pieces(TEXT(SHIFT), 5);
+    in_pieces(TEXT(""), 5);
     refused(swivelcrane_feed(state, NUMBERS, line, LINE, TEXT("\n"), answer, LINE, told, 2), -SWIVELCRANE_REFUSAL_STATE, "feed, no profile: 29");
     state[5] = 2021;
     state[0] = 1000001;
@@ -488,39 +434,6 @@ static void grids(void) {
     refused(swivelcrane_grid_fault(TEXT(GRID), out, 2), SWIVELCRANE_WRONG_LENGTH, "grid_fault, room for two");
 }
 
-/* NULL for an array of no element, in every call that takes one. */
-static void none_at_null(void) {
-    int64_t state[SWIVELCRANE_STREAM_NUMBERS] = {0, 0, 0, 0, 0, 2021}, told[2];
-    uint8_t line[SWIVELCRANE_STREAM_LINE] = {0}, answer[SWIVELCRANE_STREAM_LINE];
-    wrote(swivelcrane_forward(2021, NULL, 0, point, POINT, out, POINT), point, POINT, "forward, no step at NULL");
-    wrote(swivelcrane_inverse(2021, NULL, 0, point, POINT, out, POINT), point, POINT, "inverse, no step at NULL");
-    refused(swivelcrane_forward(2021, NULL, 0, NULL, 0, NULL, 0), SWIVELCRANE_WRONG_LENGTH, "forward, nothing at all");
-    refused(swivelcrane_inverse(2021, NULL, 0, NULL, 0, NULL, 0), SWIVELCRANE_WRONG_LENGTH, "inverse, nothing at all");
-    refused(swivelcrane_join(2021, NULL, 0, 2021, NULL, 0, out, SWIVELCRANE_JOINED_NUMBERS), 0, "join, none and none at NULL");
-    refused(swivelcrane_join(2021, NULL, 0, 2021, NULL, 0, NULL, 0), -SWIVELCRANE_WRONG_LENGTH, "join, nothing at all");
-    refused(swivelcrane_row(2021, NULL, 0, 0, NULL, 0, NULL, 0), 0, "row, no point at NULL");
-    refused(swivelcrane_cartesian(1, 0, 36000000000, 0, NULL, 0), SWIVELCRANE_WRONG_LENGTH, "cartesian, no room");
-    refused(swivelcrane_cartesian_units(1, 0, 36000000000, 0, NULL, 0), SWIVELCRANE_WRONG_LENGTH, "cartesian_units, no room");
-    refused(swivelcrane_geodetic(1, -131769233712, 622894736791, 37897691636, NULL, 0), SWIVELCRANE_WRONG_LENGTH, "geodetic, no room");
-    refused(swivelcrane_cassini(1, 0, 36000000000, 0, 0, 0, 36000000000, NULL, 0), SWIVELCRANE_WRONG_LENGTH, "cassini, no room");
-    refused(swivelcrane_cassini_millimetres(1, 0, 36000000000, 0, 0, 0, 36000000000, NULL, 0), SWIVELCRANE_WRONG_LENGTH, "cassini_millimetres, no room");
-    refused(swivelcrane_rso_forward(NULL, 0, 0, 36000000000, NULL, 0), SWIVELCRANE_WRONG_LENGTH, "rso_forward, nothing at all");
-    refused(swivelcrane_rso_reverse(NULL, 0, 0.0, 0.0, NULL, 0), SWIVELCRANE_WRONG_LENGTH, "rso_reverse, nothing at all");
-    refused(swivelcrane_round(1.0, 5, NULL, 0), SWIVELCRANE_WRONG_LENGTH, "round, no room at NULL");
-    refused(swivelcrane_later(NULL, 0, NULL, 0, out, 1), SWIVELCRANE_REFUSAL_LENGTH, "later, no bytes at NULL");
-    refused(swivelcrane_later(NULL, 0, NULL, 0, NULL, 0), SWIVELCRANE_WRONG_LENGTH, "later, nothing at all");
-    hold(swivelcrane_later_fault(NULL, 0, NULL, 0, out, 3) == 0 && out[0] == SWIVELCRANE_REFUSAL_LENGTH && out[1] == 1 && out[2] == 0, "later_fault, no bytes at NULL");
-    clear();
-    hold(swivelcrane_sheet(NULL, 0, text, 9) == 0 && swivelcrane_plan(NULL, 0, text, 9) == 0, "an empty sheet and an empty plan at NULL");
-    hold(swivelcrane_sheet(NULL, 0, NULL, 0) == -SWIVELCRANE_WRONG_LENGTH && swivelcrane_plan(NULL, 0, NULL, 0) == -SWIVELCRANE_WRONG_LENGTH, "a sheet and a plan, nothing at all");
-    hold(swivelcrane_feed(state, SWIVELCRANE_STREAM_NUMBERS, line, sizeof line, NULL, 0, answer, sizeof answer, told, 2) == 0 && told[0] == 0 && told[1] == 0, "feed, no bytes at NULL");
-    hold(swivelcrane_feed(NULL, 0, NULL, 0, NULL, 0, NULL, 0, NULL, 0) == -SWIVELCRANE_WRONG_LENGTH, "feed, nothing at all");
-    hold(swivelcrane_finish(NULL, 0, NULL, 0, NULL, 0) == -SWIVELCRANE_WRONG_LENGTH, "finish, nothing at all");
-    refused(swivelcrane_grid_velocity(NULL, 0, 0, 36000000000, 7, 2010000, 2020000, out, 16), SWIVELCRANE_REFUSAL_LINES, "grid_velocity, no bytes at NULL");
-    hold(swivelcrane_grid_fault(NULL, 0, out, 3) == 0 && out[0] == SWIVELCRANE_REFUSAL_LINES, "grid_fault, no bytes at NULL");
-    clear();
-}
-
 static void numbers(void) {
     hold(SWIVELCRANE_ROOM(0) == 9 && SWIVELCRANE_ROOM(1 + 1) == 35 && SWIVELCRANE_ROOM(65535) == 851964, "the room");
     hold(SWIVELCRANE_ROOM(65536) == 851977 && SWIVELCRANE_ROOM(65537) == 851977, "the most room");
@@ -546,10 +459,8 @@ int main(void) {
     later();
     faults_of_the_later();
     programs();
-    piles();
     streams();
     grids();
-    none_at_null();
     if (faults == 0)
         printf("tests/c: every function of the header answers as stored\n");
     return faults != 0;

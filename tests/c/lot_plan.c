@@ -43,9 +43,6 @@ int main(void) {
     memset(out, 0xA5, sizeof out);
     line(swivelcrane_lot_plan(TEXT(CHAIN), TEXT(POINT), 1, 2149440000, 36243000000, 50000, -25000, out, room), stored_lot_plan, "lot_plan");
     line(swivelcrane_lot_plan(TEXT(""), TEXT(POINT), 1, 2149440000, 36243000000, 50000, -25000, out, room + 1), stored_lot_plan_no_step, "lot_plan, no step");
-    line(swivelcrane_lot_plan(NULL, 0, TEXT(POINT), 1, 2149440000, 36243000000, 50000, -25000, out, room), stored_lot_plan_no_step, "lot_plan, no step at NULL");
-    refused(swivelcrane_lot_plan(NULL, 0, NULL, 0, 1, 2149440000, 36243000000, 50000, -25000, out, room), SWIVELCRANE_REFUSAL_LENGTH, "lot_plan, no point at NULL: 18");
-    refused(swivelcrane_lot_plan(NULL, 0, NULL, 0, 1, 2149440000, 36243000000, 50000, -25000, NULL, 0), SWIVELCRANE_REFUSAL_BUFFER, "lot_plan, nothing at all: 27");
     refused(swivelcrane_lot_plan(TEXT("x"), TEXT("x"), 5, -1, -1, 1, 1, out, room - 1), SWIVELCRANE_REFUSAL_BUFFER, "lot_plan: 27 before all others");
     refused(swivelcrane_lot_plan(TEXT("x"), TEXT("x"), 5, -1, -1, 1, 1, out, room), SWIVELCRANE_REFUSAL_LENGTH, "lot_plan: 18, the chain's");
     refused(swivelcrane_lot_plan(TEXT(CHAIN POINT), TEXT("x"), 5, -1, -1, 1, 1, out, room), SWIVELCRANE_REFUSAL_LETTER, "lot_plan: 19, a point line in the chain");

@@ -7,7 +7,6 @@ mod elementary;
 pub mod geodetic;
 pub mod grid;
 pub mod later;
-pub mod latest;
 pub mod lot_plan;
 mod malformed;
 pub mod numbers;

@@ -4,8 +4,6 @@
 pub mod arguments;
 pub mod checks;
 pub mod compare;
-pub mod desk;
-pub mod fuzz;
 pub mod gen;
 pub mod measure;
 #[cfg(feature = "product")]

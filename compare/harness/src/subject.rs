@@ -85,8 +85,6 @@ pub trait Subject {
     fn grid_velocity(&self, grid: &[u8], asked: &Asked) -> Answer<[i64; 16]>;
     /// The number, the line from 1 and the place of a grid's refusal; zeros for none.
     fn grid_fault(&self, grid: &[u8]) -> Answer<[i64; 3]>;
-    /// The latest line of every point of a pile.
-    fn latest(&self, pile: &[u8]) -> Vec<u8>;
     fn sheet(&self, input: &[u8]) -> Vec<u8>;
     fn plan(&self, input: &[u8]) -> Vec<u8>;
 }
@@ -172,9 +170,6 @@ impl Subject for Paper {
         let [e, a, b, fe, fn_] = lot.origin;
         let origin = origin(&[e, a, b, fe, fn_, 0, 0]);
         paper::lot_plan::lot_plan(&lot.text, &lot.line, &origin, lot.room).map(String::into_bytes)
-    }
-    fn latest(&self, pile: &[u8]) -> Vec<u8> {
-        paper::latest::latest(pile)
     }
     fn sheet(&self, input: &[u8]) -> Vec<u8> {
         paper::sheet::sheet(input)
@@ -264,11 +259,6 @@ impl Subject for Baseline {
         let mut out = Vec::new();
         baseline::lot_plan::lot_plan(&lot.text, &lot.line, lot.origin, lot.room, &mut out)?;
         Ok(out)
-    }
-    fn latest(&self, pile: &[u8]) -> Vec<u8> {
-        let mut out = Vec::new();
-        baseline::latest::latest(pile, &mut out);
-        out
     }
     fn sheet(&self, input: &[u8]) -> Vec<u8> {
         let mut out = Vec::new();

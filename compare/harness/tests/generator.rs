@@ -1,12 +1,12 @@
 //! The generator makes what it says it makes.
 
 use harness::gen::chains::Chains;
-use harness::gen::{faulty_lines, full, geodetic, halves, plans, points, sheets};
+use harness::gen::{full, geodetic, halves, plans, points, sheets};
 use harness::rng::Rng;
 use paper::ellipsoid::by_code;
 use paper::geodetic::{quantities, SECONDS};
 use paper::numbers::steps;
-use std::collections::{BTreeMap, BTreeSet};
+use std::collections::BTreeSet;
 
 #[test]
 fn good_chains_have_no_faults_and_end_where_they_say() {
@@ -87,28 +87,4 @@ fn angles_are_led_to_halves() {
         near += i32::from(off(q.phi) < 0.00001 || off(q.w) < 0.00001);
     }
     assert!(near > 120, "{near}");
-}
-
-/// Every number that a letter's line can be refused with comes first somewhere.
-#[test]
-fn every_letter_has_each_of_its_faults() {
-    let mut numbers: BTreeMap<&str, BTreeSet<i64>> = BTreeMap::new();
-    for case in faulty_lines::cases() {
-        numbers.entry(case.name).or_default().insert(case.number);
-    }
-    let expected: [(&str, &[i64]); 11] = [
-        ("P", &[0, 2, 3, 8, 9, 10, 11, 18, 19, 20, 21, 22, 25]),
-        ("P of a pair", &[0, 2, 3, 18, 19, 20, 21, 22]),
-        ("S T", &[0, 2, 3, 5, 6, 7, 8, 18, 19, 20, 22, 25]),
-        ("S V", &[0, 2, 3, 4, 5, 6, 7, 8, 18, 19, 20, 22, 25]),
-        ("S B", &[0, 2, 3, 5, 6, 7, 8, 18, 19, 20, 22, 25]),
-        ("S F", &[0, 2, 3, 4, 5, 6, 7, 8, 18, 19, 20, 22, 25]),
-        ("E", &[0, 2, 7, 18, 19, 20, 22]),
-        ("O", &[0, 2, 7, 12, 18, 19, 20, 22]),
-        ("G", &[0, 8, 12, 13, 18, 19, 20, 21, 22]),
-        ("grid header", &[0, 2, 18, 19, 20, 22, 30]),
-        ("node", &[0, 2, 18, 20, 22, 30]),
-    ];
-    let expected = expected.map(|(name, numbers)| (name, numbers.iter().copied().collect()));
-    assert_eq!(numbers, BTreeMap::from(expected));
 }

@@ -7,7 +7,6 @@
 pub mod angle;
 pub mod chain;
 pub mod decimal;
-pub mod desk;
 pub mod ellipsoid;
 pub mod fraction;
 pub mod functions;
@@ -15,7 +14,6 @@ pub mod geodetic;
 pub mod grid;
 pub mod join;
 pub mod later;
-pub mod latest;
 pub mod library;
 pub mod lines;
 pub mod lot_plan;

@@ -10,7 +10,7 @@ pub fn plan(input: &[u8]) -> Vec<u8> {
 }
 
 #[derive(Default)]
-pub struct Plan {
+struct Plan {
     lines_read: u64,
     origin: Option<Origin>,
 }

@@ -11,11 +11,6 @@ pub fn sheet(input: &[u8]) -> Vec<u8> {
     program::run(input, Sheet::default())
 }
 
-/// The points of a sheet back to the chain's start, a whole text at once.
-pub fn back(input: &[u8]) -> Vec<u8> {
-    program::run(input, Sheet { back: true, ..Sheet::default() })
-}
-
 #[derive(Clone, Default)]
 pub struct Sheet {
     pub lines_read: u64,
@@ -25,8 +20,6 @@ pub struct Sheet {
     pub step_refused: bool,
     /// A point line of good form was read, refused or not.
     pub point_read: bool,
-    /// The desk's `back`: points stand at the chain's end and go to its start.
-    pub back: bool,
 }
 
 impl Reader for Sheet {
@@ -78,8 +71,7 @@ impl Sheet {
         chain::point_faults(&named.value)?;
         unless(self.profile.has_point(&named.value), PROFILE)?;
         unless(!self.step_refused, EARLIER)?;
-        let convert = if self.back { chain::inverse_checked } else { chain::forward_checked };
-        let moved = convert(&self.chain, named.value)?;
+        let moved = chain::forward_checked(&self.chain, named.value)?;
         let [x, y, z] = moved.position;
         let (issue, order) = (moved.issue, moved.order);
         let (datum, epoch) = (moved.at.datum, moved.at.epoch);

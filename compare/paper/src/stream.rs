@@ -91,7 +91,6 @@ fn load(state: &[i64; STATE], room: &[u8; ROOM]) -> Result<Stream, Refusal> {
             chain,
             step_refused: refused == 1,
             point_read: closed == 1,
-            back: false,
         },
         open: room[..kept as usize].to_vec(),
         finished: false,

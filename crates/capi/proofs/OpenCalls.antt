@@ -19,8 +19,7 @@ use Rattle.sheet_stream.specs.Fragments.{sound, state_of, fed, fed_at, feed_of}
 use Rattle.sheet_stream.proofs.Laws.{sound-parts, sound-is, feed-state}
 use Rattle.sheet_stream.proofs.Scanning.{Going, fed-open}
 use Rattle.chain.specs.Numbers.{number, chain_from}
-use Rattle.sheet_rules.specs.Engine.{is_flag, flag, bit, chain_in}
-use Rattle.capi.specs.Fragments.{state_range, standing_in, stream_from, head_of, numbers_with, OpenCall}
+use Rattle.capi.specs.Fragments.{state_range, is_flag, flag, bit, chain_in, standing_in, stream_from, head_of, numbers_with, OpenCall}
 use Rattle.capi.proofs.Streams.{counts, size_of, countable, two, no_line, no-new-step}
 
 -- ---- the first seven numbers, stored as they were but for the second

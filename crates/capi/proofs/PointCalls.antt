@@ -33,8 +33,7 @@ use Rattle.sheet_stream.specs.declared.Outcome.{Outcome}
 use Rattle.sheet_stream.specs.declared.Outcome.TheVariants.{Line, Refused}
 use Rattle.sheet_stream.specs.Fragments.{no_bytes, between, fed, unsound, ends_with, fed_at, feed_of, Short}
 use Rattle.sheet_stream.proofs.Scanning.{Going, closing-room, fed-line, ended-unsound, ended-replied}
-use Rattle.sheet_rules.specs.Engine.{is_flag, flag, bit, chain_in}
-use Rattle.capi.specs.Fragments.{state_range, standing_in, stream_from, head_of, numbers_with, point_time, point_passed, FedCall}
+use Rattle.capi.specs.Fragments.{state_range, is_flag, flag, bit, chain_in, standing_in, stream_from, head_of, numbers_with, point_time, point_passed, FedCall}
 use Rattle.capi.proofs.Streams.{counts, size_of, countable, two, head, no-new-step, declined, line-ended}
 use Rattle.capi.proofs.OpenCalls.{flag-back, count-back, flags, steps-in, profile-in}
 

@@ -38,8 +38,7 @@ use Rattle.sheet_stream.specs.declared.Outcome.TheVariants.{Open, Line, Refused}
 use Rattle.sheet_stream.specs.Fragments.{Countable, Short}
 use Rattle.chain.specs.Numbers.{number, chain_from}
 use Rattle.chain.proofs.LentSteps.{eight-none}
-use Rattle.sheet_rules.specs.Engine.{is_flag, chain_in, flag, bit, convention_number, step_numbers}
-use Rattle.capi.specs.Fragments.{FreshFromC, sized_state, state_range, standing_in, stream_from, head_of, with_new_step, numbers_with, Called, of_outcome, called, state_call, told_of, told_after, Stated}
+use Rattle.capi.specs.Fragments.{FreshFromC, sized_state, state_range, is_flag, chain_in, standing_in, stream_from, flag, bit, head_of, convention_number, step_numbers, with_new_step, numbers_with, Called, of_outcome, called, state_call, told_of, told_after, Stated}
 
 -- ---- the lengths
 pub record Sized (numbers bytes out : ℕ) : Type 0 where

@@ -1,20 +1,26 @@
 -- A sheet in fragments: its state out of numbers and bytes and back, in the order that include/swivelcrane.h gives, and what the two calls answer.
-use Rattle.std.specs.Prelude.{ℕ, suc, ◌+◌, ◌-◌, ◌*◌, ◌≡◌, Bool, true, false, not, ◌&&◌, ◌||◌, List, [], ◌∷◌, ◌++◌, eqb, leb, ltb, ℤ, pos, neg_ℤ, nat_abs, length, get_or, drop, replicate}
+use Rattle.std.specs.Prelude.{ℕ, suc, ◌+◌, ◌-◌, ◌*◌, ◌≡◌, Bool, true, false, not, ◌&&◌, ◌||◌, List, [], ◌∷◌, ◌++◌, eqb, leb, ltb, ℤ, pos, neg_ℤ, nat_abs, length, get_or, take, drop, replicate}
 use Rattle.std.proofs.lemmas.List.Edits.{sets}
 use Rattle.refusal.specs.Numbers as refusal
 use Rattle.refusal.specs.Order.{pick}
-use Rattle.ranges.specs.Ranges.{within}
+use Rattle.ranges.specs.Ranges.{within, equal}
+use Rattle.chain.specs.declared.Convention.{Convention}
+use Rattle.chain.specs.declared.Convention.TheVariants.{PositionVector, CoordinateFrame}
+use Rattle.chain.specs.declared.Kind.{Kind}
+use Rattle.chain.specs.declared.Kind.TheVariants.{Shift, Velocity, BursaWolf, Frame}
+use Rattle.chain.specs.declared.Step.{Step}
 use Rattle.chain.specs.declared.Chain.{Chain}
+use Rattle.chain.specs.Faults.{latest}
 use Rattle.chain.specs.Join.{past_steps}
+use Rattle.line.specs.Bytes.{letter_b, letter_c, letter_f, letter_p, letter_t, letter_v}
 use Rattle.sheet_rules.specs.declared.Standing.{Standing}
 use Rattle.sheet_rules.specs.Sheet.{reply_text}
-use Rattle.sheet_rules.specs.Engine.{is_flag, flag, bit, chain_in, fresh_numbers, step_numbers}
 use Rattle.sheet_stream.specs.declared.Stream.{Stream}
 use Rattle.sheet_stream.specs.declared.Outcome.{Outcome}
 use Rattle.sheet_stream.specs.declared.Outcome.TheVariants.{Open, Line, Refused}
 use Rattle.sheet_stream.specs.declared.Fed.{Fed}
 use Rattle.sheet_stream.specs.Fragments.{no_bytes, fresh, feed_of, finish_of}
-use Rattle.chain.specs.Numbers.{number}
+use Rattle.chain.specs.Numbers.{number, chain_from}
 use Rattle.chain.specs.Numbers.{no_step}
 
 -- ---- the lengths: seven numbers and 13 to each of eight steps; the open line's bytes; room for an answer
@@ -22,11 +28,21 @@ unfoldable pub sized_state : ℕ → ℕ → ℕ → Bool
 sized_state numbers bytes out = eqb numbers 111 && eqb bytes 200 && leb 200 out
 
 -- ---- the state out of numbers: lines answered, bytes kept, refused, closed, finished, profile, steps; then the steps
+abbrev pub is_flag : ℤ → Bool
+is_flag n = within (pos 0) n (pos 1)
+
 -- the counts and the flags; a profile that is none is the chain's fault
 unfoldable pub state_range : List ℤ → Bool
 state_range ns =
     (within (pos 0) (number ns 0) (pos 1000000) && within (pos 0) (number ns 1) (pos 200) && within (pos 0) (number ns 6) (pos 8))
     && (is_flag (number ns 2) && is_flag (number ns 3) && is_flag (number ns 4))
+
+abbrev pub flag : ℤ → Bool
+flag n = not (equal (pos 0) n)
+
+-- so many steps, from the eighth number on; the numbers past them are not looked at
+unfoldable pub chain_in : List ℤ → Chain
+chain_in ns = chain_from (number ns 5) (take (13 * nat_abs (number ns 6)) (drop 7 ns))
 
 abbrev pub standing_in : List ℤ → Standing
 standing_in ns = record { line = nat_abs (number ns 0) + 1; chain = chain_in ns; refused = flag (number ns 2); closed = flag (number ns 3) }
@@ -39,11 +55,18 @@ stream_from ns bytes = record {
   finished = flag (number ns 4);
 }
 
--- a fresh state is one that the library's theorem is about
+-- a fresh state: all 0 but the profile. It is one that the library's theorem is about
+abbrev pub fresh_numbers : List ℤ
+fresh_numbers = replicate 5 (pos 0) ++ (latest ∷ replicate 105 (pos 0))
+
 abbrev pub FreshFromC : Type 0
 FreshFromC = stream_from fresh_numbers no_bytes ≡ fresh (replicate 8 no_step)
 
 -- ---- and back
+abbrev pub bit : Bool → ℤ
+bit true = pos 1
+bit false = pos 0
+
 unfoldable pub head_of : Stream → List ℤ
 head_of s =
     pos (s.standing.line - 1)
@@ -54,6 +77,31 @@ head_of s =
     ∷ s.standing.chain.profile
     ∷ pos s.standing.chain.length
     ∷ []
+
+-- a step: kind, convention, datum and epoch before and after, and the numbers of its kind; 0 where it has none
+abbrev pub convention_number : Convention → ℤ
+convention_number PositionVector = pos letter_p
+convention_number CoordinateFrame = pos letter_c
+
+abbrev pub step_row : ℤ → ℤ → Step → ℤ → ℤ → ℤ → ℤ → ℤ → ℤ → ℤ → List ℤ
+step_row kind convention s a b c d e f g =
+    kind
+    ∷ convention
+    ∷ s.before.datum
+    ∷ s.before.epoch
+    ∷ s.after.datum
+    ∷ s.after.epoch
+    ∷ a ∷ b ∷ c ∷ d ∷ e ∷ f ∷ g
+    ∷ []
+
+abbrev pub kind_row : Kind → Step → List ℤ
+kind_row (Shift t) s = step_row (pos letter_t) (pos 0) s t.dx t.dy t.dz (pos 0) (pos 0) (pos 0) (pos 0)
+kind_row (Velocity t) s = step_row (pos letter_v) (pos 0) s t.vx t.vy t.vz (pos 0) (pos 0) (pos 0) (pos 0)
+kind_row (BursaWolf t) s = step_row (pos letter_b) (convention_number t.convention) s t.dx t.dy t.dz t.rx t.ry t.rz t.s
+kind_row Frame s = step_row (pos letter_f) (pos 0) s (pos 0) (pos 0) (pos 0) (pos 0) (pos 0) (pos 0) (pos 0)
+
+unfoldable pub step_numbers : Step → List ℤ
+step_numbers s = kind_row s.kind s
 
 -- a step that was taken in stands past those that were there
 unfoldable pub with_new_step : List ℤ → Chain → List ℤ

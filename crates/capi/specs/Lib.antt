@@ -2,7 +2,6 @@ pub mod Calls
 pub mod Chains
 pub mod Outcome
 pub mod Printing
-pub mod Piles
 pub mod Rso
 pub mod Joining
 pub mod PointRow

@@ -7,7 +7,6 @@ pub mod geodetic;
 pub mod grid;
 pub mod joining;
 pub mod later;
-pub mod piles;
 mod point_line;
 pub mod printing;
 pub mod projected;

@@ -4,8 +4,7 @@ ghost use Rattle.chain.specs.Numbers.{number};
 ghost use Rattle.line.specs.Bytes.{letter_p};
 ghost use Rattle.sheet_rules.specs.OneLine.{point_answered, PointPrinted};
 ghost use Rattle.sheet_stream.specs.Fragments.{between, ends_with};
-ghost use Rattle.sheet_rules.specs.Engine.{flag as Fragments·flag, chain_in};
-ghost use Rattle.capi.specs.Fragments.{state_range, stream_from, numbers_with, point_time, point_passed, FedCall};
+ghost use Rattle.capi.specs.Fragments.{state_range, flag as Fragments·flag, chain_in, stream_from, numbers_with, point_time, point_passed, FedCall};
 
 use crate::joining::{copy, minus};
 use crate::state;

@@ -4,8 +4,7 @@ ghost use Rattle.ranges.specs.Ranges.{within};
 ghost use Rattle.sheet_rules.specs.OneLine.{sound_standing};
 ghost use Rattle.sheet_stream.specs.Fragments.{Countable};
 ghost use Rattle.chain.specs.Numbers.{number};
-ghost use Rattle.sheet_rules.specs.Engine.{is_flag, bit as Fragments·bit, flag as Fragments·flag, convention_number, chain_in, step_numbers};
-ghost use Rattle.capi.specs.Fragments.{state_range, standing_in, stream_from, head_of, with_new_step, numbers_with};
+ghost use Rattle.capi.specs.Fragments.{is_flag, state_range, bit as Fragments·bit, flag as Fragments·flag, convention_number, chain_in, standing_in, stream_from, head_of, step_numbers, with_new_step, numbers_with};
 
 use crate::joining::copy;
 use chain::{Chain, Convention, Kind, Step, chain_from};

@@ -16,10 +16,10 @@ pub record RangeCase : Type 0 where
   pub found : ℕ
   pub wanted : ℕ
 
-abbrev pub by : ℕ → ℕ → RangeCase
+abbrev by : ℕ → ℕ → RangeCase
 by f w = record { found = f; wanted = w }
 
-abbrev pub fine : ℕ
+abbrev fine : ℕ
 fine = 0
 
 -- ---- a point: issue, order, datum, epoch, coordinates

@@ -1,5 +1,5 @@
-// Functions of f64, each in a written order of operations (docs/ORDERS.md). Every call answers for every f64; outside the arguments that a function names the answer means
-// nothing: the sine of 10 is -215.8, and the arctangent of 1e200 not a number.
+// Functions of f64, each in a written order of operations (docs/ORDERS.md). Every call answers for every f64: outside the arguments that a function names it loses
+// accuracy, and nothing else.
 mod half;
 mod heron;
 mod hyperbolic;

@@ -66,39 +66,35 @@ pub on-more : {room held more : ℕ} {r : Next} → held ≤ room → r ≡ next
 on-more {room} {held} h e f = subst (Sound room held) (sym f.next ∙ e) (sound room held h f.got)
 
 -- ---- the answers of reads, one after another
-pub reads_on : {room held more turn : ℕ} {r : Next} {a : Input} → r ≡ next.On more → Follows room held r → Reads room more (turn + 1) a → Reads room held turn a
+pub reads_on : {room held more : ℕ} {r : Next} {a : Input} → r ≡ next.On more → Follows room held r → Reads room more a → Reads room held a
 unfolding input_of
-reads_on {room} {turn = turn} e f q =
-    record { answers = f.got ∷ q.answers; input = ap (λ (n : Next). decided turn n (λ (m : ℕ). input_of room m (turn + 1) q.answers)) (sym f.next ∙ e) ∙ q.input }
+reads_on {room} e f q = record { answers = f.got ∷ q.answers; input = ap (λ (n : Next). decided n (λ (m : ℕ). input_of room m q.answers)) (sym f.next ∙ e) ∙ q.input }
 
-pub reads_whole : {room held n turn : ℕ} {r : Next} → r ≡ next.Whole n → Follows room held r → Reads room held turn (input.Whole n turn)
+pub reads_whole : {room held n : ℕ} {r : Next} → r ≡ next.Whole n → Follows room held r → Reads room held (input.Whole n)
 unfolding input_of
-reads_whole {room} {turn = turn} e f = record { answers = f.got ∷ []; input = ap (λ (n : Next). decided turn n (λ (m : ℕ). input_of room m (turn + 1) [])) (sym f.next ∙ e) }
+reads_whole {room} e f = record { answers = f.got ∷ []; input = ap (λ (n : Next). decided n (λ (m : ℕ). input_of room m [])) (sym f.next ∙ e) }
 
-pub reads-failed : {room held turn : ℕ} {r : Next} → r ≡ next.Failed → Follows room held r → Reads room held turn (input.Failed turn)
+pub reads-failed : {room held : ℕ} {r : Next} → r ≡ next.Failed → Follows room held r → Reads room held input.Failed
 unfolding input_of
-reads-failed {room} {turn = turn} e f = record { answers = f.got ∷ []; input = ap (λ (n : Next). decided turn n (λ (m : ℕ). input_of room m (turn + 1) [])) (sym f.next ∙ e) }
+reads-failed {room} e f = record { answers = f.got ∷ []; input = ap (λ (n : Next). decided n (λ (m : ℕ). input_of room m [])) (sym f.next ∙ e) }
 
 -- a buffer keeps its length while it is read into
-pub reads_same : {room room' held turn : ℕ} {a : Input} → room ≡ room' → Reads room held turn a → Reads room' held turn a
-reads_same {held = held} {turn} {a} e q = subst (λ (k : ℕ). Reads k held turn a) e q
+pub reads_same : {room room' held : ℕ} {a : Input} → room ≡ room' → Reads room held a → Reads room' held a
+reads_same {held = held} {a} e q = subst (λ (k : ℕ). Reads k held a) e q
 
 -- ---- what a caller knows: the bytes fit the buffer, and are a part of it
-fits : (room n made held turn : ℕ) (gots : List ℤ) → held ≤ room → input_of room held turn gots ≡ some (input.Whole n made) → n ≤ room
+fits : (room n held : ℕ) (gots : List ℤ) → held ≤ room → input_of room held gots ≡ some (input.Whole n) → n ≤ room
 unfolding input_of
-fits room n made held turn [] h e = let w : ◌≡◌ {A = ℕ} 0 1 = cc in absurd (omega arith)
-fits room n made held turn (got ∷ gots) h e = go (λ m k q. fits room n made m (turn + 1) gots k q) (after_read room held got) (sound room held h got) e
+fits room n held [] h e = let w : ◌≡◌ {A = ℕ} 0 1 = cc in absurd (omega arith)
+fits room n held (got ∷ gots) h e = go (λ m k q. fits room n m gots k q) (after_read room held got) (sound room held h got) e
   where
-    Later : ℕ → Type 0
-    Later m = input_of room m (turn + 1) gots ≡ some (input.Whole n made)
-
-    go : ((m : ℕ) → m ≤ room → Later m → n ≤ room) → (x : Next) → Sound room held x → decided turn x (λ (m : ℕ). input_of room m (turn + 1) gots) ≡ some (input.Whole n made) → n ≤ room
+    go : ((m : ℕ) → m ≤ room → input_of room m gots ≡ some (input.Whole n) → n ≤ room) → (x : Next) → Sound room held x → decided x (λ (m : ℕ). input_of room m gots) ≡ some (input.Whole n) → n ≤ room
     go on (next.On more) s e = on more (omega (arith, s.1)) e
     go on (next.Whole k) s e = let w : k ≡ n = cc in omega (arith, s, w)
     go on next.Failed s e = let w : ◌≡◌ {A = ℕ} 0 1 = cc in absurd (omega arith)
 
-pub held_fits : (r : Input) (n made k : ℕ) → r ≡ input.Whole n made → Reads k 0 1 r → n ≤ k
-held_fits r n made k e q = fits k n made 0 1 q.answers (omega arith) (q.input ∙ ap some e)
+pub held_fits : (r : Input) (n k : ℕ) → r ≡ input.Whole n → Reads k 0 r → n ≤ k
+held_fits r n k e q = fits k n 0 q.answers (omega arith) (q.input ∙ ap some e)
 
-pub held-part : (r : Input) (n made : ℕ) (xs : List ℕ) → r ≡ input.Whole n made → Reads (length xs) 0 1 r → n ≡ length (take n xs)
-held-part r n made xs e q = sym (length-take-le n xs (held_fits r n made (length xs) e q))
+pub held-part : (r : Input) (n : ℕ) (xs : List ℕ) → r ≡ input.Whole n → Reads (length xs) 0 r → n ≡ length (take n xs)
+held-part r n xs e q = sym (length-take-le n xs (held_fits r n (length xs) e q))

@@ -12,21 +12,21 @@ unfoldable pub after_read : ℕ → ℕ → ℤ → Next
 after_read room held (negsuc k) = next.Failed
 after_read room held (pos n) = cond (eqb n 0) (next.Whole held) (cond (ltb (held + n) room) (next.On (held + n)) (next.Whole room))
 
--- what a list of reads' answers gives, if they decide it, and with which of them, counted from the first one's number: no answers decide nothing
-abbrev pub decided : ℕ → Next → (ℕ → Option Input) → Option Input
-decided turn (next.On held) go = go held
-decided turn (next.Whole n) go = some (input.Whole n turn)
-decided turn next.Failed go = some (input.Failed turn)
+-- what a list of reads' answers gives, if they decide it
+abbrev pub decided : Next → (ℕ → Option Input) → Option Input
+decided (next.On held) go = go held
+decided (next.Whole n) go = some (input.Whole n)
+decided next.Failed go = some input.Failed
 
-unfoldable pub input_of : ℕ → ℕ → ℕ → List ℤ → Option Input
-input_of room held turn [] = none
-input_of room held turn (got ∷ gots) = decided turn (after_read room held got) (λ (more : ℕ). input_of room more (turn + 1) gots)
+unfoldable pub input_of : ℕ → ℕ → List ℤ → Option Input
+input_of room held [] = none
+input_of room held (got ∷ gots) = decided (after_read room held got) (λ (more : ℕ). input_of room more gots)
 
 -- an answer that some read's answer decides, and one that some list of them does
 pub record Follows (room held : ℕ) (r : Next) : Type 0 where
   pub got : ℤ
   pub next : r ≡ after_read room held got
 
-pub record Reads (room held turn : ℕ) (r : Input) : Type 0 where
+pub record Reads (room held : ℕ) (r : Input) : Type 0 where
   pub answers : List ℤ
-  pub input : input_of room held turn answers ≡ some r
+  pub input : input_of room held answers ≡ some r

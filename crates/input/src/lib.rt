@@ -3,11 +3,11 @@ ghost use Rattle.std.specs.Prelude.{◌≡◌, ◌≤◌, length};
 ghost use Rattle.input.specs.Input.{after_read, Follows, Reads};
 
 // Whole: this many bytes stand at the start of the buffer, and the input ended there or the buffer is full. Failed: a read failed, and what
-// was read before it is no input. With each, how many reads were made.
+// was read before it is no input.
 #[derive(Drop)]
 pub enum Input {
-    Whole(usize, usize),
-    Failed(usize),
+    Whole(usize),
+    Failed,
 }
 
 // What follows from a read: go on with this many bytes held, or the answer.
@@ -49,21 +49,16 @@ fn one_read(buffer: &mut [u8], held: usize) -> Next
 }
 
 // Fills the buffer from standard input, in fragments of whatever size a read gives, each read decided by `after_read`. What the bytes are no contract
-// can say; they are never more than the buffer holds. The reads are counted, so that an answer without a read meets no list of reads.
+// can say; they are never more than the buffer holds.
 pub fn read_all(buffer: &mut [u8]) -> Input
-    ensures { Reads (length buffer.new) 0 1 result }
+    ensures { Reads (length buffer.new) 0 result }
 {
-    let room = buffer.len();
     let mut held: usize = 0;
-    let mut reads: usize = 1;
     loop {
         match one_read(buffer, held) {
-            Next::Failed => return Input::Failed(reads),
-            Next::Whole(bytes) => return Input::Whole(bytes, reads),
-            Next::On(bytes) => {
-                held = bytes;
-                reads = reads + 1;
-            }
+            Next::Failed => return Input::Failed,
+            Next::Whole(bytes) => return Input::Whole(bytes),
+            Next::On(bytes) => held = bytes,
         }
     }
 }

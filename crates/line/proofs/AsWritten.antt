@@ -144,7 +144,7 @@ last-part b a [] e = (refl, cc)
 last-part b a (f ∷ fs) e = let w : ◌≡◌ {A = ℕ} 0 1 = cc in absurd (omega arith)
 
 -- a line's bytes before its line feed, and the line feed
-pub body-line : (line s : List ℕ) → body line ≡ some s → line ≡ s ++ (10 ∷ [])
+body-line : (line s : List ℕ) → body line ≡ some s → line ≡ s ++ (10 ∷ [])
 unfolding body
 body-line line s = go (ltb 0 (length line)) (leb (length line) 200) (eqb (get_or line (length line - 1) 0) 10) refl refl
   where
@@ -195,7 +195,7 @@ point-said-text line p = go (body line) refl
     go (some s) b e = body-line line s b ∙ point-form s p e
 
 -- what a point's line is read as, it says
-pub said-point : (y : ℤ) (line : List ℕ) (p : Point) → read_point y line ≡ P.Point p → said point_form line ≡ some p
+said-point : (y : ℤ) (line : List ℕ) (p : Point) → read_point y line ≡ P.Point p → said point_form line ≡ some p
 unfolding read_point
 said-point y line p = go (fault_of point_shape line) (said point_form line)
   where

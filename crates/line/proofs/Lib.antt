@@ -1,5 +1,4 @@
 pub mod Lines
-pub mod LinesApart
 pub mod Walk
 pub mod Numbers
 pub mod NameBytes
@@ -10,6 +9,7 @@ pub mod Faults
 pub mod Texts
 pub mod Packed
 pub mod Leading
+pub mod BareLines
 pub mod Compared
 pub mod Lengths
 pub mod Lots

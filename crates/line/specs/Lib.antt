@@ -7,6 +7,7 @@ pub mod Malformed
 pub mod Readers
 pub mod Lines
 pub mod Text
+pub mod BareLines
 pub mod Lot
 pub mod Later
 pub mod Reading

@@ -5,8 +5,7 @@ ghost use Rattle.line.specs.Later.{same_bytes, malformed_in, refused_in, weighed
 use crate::point_line::read_point;
 use crate::{Fault, Later, LaterFault, PointLine, Verdict};
 
-// Whether two lent texts are the same bytes.
-pub fn same_bytes(a: &[u8], b: &[u8]) -> bool
+fn same_bytes(a: &[u8], b: &[u8]) -> bool
     ensures { result ≡ same_bytes a.now b.now }
 {
     if a.len() != b.len() {

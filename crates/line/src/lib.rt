@@ -19,7 +19,7 @@ mod second_look;
 mod step_line;
 mod write;
 
-pub use compare::{later_fault, later_of_two, later_verdict, same_bytes};
+pub use compare::{later_fault, later_of_two, later_verdict};
 pub use edition_line::read_edition;
 pub use ends::line_end;
 pub use field::LINE_FEED;
@@ -30,6 +30,7 @@ pub use origin_line::read_origin;
 pub use other_line::strange;
 pub use point_line::{read_one, read_placed, read_point};
 pub use step_line::read_step;
+pub use write::feeds::write_feeds;
 pub use write::lot::write_lot;
 pub use write::{write_moved, write_point, write_projected, write_refusal};
 
@@ -39,6 +40,13 @@ pub use write::{write_moved, write_point, write_projected, write_refusal};
 pub struct Fault {
     pub number: u8,
     pub place: u8,
+}
+
+// Bare line feeds that were answered: how many, and the place past what was written for them.
+#[derive(Drop)]
+pub struct Feeds {
+    pub lines: usize,
+    pub at: usize,
 }
 
 // A reader answers three ways: the record; malformed, where the line is not of the form; refused with a number of the refusal table, where the form is

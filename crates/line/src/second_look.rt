@@ -1,4 +1,4 @@
-// A second look at a line that its reader did not take at once: what is wrong with it, and at which byte, if anything is.
+// A second look at a line that its reader has found bad: what is wrong with it, and at which byte. Good lines never come here.
 ghost use Rattle.std.specs.Prelude.{◌≡◌, ◌+◌, ◌≤◌, length, ◌==◌, nat_le};
 ghost use Rattle.refusal.specs.Order.{pick};
 ghost use Rattle.line.specs.Fields.{fields};

@@ -15,6 +15,7 @@ const PROJECTED_ROOM: usize = 63;
 
 const REFUSAL_ROOM: usize = 33;
 
+pub mod feeds;
 pub mod lot;
 
 const MINUS: u8 = 45;

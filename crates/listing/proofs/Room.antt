@@ -7,7 +7,6 @@ use lib.Dec.{ltb}
 use lib.ListN.{length, take, drop, length-append, length-take}
 use lib.Seq.{sets-eq}
 use native.Mathlib.Decide.{dec_lt}
-use native.Mathlib.Nat.{mul-add}
 use native.Mathlib.Omega.{arith}
 use borrow.Author.Tests.{ltb-true, ltb-false}
 use Rattle.refusal.specs.Numbers as refusal
@@ -17,7 +16,6 @@ use Rattle.line.specs.Lines.{lines}
 use Rattle.line.specs.Text.{Wrote, refusal_text}
 use Rattle.line.proofs.Lines.{total, total-lines, Some, some-lines}
 use Rattle.line.proofs.Lengths.{length-refusal}
-use Rattle.listing.proofs.Loop.{Counts}
 use Rattle.listing.specs.Fold.{Rules, run, longest_input, short_input, printed, room_for, Prints}
 
 -- a refusal fits wherever a line has a byte and a number of at most five digits: in a line of one byte a place has one digit, and two bytes have room for three
@@ -37,28 +35,19 @@ pub short-fits : (n : ℕ) → n ≤ short_input → room_for n ≤ 53257
 unfolding room_for
 short-fits n h = omega arith
 
--- ---- replies within so many bytes for each byte of their lines, as long as all is well: `Fine n s` with n bytes to come
-module _
-    {S R : Type 0} (r : Rules S R) (each : ℕ) (Fine : ℕ → S → Type 0)
-    (goes : (n : ℕ) (s : S) (l : List ℕ) → 0 < length l → Fine (length l + n) s → Fine n (r.next s l))
-    (short : (n : ℕ) (s : S) (l : List ℕ) → 0 < length l → Fine (length l + n) s → length (r.text (r.reply s l)) ≤ each * length l) where
-  pub run_short : (ls : List (List ℕ)) → Some ls → (s : S) → Fine (total ls) s → length (run r s ls) ≤ each * total ls
-  unfolding run
-  run_short [] h s n = omega arith
-  run_short (l ∷ ls) h s n =
-      let a = short (total ls) s l h.0 n in
-      let b = run_short ls h.1 (r.next s l) (goes (total ls) s l h.0 n) in
-      omega (arith, length-append (r.text (r.reply s l)) (run r (r.next s l) ls), mul-add each (length l) (total ls))
-
 -- a program that counts its lines, and replies to each within the line's room
 pub record Roomy {S R : Type 0} (r : Rules S R) (number : S → ℕ) : Type 0 where
-  pub counts : Counts r number
+  pub counts : (s : S) (l : List ℕ) → number (r.next s l) ≡ number s + 1
   pub short : (s : S) (l : List ℕ) → 0 < length l → number s < 100000 → length (r.text (r.reply s l)) ≤ 13 * length l
 
 module _ {S R : Type 0} {r : Rules S R} {number : S → ℕ} (roomy : Roomy r number) where
-  lines-short : (ls : List (List ℕ)) → Some ls → (s : S) → number s + total ls < 100000 → length (run r s ls) ≤ 13 * total ls
-  lines-short =
-      run_short r 13 (λ (n : ℕ) (s : S). number s + n < 100000) (λ n s l h k. omega (arith, roomy.counts s l)) (λ n s l h k. roomy.short s l h (omega arith))
+  run_short : (ls : List (List ℕ)) → Some ls → (s : S) → number s + total ls < 100000 → length (run r s ls) ≤ 13 * total ls
+  unfolding run
+  run_short [] h s n = omega arith
+  run_short (l ∷ ls) h s n =
+      let a = roomy.short s l h.0 (omega arith) in
+      let b = run_short ls h.1 (r.next s l) (omega (arith, h.0, roomy.counts s l)) in
+      omega (arith, length-append (r.text (r.reply s l)) (run r (r.next s l) ls))
 
   pub printed-fits : (s : S) → number s ≡ 1 → (input : List ℕ) → length (printed r s input) ≤ room_for (length input)
   unfolding printed room_for
@@ -69,7 +58,7 @@ module _ {S R : Type 0} {r : Rules S R} {number : S → ℕ} (roomy : Roomy r nu
       go false e =
           let m = ltb-false longest_input (length input) e in
           let t = total-lines input in
-          omega (arith, lines-short (lines input) (some-lines input) s (omega arith))
+          omega (arith, run_short (lines input) (some-lines input) s (omega arith))
 
   -- what is written from the start fits the room that the input asks for
   pub prints : {s : S} {input before after : List ℕ} {t : ℕ} → number s ≡ 1 → Wrote before 0 (printed r s input) after t → Prints (printed r s input) input before after t

@@ -16,11 +16,6 @@ unfoldable pub run : {S R : Type 0} → Rules S R → S → List (List ℕ) → 
 run r s [] = []
 run r s (l ∷ ls) = r.text (r.reply s l) ++ run r (r.next s l) ls
 
--- the state after these lines: what a line is answered has no part in it
-unfoldable pub after : {S : Type 0} → (S → List ℕ → S) → S → List (List ℕ) → S
-after next s [] = s
-after next s (l ∷ ls) = after next (next s l) ls
-
 -- a whole input, of at most so many bytes; more prints only R, 0, 15, 0
 abbrev pub longest_input : ℕ
 longest_input = 65536

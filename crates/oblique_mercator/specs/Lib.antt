@@ -3,4 +3,3 @@ pub mod Projection
 pub mod Forward
 pub mod Reverse
 pub mod Bounded
-pub mod Vectors

@@ -14,36 +14,25 @@ fn answer<'a>(text: &[u8], printed: &'a mut [u8]) -> &'a mut [u8]
     &mut printed[..past]
 }
 
-// Standard output may hold a part of what is printed.
-fn unwritten() {
-    os::fail(b"plan: standard output");
-}
-
 // Writes what a short plan prints. The room is cleared first; the largest one would take longer than all the rest of an empty plan's run.
 fn print_short(text: &[u8])
     requires { length text.now ≤ short_input }
 {
     let mut printed = listing::short_output_space();
     let whole = answer(text, &mut printed);
-    if !io::write_all(STDOUT_FILENO, whole) {
-        unwritten();
-    }
+    io::write_all(STDOUT_FILENO, whole);
 }
 
-// Writes what any plan prints. Called from two places, and large by the write in it, it is compiled as a function of its own: as a part of `main` its room would be
-// touched for every plan.
+// Writes what any plan prints. Called from two places, it is compiled as a function of its own: as a part of `main` its room would be touched for every plan.
 fn print_any(text: &[u8]) {
     let mut printed = listing::output_space();
     let whole = answer(text, &mut printed);
-    if !io::write_all(STDOUT_FILENO, whole) {
-        unwritten();
-    }
+    io::write_all(STDOUT_FILENO, whole);
 }
 
 fn main() {
     let mut text = listing::input_space();
-    let input::Input::Whole(held, _) = input::read_all(&mut text) else {
-        os::fail(b"plan: standard input");
+    let input::Input::Whole(held) = input::read_all(&mut text) else {
         return;
     };
     if held <= listing::SHORT_INPUT {

@@ -64,7 +64,7 @@ module _ (p : Plan) (l : List ℕ) (full : 0 < length l) (few : p.line < 100000)
   short = by-letter (Fits (length l)) letter_o letter_g l _ _ _ origin geodetic (bad-form (strange_fault l) (strange-small l))
 
 pub roomy : Roomy rules (λ (p : Plan). p.line)
-roomy = record { counts = λ p l. omega (arith, next-line p l); short = short }
+roomy = record { counts = next-line; short = short }
 
 pub plan-fits : (input : List ℕ) → length (plan_of input) ≤ room_for (length input)
 unfolding plan_of

@@ -33,5 +33,9 @@ pub record Gave (answer : Reply) (next : Plan) (r : Decided) : Type 0 where
 unfoldable pub after_in : State → State
 after_in st = record { line = st.line + 1; origin = st.origin }
 
+-- the state after k lines that leave it
+unfoldable pub passed_in : State → ℕ → State
+passed_in st k = record { line = st.line + k; origin = st.origin }
+
 unfoldable pub refused_in : State → ℕ → ℕ → Decided
 refused_in st number place = record { reply = reply.Refused st.line number place; state = after_in st }

@@ -150,12 +150,12 @@ unfolding sound_standing
 sound-told st a b e f = rw (e, f)
 
 -- a chain has no more steps than its length says
-pub few-steps : (c : Chain) → length (steps_of c) ≤ c.length
+few-steps : (c : Chain) → length (steps_of c) ≤ c.length
 few-steps c = omega (arith, length-take c.length c.steps)
 
 -- the state and the numbers hold the sheet that stands here
-pub held : (st : Standing) (l : List ℤ) → st.chain.length ≤ length st.chain.steps → st.chain.length < st.line → prepared.Holds st.chain.profile l (steps_of st.chain) → Holds (record { line = st.line; profile = st.chain.profile; steps = st.chain.length; refused = st.refused; closed = st.closed }) l (sheet_at st)
-held st l k n h = record { line = refl; profile = refl; steps = sym (length-take-le st.chain.length st.chain.steps k); refused = refl; closed = refl; chain = h; counted = omega (arith, n, few-steps st.chain) }
+pub held : (st : Standing) (l : List ℤ) → st.chain.length < st.line → prepared.Holds st.chain.profile l (steps_of st.chain) → Holds (record { line = st.line; profile = st.chain.profile; refused = st.refused; closed = st.closed }) l (sheet_at st)
+held st l n h = record { line = refl; profile = refl; refused = refl; closed = refl; chain = h; counted = omega (arith, n, few-steps st.chain) }
 
 -- ---- where a sheet stands after a line
 -- the sheet that stands in a chain is that sheet
@@ -256,7 +256,7 @@ pub fresh-sound : (spare : List Step) → Sound (fresh_at spare)
 fresh-sound spare = record { from = omega arith; to = omega arith; chain = holds-fresh.sound }
 
 -- ---- it stays sound
-abbrev pub Good : ℤ → List Step → Type 0
+abbrev Good : ℤ → List Step → Type 0
 Good y ss = first (chain_tests (chain_of y ss)) ≡ 0
 
 -- a chain's tests: its profile, its length and its steps
@@ -269,14 +269,7 @@ parts y n ss e =
 pub sound-short : (st : Standing) → sound_standing st ≡ true → st.chain.length ≤ 8
 sound-short st e = (parts st.chain.profile st.chain.length (steps_of st.chain) (sound-parts st e).chain).1
 
-pub good-few : (y : ℤ) (ss : List Step) → Good y ss → length ss ≤ 8
-good-few y ss g = (parts y (length ss) (steps_of (chain_of y ss)) g).1
-
--- the tests see a chain's profile, its length and its steps alone
-pub good-by : (c : Chain) (y : ℤ) (ss : List Step) → steps_of c ≡ ss → c.profile ≡ y → c.length ≡ length ss → Good y ss → first (chain_tests c) ≡ 0
-good-by c y ss a b d g = rw (a, b, d) (rw (take-length ss) at g)
-
-pub good-said : (c : Chain) → first (chain_tests c) ≡ 0 → Good c.profile (steps_of c)
+good-said : (c : Chain) → first (chain_tests c) ≡ 0 → Good c.profile (steps_of c)
 good-said c e =
     let p = parts c.profile c.length (steps_of c) e in
     rw (take-length (steps_of c), p.0, le-ltb 8 (length (steps_of c)) (omega (arith, few-steps c, p.1))) p.2
@@ -285,10 +278,10 @@ good-with : (c : Chain) (y : ℤ) (ss : List Step) → Good y ss → first (chai
 good-with c y ss g = rw (take-append_seam ss (drop (length ss) c.steps)) (rw (take-length ss) at g)
 
 -- a chain that is good by value, of no more steps than lines
-abbrev pub Kept : Sheet → Type 0
+abbrev Kept : Sheet → Type 0
 Kept s = Good s.profile s.steps × (length s.steps < s.line)
 
-pub kept_next : (s : Sheet) (l : List ℕ) → Kept s → Kept (next_of s l)
+kept_next : (s : Sheet) (l : List ℕ) → Kept s → Kept (next_of s l)
 unfolding next_of
 kept_next s l g = by-letters Kept letter_s letter_p letter_e l _ _ _ _ step same (edition (read_edition l)) same
   where

@@ -3,7 +3,6 @@ use mathlib.Core.Path.{◌≡◌, refl, sym}
 use mathlib.Core.Bool.{Bool, true, false}
 use mathlib.Core.List.{List}
 use Prim.Native.Nat.{ℕ, zero, suc, ◌*◌, ◌<◌, ◌≤◌}
-use native.Mathlib.Decide.{dec_lt}
 use native.Mathlib.Omega.{arith}
 use lib.ListN.{length, length-append}
 use Rattle.refusal.specs.Numbers as refusal
@@ -15,6 +14,7 @@ use Rattle.chain.specs.declared.Answer.{Answer}
 use Rattle.chain.specs.Faults.{point_fault}
 use Rattle.chain.specs.Convert.{forward_of}
 use Rattle.chain.specs.Prepared.{chain_of}
+use Rattle.chain.proofs.Outcomes as conversion
 use Rattle.line.specs.declared.Fault.{Fault}
 use Rattle.line.specs.declared.StepLine.{StepLine}
 use Rattle.line.specs.declared.PointLine.{PointLine}
@@ -22,66 +22,57 @@ use Rattle.line.specs.declared.PointLine.TheVariants as point-line
 use Rattle.line.specs.declared.EditionLine.{EditionLine}
 use Rattle.line.specs.Bytes.{letter_s, letter_p, letter_e}
 use Rattle.line.specs.Readers.{strange_fault, read_point, read_step, read_edition}
-use Rattle.line.specs.Fields.{longest_line}
 use Rattle.line.specs.Text.{decimal, refusal_text}
-use Rattle.line.proofs.Lines.{total-lines, some-lines}
 use Rattle.line.proofs.Lengths.{length-decimal, length-point}
 use Rattle.line.proofs.Texts.{refusal_is}
 use Rattle.line.proofs.Readers.{Small, strange-small, point-outcome, step-outcome, edition-outcome}
 use Rattle.listing.proofs.Fold.{by-letters, printed-lines}
 use Rattle.line.specs.Lines.{lines}
 use Rattle.listing.specs.Fold.{run, longest_input, room_for}
-use Rattle.listing.proofs.Room.{Roomy, run_short, refusal-fits, printed-fits}
+use Rattle.listing.proofs.Room.{Roomy, refusal-fits, printed-fits}
 use Rattle.sheet_rules.specs.declared.Reply.{Reply}
 use Rattle.sheet_rules.specs.declared.Reply.TheVariants as reply
-use Rattle.sheet_rules.specs.Sheet.{Way, Sheet, fresh, rules, reply_text, refuse, malformed, step_line_tests, step_reply, conversion_reply, point_reply_by}
-use Rattle.sheet_rules.specs.Sheet.{line_reply_by, edition_tests, edition_reply, reply_of, sheet_of}
+use Rattle.sheet_rules.specs.Sheet.{Sheet, fresh, rules, reply_text, refuse, malformed, step_line_tests, step_reply, conversion_reply, point_reply, edition_tests, edition_reply, reply_of, sheet_of}
 use Rattle.sheet_rules.specs.declared.Standing.{Standing}
 use Rattle.sheet_rules.specs.OneLine.{most_lines, sheet_at, past_lines, reply_to}
-use Rattle.sheet_rules.specs.Desk.{past_limit, reply_by, rules_by}
-use Rattle.sheet_rules.proofs.Laws.{next-line, next-few}
-use Rattle.sheet_rules.proofs.Ways.{Converts, forward-converts}
+use Rattle.sheet_rules.proofs.Laws.{next-line}
 
 -- a reply has at most n bytes
 abbrev Fits : ℕ → Reply → Type 0
 Fits n r = length (reply_text r) ≤ n
 
 -- a good point line has 18 bytes or more, and the point's new line at most 80
-module _ (way : Way) (converts : Converts way) (s : Sheet) (l : List ℕ) (n : ℕ) (refused : (k : ℕ) → k < 100 → Fits n (refuse s k))
-    (bad-form : (f : Fault) → Small l f → Fits n (malformed s f)) (wide : 18 ≤ length l → 80 ≤ n) where
+module _ (s : Sheet) (l : List ℕ) (n : ℕ) (refused : (k : ℕ) → k < 100 → Fits n (refuse s k)) (bad-form : (f : Fault) → Small l f → Fits n (malformed s f)) (wide : 18 ≤ length l → 80 ≤ n) where
   -- what is accepted prints nothing
   unless-refused : (k : ℕ) → k < 100 → Fits n (unless k (refuse s) reply.Nothing)
   unless-refused zero h = omega arith
   unless-refused (suc k) h = refused (suc k) h
 
   step : Fits n (step_reply s (read_step s.profile l))
-  step = step-outcome s.profile (λ (r : StepLine). Fits n (step_reply s r)) l (λ t f. unless-refused (first (step_line_tests s t))
-      (first_short (step_line_tests s t) tt)) bad-form refused
+  step = step-outcome s.profile (λ (r : StepLine). Fits n (step_reply s r)) l (λ t f. unless-refused (first (step_line_tests s t)) (first_short (step_line_tests s t) tt)) bad-form refused
 
   edition : Fits n (edition_reply s (read_edition l))
-  edition = edition-outcome (λ (r : EditionLine). Fits n (edition_reply s r)) l (λ y. unless-refused (first (edition_tests s y))
-      (first_short (edition_tests s y) tt)) bad-form
+  edition = edition-outcome (λ (r : EditionLine). Fits n (edition_reply s r)) l (λ y. unless-refused (first (edition_tests s y)) (first_short (edition_tests s y) tt)) bad-form
 
-  point : Fits n (point_reply_by way s (read_point s.profile l))
-  point = point-outcome s.profile (λ (r : PointLine). Fits n (point_reply_by way s r)) l good bad-form refused
+  point : Fits n (point_reply s (read_point s.profile l))
+  point = point-outcome s.profile (λ (r : PointLine). Fits n (point_reply s r)) l good bad-form refused
     where
-      good : (p : Point) → point_fault s.profile p ≡ 0 → 18 ≤ length l → Fits n (point_reply_by way s (point-line.Point p))
+      good : (p : Point) → point_fault s.profile p ≡ 0 → 18 ≤ length l → Fits n (point_reply s (point-line.Point p))
       good p f h = go s.refused
         where
-          go : (b : Bool) → Fits n (pick b (refuse s refusal.earlier) (conversion_reply s (way (chain_of s.profile s.steps) p)))
+          go : (b : Bool) → Fits n (pick b (refuse s refusal.earlier) (conversion_reply s (forward_of (chain_of s.profile s.steps) p)))
           go true = refused refusal.earlier (omega arith)
           go false =
-              converts (chain_of s.profile s.steps) p (λ (a : Answer). Fits n (conversion_reply s a)) f
-              (λ q k. omega (arith, length-point s.profile q k, wide h)) refused
+              conversion.outcome (chain_of s.profile s.steps) p (λ (a : Answer). Fits n (conversion_reply s a)) f (λ q k. omega (arith, length-point s.profile q k, wide h)) refused
 
-  reply-fits : Fits n (line_reply_by way s l)
+  reply-fits : Fits n (reply_of s l)
+  unfolding reply_of
   reply-fits = by-letters (Fits n) letter_s letter_p letter_e l _ _ _ _ step point edition (bad-form (strange_fault l) (strange-small l))
 
 -- within 13 bytes for each of the line's own
 short : (s : Sheet) (l : List ℕ) → 0 < length l → s.line < 100000 → Fits (13 * length l) (reply_of s l)
-unfolding reply_of
 short s l some few =
-    reply-fits forward_of forward-converts s l (13 * length l) (λ k h. refusal-fits l s.line k 0 some few h (omega arith) (omega arith))
+    reply-fits s l (13 * length l) (λ k h. refusal-fits l s.line k 0 some few h (omega arith) (omega arith))
     (λ f h. refusal-fits l s.line f.number f.place some few h.number h.inside h.low)
     (λ h. omega arith)
 
@@ -91,18 +82,11 @@ seven-digits n h = length-decimal 6 n h
 
 pub refusal-short : (line number place : ℕ) → line ≤ suc most_lines → number < 100 → place ≤ 200 → length (refusal_text line number place) ≤ 100
 refusal-short line number place h k m =
-    rw (sym (refusal_is line number place)) (simp length-append (omega (
-      arith,
-      seven-digits line (omega arith),
-      seven-digits number (omega arith),
-      seven-digits place (omega arith),
-    )))
+    rw (sym (refusal_is line number place)) (simp length-append (omega (arith, seven-digits line (omega arith), seven-digits number (omega arith), seven-digits place (omega arith))))
 
 pub reply-short : (s : Sheet) (l : List ℕ) → s.line ≤ suc most_lines → length (reply_text (reply_of s l)) ≤ 100
-unfolding reply_of
 reply-short s l h =
-    reply-fits forward_of forward-converts s l 100 (λ k m. refusal-short s.line k 0 h m (omega arith))
-    (λ f m. refusal-short s.line f.number f.place h m.number m.low) (λ _. omega arith)
+    reply-fits s l 100 (λ k m. refusal-short s.line k 0 h m (omega arith)) (λ f m. refusal-short s.line f.number f.place h m.number m.low) (λ _. omega arith)
 
 pub answer-short : (st : Standing) (l : List ℕ) → st.line ≤ suc most_lines → length (reply_text (reply_to st l)) ≤ 100
 unfolding reply_to
@@ -112,42 +96,8 @@ answer-short st l h = go (past_lines st)
     go true = refusal-short (suc most_lines) refusal.limit 0 (omega arith) (omega arith) (omega arith)
     go false = reply-short (sheet_at st) l h
 
--- ---- a run from any state: 15 bytes for each byte, since a line's number has up to seven digits
-late-refusal :
-    (l : List ℕ) (line n place : ℕ) → 0 < length l → line ≤ suc most_lines → n < 100 → place ≤ length l → place ≤ longest_line →
-    length (refusal_text line n place) ≤ 15 * length l
-late-refusal l line n place some few h inside low = go (dec_lt place 10)
-  where
-    go : Dec (place < 10) → length (refusal_text line n place) ≤ 15 * length l
-    go (yes d) =
-        rw (sym (refusal_is line n place))
-        (simp length-append (omega (arith, seven-digits line (omega arith), length-decimal 1 n h, length-decimal 0 place d)))
-    go (no d) =
-        rw (sym (refusal_is line n place))
-        (simp length-append (omega (arith, seven-digits line (omega arith), length-decimal 1 n h, length-decimal 2 place (omega arith))))
-
-late : (way : Way) → Converts way → (s : Sheet) (l : List ℕ) → 0 < length l → s.line ≤ suc most_lines → Fits (15 * length l) (reply_by way s l)
-unfolding reply_by
-late way converts s l some few = go (past_limit s)
-  where
-    go : (b : Bool) → Fits (15 * length l) (pick b (reply.Refused (suc most_lines) refusal.limit 0) (line_reply_by way s l))
-    go true = late-refusal l (suc most_lines) refusal.limit 0 some (omega arith) (omega arith) (omega arith) (omega arith)
-    go false =
-        reply-fits way converts s l (15 * length l) (λ k h. late-refusal l s.line k 0 some few h (omega arith) (omega arith))
-        (λ f h. late-refusal l s.line f.number f.place some few h.number h.inside h.low)
-        (λ h. omega arith)
-
-pub run-late : (way : Way) → Converts way → (text : List ℕ) (s : Sheet) → s.line ≤ suc most_lines → length (run (rules_by way) s (lines text)) ≤ 15 * length text
-run-late way converts text s few =
-    let t = total-lines text in
-    let r =
-    run_short (rules_by way) 15 (λ (_ : ℕ) (s : Sheet). s.line ≤ suc most_lines) (λ n s l h k. next-few s l k) (λ n s l h k. late way converts s l h k)
-    (lines text)
-    (some-lines text) s few in
-    rw (← t) r
-
 pub roomy : Roomy rules (λ (s : Sheet). s.line)
-roomy = record { counts = λ s l. omega (arith, next-line s l); short = short }
+roomy = record { counts = next-line; short = short }
 
 -- what a sheet prints that is not too long
 pub sheet-lines : (input : List ℕ) → length input ≤ longest_input → sheet_of input ≡ run rules fresh (lines input)

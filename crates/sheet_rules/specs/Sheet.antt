@@ -5,7 +5,6 @@ use Rattle.refusal.specs.Numbers as refusal
 use Rattle.refusal.specs.Order.{pick, Test, first, ◌gives◌, unless}
 use Rattle.ranges.specs.Ranges.{profile_range}
 use Rattle.chain.specs.declared.Step.{Step}
-use Rattle.chain.specs.declared.Chain.{Chain}
 use Rattle.chain.specs.declared.Point.{Point}
 use Rattle.chain.specs.declared.Answer.{Answer}
 use Rattle.chain.specs.declared.Answer.TheVariants as answer
@@ -84,17 +83,10 @@ abbrev pub conversion_reply : Sheet → Answer → Reply
 conversion_reply s (answer.Converted p) = reply.Point p
 conversion_reply s (answer.Refused n) = refuse s n
 
--- which way the points go: forward_of, or inverse_of. Steps, editions and the sheet after a line know nothing of it
-abbrev pub Way : Type 0
-Way = Chain → Point → Answer
-
-abbrev pub point_reply_by : Way → Sheet → PointLine → Reply
-point_reply_by way s (point-line.Malformed f) = malformed s f
-point_reply_by way s (point-line.Refused n) = refuse s n
-point_reply_by way s (point-line.Point p) = pick s.refused (refuse s refusal.earlier) (conversion_reply s (way (chain_of s.profile s.steps) p))
-
 abbrev pub point_reply : Sheet → PointLine → Reply
-point_reply = point_reply_by forward_of
+point_reply s (point-line.Malformed f) = malformed s f
+point_reply s (point-line.Refused n) = refuse s n
+point_reply s (point-line.Point p) = pick s.refused (refuse s refusal.earlier) (conversion_reply s (forward_of (chain_of s.profile s.steps) p))
 
 -- a point line of good form closes the chain, whatever it says
 abbrev pub closes : PointLine → Bool
@@ -122,13 +114,9 @@ after_edition s (edition-line.Malformed f) = without_step s
 after_edition s (edition-line.Edition year) = unless (first (edition_tests s year)) (λ _. without_step s) (with_edition s year)
 
 -- ---- one line, by its first byte
-abbrev pub line_reply_by : Way → Sheet → List ℕ → Reply
-line_reply_by way s line =
-    by_letters letter_s letter_p letter_e line (step_reply s (read_step s.profile line)) (point_reply_by way s (read_point s.profile line))
-    (edition_reply s (read_edition line)) (malformed s (strange_fault line))
-
 unfoldable pub reply_of : Sheet → List ℕ → Reply
-reply_of s line = line_reply_by forward_of s line
+reply_of s line =
+    by_letters letter_s letter_p letter_e line (step_reply s (read_step s.profile line)) (point_reply s (read_point s.profile line)) (edition_reply s (read_edition line)) (malformed s (strange_fault line))
 
 unfoldable pub next_of : Sheet → List ℕ → Sheet
 next_of s line =

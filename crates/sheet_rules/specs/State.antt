@@ -1,34 +1,23 @@
 -- How the code carries a sheet: a small state by value, and the chain of the accepted steps prepared, in numbers that are lent beside it.
-use Rattle.std.specs.Prelude.{◌≡◌, Bool, List, ℕ, ◌+◌, ◌<◌, ℤ, nat_abs, length}
-use Rattle.chain.specs.Numbers.{number}
+use Rattle.std.specs.Prelude.{◌≡◌, Bool, List, ℕ, ◌+◌, ◌<◌, ℤ, length}
 use Rattle.chain.specs.Prepared as prepared
-use Rattle.line.specs.Lines.{lines}
-use Rattle.listing.specs.Fold.{run, after}
 use Rattle.sheet_rules.specs.declared.State.{State}
 use Rattle.sheet_rules.specs.declared.Reply.{Reply}
 use Rattle.sheet_rules.specs.declared.Reply.TheVariants as reply
 use Rattle.line.specs.Text.{Wrote}
 use Rattle.sheet_rules.specs.declared.Decided.{Decided}
 use Rattle.sheet_rules.specs.declared.Printed.{Printed}
-use Rattle.sheet_rules.specs.Sheet.{Way, Sheet, reply_text}
-use Rattle.sheet_rules.specs.Desk.{next_by, rules_by}
-use Rattle.sheet_rules.specs.Engine.{flag, with_rows}
+use Rattle.sheet_rules.specs.Sheet.{Sheet, reply_text}
 
 -- the state and the numbers hold the sheet
 pub record Holds (st : State) (numbers : List ℤ) (s : Sheet) : Type 0 where
   pub line : st.line ≡ s.line
   pub profile : st.profile ≡ s.profile
-  pub steps : st.steps ≡ length s.steps
   pub refused : st.refused ≡ s.refused
   pub closed : st.closed ≡ s.closed
   pub chain : prepared.Holds st.profile numbers s.steps
   -- no line gave more than one step: on the first there is none yet, so that an edition has none to judge
   pub counted : length s.steps < s.line
-
--- they hold some sheet
-pub record Stands (st : State) (numbers : List ℤ) : Type 0 where
-  pub sheet : Sheet
-  pub holds : Holds st numbers sheet
 
 -- what was decided on a line: the reply to it, and the sheet after it held
 pub record Gave (answer : Reply) (next : Sheet) (numbers : List ℤ) (r : Decided) : Type 0 where
@@ -37,7 +26,11 @@ pub record Gave (answer : Reply) (next : Sheet) (numbers : List ℤ) (r : Decide
 
 -- the state after a line, and what is decided on a refused one
 unfoldable pub after_in : State → Bool → Bool → State
-after_in st refused closed = record { line = st.line + 1; profile = st.profile; steps = st.steps; refused = refused; closed = closed }
+after_in st refused closed = record { line = st.line + 1; profile = st.profile; refused = refused; closed = closed }
+
+-- the state after k lines that change nothing else
+unfoldable pub passed_in : State → ℕ → State
+passed_in st k = record { line = st.line + k; profile = st.profile; refused = st.refused; closed = st.closed }
 
 unfoldable pub refused_in : State → ℕ → ℕ → Bool → Bool → Decided
 refused_in st number place refused closed = record { reply = reply.Refused st.line number place; state = after_in st refused closed }
@@ -51,20 +44,3 @@ Shows d before at after r = Wrote before at (reply_text d.reply) after r.at × (
 pub record Shown (answer : Reply) (next : Sheet) (numbers : List ℤ) (before : List ℕ) (at : ℕ) (after : List ℕ) (r : Printed) : Type 0 where
   pub wrote : Wrote before at (reply_text answer) after r.at
   pub holds : Holds r.state numbers next
-
--- ---- a run over lent numbers
--- the state that they say, but for the chain
-unfoldable pub state_in : List ℤ → State
-state_in ns = record {
-  line = nat_abs (number ns 0) + 1;
-  profile = number ns 5;
-  steps = nat_abs (number ns 6);
-  refused = flag (number ns 2);
-  closed = flag (number ns 3);
-}
-
--- the lines of a text from a sheet on: their answers written, the sheet after them held, and its new steps put behind those that were kept
-pub record RunsOn (way : Way) (s : Sheet) (kept kept' numbers' : List ℤ) (text out out' : List ℕ) (r : Printed) : Type 0 where
-  pub wrote : Wrote out 0 (run (rules_by way) s (lines text)) out' r.at
-  pub holds : Holds r.state numbers' (after next_by s (lines text))
-  pub rows : kept' ≡ with_rows kept (length s.steps) (after next_by s (lines text)).steps

@@ -1,5 +1,4 @@
-// One line decided by value, with nothing printed. A step that is accepted is put among the numbers that the caller keeps. The run is a module below this
-// one, so that what these functions ask of their caller stays theirs.
+// One line decided by value, with nothing printed. The whole input is a module below this one, so that what these functions ask of their caller stays theirs.
 ghost use Rattle.std.specs.Prelude.{◌≡◌, ◌<◌, ◌≤◌, ℤ, eqb, length, get_or, List};
 ghost use Rattle.chain.specs.Faults.{point_fault, step_fault};
 ghost use Rattle.line.specs.Readers.{read_point, read_step, read_edition};
@@ -7,17 +6,13 @@ ghost use Rattle.line.specs.declared.StepLine.TheVariants as step_line;
 ghost use Rattle.line.specs.declared.PointLine.TheVariants as point-line;
 ghost use Rattle.line.specs.declared.EditionLine.TheVariants as edition-line;
 ghost use Rattle.sheet_rules.specs.Sheet.{Sheet, step_reply, after_step, point_reply, after_point, edition_reply, after_edition, reply_of, next_of};
-ghost use Rattle.sheet_rules.specs.State.{Holds, Stands, Gave, after_in, refused_in};
-ghost use Rattle.sheet_rules.specs.Engine.{with_rows};
+ghost use Rattle.sheet_rules.specs.State.{Holds, Gave, after_in, refused_in};
 
 use crate::{Decided, Reply, State};
 use chain::{Answer, Point, Prepared, Step};
 use line::{EditionLine, Fault, PointLine, StepLine};
 
-pub mod engine;
 pub mod lent;
-mod points;
-mod rows;
 pub mod standing;
 pub mod whole;
 
@@ -40,7 +35,6 @@ fn after(state: State, refused: bool, closed: bool) -> State
     State {
         line: state.line + 1,
         profile: state.profile,
-        steps: state.steps,
         refused: refused,
         closed: closed,
     }
@@ -71,11 +65,9 @@ fn malformed(state: State, fault: Fault, refused: bool, closed: bool) -> Decided
 }
 
 // A step whose line is good by itself.
-fn take_step(state: State, step: Step, kept: &mut [i64], numbers: &mut Prepared) -> Decided
-    requires { (state.line ≤ 1000000) × (step_fault state.profile step ≡ 0) × (length kept.old ≡ 111) × Stands state numbers.old }
-    ensures { (s : Sheet) → Holds state numbers.old s
-        → Gave (step_reply s (step_line.Step step)) (after_step s (step_line.Step step)) numbers.new result
-        × (kept.new ≡ with_rows kept.old (length s.steps) (after_step s (step_line.Step step)).steps) }
+fn take_step(state: State, step: Step, numbers: &mut Prepared) -> Decided
+    requires { (state.line ≤ 1000000) × (step_fault state.profile step ≡ 0) }
+    ensures { (s : Sheet) → Holds state numbers.old s → Gave (step_reply s (step_line.Step step)) (after_step s (step_line.Step step)) numbers.new result }
 {
     if state.refused {
         return refuse(state, refusal::EARLIER, true, state.closed);
@@ -87,31 +79,22 @@ fn take_step(state: State, step: Step, kept: &mut [i64], numbers: &mut Prepared)
     if number != 0 {
         return refuse(state, number, true, false);
     }
-    let steps = state.steps;
-    rows::put_row(kept, steps, step);
+    let next = after(state, false, false);
     Decided {
         reply: Reply::Nothing,
-        state: State {
-            line: state.line + 1,
-            profile: state.profile,
-            steps: steps + 1,
-            refused: false,
-            closed: false,
-        },
+        state: next,
     }
 }
 
 // A line that begins with S.
-fn decide_step(state: State, kept: &mut [i64], numbers: &mut Prepared, text: &[u8]) -> Decided
-    requires { (state.line ≤ 1000000) × (length kept.old ≡ 111) × Stands state numbers.old }
-    ensures { (s : Sheet) → Holds state numbers.old s
-        → Gave (step_reply s (read_step s.profile text.now)) (after_step s (read_step s.profile text.now)) numbers.new result
-        × (kept.new ≡ with_rows kept.old (length s.steps) (after_step s (read_step s.profile text.now)).steps) }
+fn decide_step(state: State, numbers: &mut Prepared, text: &[u8]) -> Decided
+    requires { state.line ≤ 1000000 }
+    ensures { (s : Sheet) → Holds state numbers.old s → Gave (step_reply s (read_step s.profile text.now)) (after_step s (read_step s.profile text.now)) numbers.new result }
 {
     match line::read_step(state.profile, text) {
         StepLine::Malformed(fault) => malformed(state, fault, true, state.closed),
         StepLine::Refused(number) => refuse(state, number, true, state.closed),
-        StepLine::Step(step) => take_step(state, step, kept, numbers),
+        StepLine::Step(step) => take_step(state, step, numbers),
     }
 }
 
@@ -163,7 +146,6 @@ fn take_edition(state: State, year: i64) -> Decided
         state: State {
             line: state.line + 1,
             profile: year,
-            steps: state.steps,
             refused: state.refused,
             closed: state.closed,
         },
@@ -182,15 +164,13 @@ fn decide_edition(state: State, text: &[u8]) -> Decided
 }
 
 // Any line but the empty piece, by its first byte.
-fn decide(state: State, kept: &mut [i64], numbers: &mut Prepared, text: &[u8]) -> Decided
-    requires { (state.line ≤ 1000000) × (0 < length text.now) × (length kept.old ≡ 111) × Stands state numbers.old }
-    ensures { (s : Sheet) → Holds state numbers.old s
-        → Gave (reply_of s text.now) (next_of s text.now) numbers.new result
-        × (kept.new ≡ with_rows kept.old (length s.steps) (next_of s text.now).steps) }
+fn decide(state: State, numbers: &mut Prepared, text: &[u8]) -> Decided
+    requires { (state.line ≤ 1000000) × (0 < length text.now) }
+    ensures { (s : Sheet) → Holds state numbers.old s → Gave (reply_of s text.now) (next_of s text.now) numbers.new result }
 {
     let letter = text[0];
     if letter == b'S' {
-        return decide_step(state, kept, numbers, text);
+        return decide_step(state, numbers, text);
     }
     if letter == b'P' {
         return decide_point(state, numbers, text);

@@ -1,7 +1,6 @@
-// A sheet's rules: any number of lines over a state that the caller lends, and a whole sheet from bytes to bytes.
+// A sheet's rules: one line decided by value over a state, and a whole sheet from bytes to bytes.
 mod decide;
 
-pub use decide::engine::{fresh, run};
 pub use decide::lent::{is_sound_at, print_lent};
 pub use decide::standing::{answer_line, is_sound};
 pub use decide::whole::{sheet, write_reply};
@@ -24,21 +23,10 @@ struct State {
     line: u64,
     // The edition of the circular that the chain is under, 2009 or 2021.
     profile: i64,
-    // How many steps were accepted.
-    steps: usize,
     // A line beginning with S or E was refused.
     refused: bool,
     // A point line of good form was read.
     closed: bool,
-}
-
-// What a run over lent numbers answers.
-#[derive(Drop)]
-pub enum Ran {
-    // The place past what was printed.
-    Printed(usize),
-    // Refusal STATE: no sheet can stand at those numbers. Nothing was written.
-    Refused(u8),
 }
 
 // What is decided on a line: the reply to it, and the state after it.

@@ -1,4 +1,3 @@
 pub mod Fragments
 pub mod Calls
 pub mod WholeSheet
-pub mod Finishing

@@ -1,10 +1,8 @@
 pub mod RoundTrip
-pub mod HandedOn
 pub mod Outcomes
 pub mod Rounding
 pub mod Projection
 pub mod Geodetic
-pub mod Oblique
 pub mod Texts
 pub mod Malformed
 pub mod Apart
@@ -15,8 +13,3 @@ pub mod Joins
 pub mod LineOrders
 pub mod MalformedCases
 pub mod Velocities
-pub mod FormsSaid
-pub mod RunsApart
-pub mod Ways
-pub mod TextsReturn
-pub mod TextsExample

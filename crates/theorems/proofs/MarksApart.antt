@@ -17,7 +17,7 @@ use Rattle.chain.specs.Faults.{KindOk, StepOk, in_area, steps_of}
 use Rattle.chain.specs.Parts.{Parts, kind_parts, forward_by, inverse_by}
 use Rattle.chain.specs.Convert.{at, walk, forward_step, inverse_step, forward_of, inverse_of}
 use Rattle.theorems.specs.RoundTrip.{inexact, inexact_steps}
-use Rattle.theorems.specs.MarksApart.{Beyond, ApartBy, MarksApart}
+use Rattle.theorems.specs.MarksApart.{Beyond, MarksApart}
 use Rattle.chain.proofs.Within.{area_small}
 use Rattle.chain.proofs.StepLaws.{Off, Milds, Flats, off-le, off_self}
 use Rattle.theorems.proofs.Apart.{Spreads, spread, small-off, forward-spreads, inverse-spreads, forward-keeps, inverse-keeps}
@@ -101,24 +101,24 @@ not_beyond n p q b o = omega (arith, b.far, o.on b.axis)
 same-off : {p q : Position} → p ≡ q → Off 0 p q
 same-off {p} e = subst (λ (x : Position). Off 0 p x) e (off_self p)
 
-along : ApartBy forward_of
-along c p q p' q' b e f s =
-    let ss = steps_of c in
-    let a = forward-went c p p' e in
-    let d = forward-went c q q' f in
-    not_beyond (inexact_steps ss) p q b
-    (off-le (omega arith) (walk-apart forward_by by-forward ss a.accept.sound p.position q.position p'.position q'.position 0
-    (eight c a.accept.short) a.accept.area d.accept.area a.ended d.ended (same-off s)))
-
-back : ApartBy inverse_of
-back c p q p' q' b e f s =
-    let ss = steps_of c in
-    let a = inverse-went c p p' e in
-    let d = inverse-went c q q' f in
-    let n = count-reverse ss in
-    not_beyond (inexact_steps ss) p q b
-    (off-le (omega (arith, n)) (walk-apart inverse_by by-inverse (reverse ss) (sound-reverse ss a.accept.sound) p.position q.position p'.position q'.position 0
-    (omega (arith, n, eight c a.accept.short)) a.accept.area d.accept.area a.ended d.ended (same-off s)))
-
 pub marks-apart : MarksApart
-marks-apart = record { along = along; back = back }
+marks-apart c p q p' q' b = (forth, back)
+  where
+    forth : forward_of c p ≡ Converted p' → forward_of c q ≡ Converted q' → p'.position ≡ q'.position → ⊥
+    forth e f s =
+        let ss = steps_of c in
+        let a = forward-went c p p' e in
+        let d = forward-went c q q' f in
+        not_beyond (inexact_steps ss) p q b
+        (off-le (omega arith) (walk-apart forward_by by-forward ss a.accept.sound p.position q.position p'.position q'.position 0
+        (eight c a.accept.short) a.accept.area d.accept.area a.ended d.ended (same-off s)))
+
+    back : inverse_of c p ≡ Converted p' → inverse_of c q ≡ Converted q' → p'.position ≡ q'.position → ⊥
+    back e f s =
+        let ss = steps_of c in
+        let a = inverse-went c p p' e in
+        let d = inverse-went c q q' f in
+        let n = count-reverse ss in
+        not_beyond (inexact_steps ss) p q b
+        (off-le (omega (arith, n)) (walk-apart inverse_by by-inverse (reverse ss) (sound-reverse ss a.accept.sound) p.position q.position p'.position q'.position 0
+        (omega (arith, n, eight c a.accept.short)) a.accept.area d.accept.area a.ended d.ended (same-off s)))

@@ -5,33 +5,24 @@ use Prim.Native.Nat.{ℕ}
 use lib.Dec.{lit<}
 use lib.IntN.{pos}
 use lib.ListN.{get_or}
-use Rattle.chain.specs.declared.Position.{Position}
-use Rattle.chain.specs.declared.Realization.{Realization}
-use Rattle.chain.specs.declared.Kind.{Kind}
 use Rattle.chain.specs.declared.Answer.{Answer}
 use Rattle.chain.specs.declared.Answer.TheVariants.{Refused}
 use Rattle.chain.specs.Axes.{on_x}
-use Rattle.chain.specs.Convert.{forward_of, inverse_of}
 use Rattle.chain.specs.Case as cases
 use Rattle.chain.specs.Case.{answer, expected}
 use Rattle.chain.proofs.Ends.{forward-case}
-use Rattle.theorems.specs.MarksMeet.{scaling, meeting, MarksMeet, Applies, AppliesBothWays}
+use Rattle.theorems.specs.MarksMeet.{scaling, meeting, MarksMeet, Applies}
 
 pub marks-meet : MarksMeet
 unfolding answer
 marks-meet = refl
 
--- a worked case back is a conversion
-inverse-case : (k : Kind) (r a : Realization) (p q : Position) → answer (cases.case cases.inverse k r a p q) ≡ inverse_of (cases.chain k r a) (cases.point a p)
-unfolding answer
-inverse-case k r a p q = refl
-
 -- the answers, each by its index in the list
 answers : (n : ℕ) → get_or (map answer meeting) n (Refused 0) ≡ get_or (map expected meeting) n (Refused 0)
 answers n = ap (λ (l : List Answer). get_or l n (Refused 0)) marks-meet
 
-along : Applies forward_of
-along = record {
+pub applies : Applies
+applies = record {
   chain = cases.chain (scaling (cases.less 1999993)) (cases.on 1 0) (cases.on 2 0);
   p = cases.point (cases.on 1 0) (cases.xyz (cases.less 199999975000) (pos 600000000000) (pos 50000000000));
   q = cases.point (cases.on 1 0) (cases.xyz (cases.less 199999974998) (pos 600000000000) (pos 50000000000));
@@ -41,18 +32,3 @@ along = record {
   one = sym (forward-case _ _ _ _ _) ∙ answers 0;
   other = sym (forward-case _ _ _ _ _) ∙ answers 2;
 }
-
-back : Applies inverse_of
-back = record {
-  chain = cases.chain (scaling (pos 1999993)) (cases.on 1 0) (cases.on 2 0);
-  p = cases.point (cases.on 2 0) (cases.xyz (cases.less 199999974891) (pos 600000000000) (pos 50000000000));
-  q = cases.point (cases.on 2 0) (cases.xyz (cases.less 199999974889) (pos 600000000000) (pos 50000000000));
-  p' = cases.point (cases.on 1 0) (cases.xyz (cases.less 199995974985) (pos 599988000282) (pos 49999000023));
-  q' = cases.point (cases.on 1 0) (cases.xyz (cases.less 199995974984) (pos 599988000282) (pos 49999000023));
-  beyond = record { axis = on_x; far = lit< tt };
-  one = sym (inverse-case _ _ _ _ _) ∙ answers 3;
-  other = sym (inverse-case _ _ _ _ _) ∙ answers 5;
-}
-
-pub applies : AppliesBothWays
-applies = record { along = along; back = back }

@@ -1,7 +1,7 @@
 -- The statement of specs/Velocities.antt, from the laws of crate velocity_grid. Assumes nothing.
 use Rattle.velocity_grid.proofs.Bilinear.{at-south-west, at-south-east, at-north-west, at-north-east, at_least, at_most}
 use Rattle.velocity_grid.proofs.AtPoint.{shared-east, shared-north}
-use Rattle.velocity_grid.proofs.TurnFinite.{bounded, all-finite}
+use Rattle.velocity_grid.proofs.TurnFinite.{bounded}
 use Rattle.velocity_grid.proofs.Carried.{sure-header, sure-parts}
 use mathlib.Core.Path.{◌≡◌, refl}
 use mathlib.Core.Bool.{false}
@@ -38,13 +38,12 @@ velocities = record {
     south-east = at-south-east n h;
     north-west = at-north-west n h;
     north-east = at-north-east n h;
-    least = λ x y a b c l k. at_least n h x y a b c l k.0 k.1 k.2 k.3;
-    most = λ x y a b c l k. at_most n h x y a b c l k.0 k.1 k.2 k.3;
+    least = at_least n h;
+    most = at_most n h;
   };
   east = shared-east;
   north = shared-north;
   small = bounded;
-  finite = all-finite;
   headers = header-judged;
   nodes = node-judged;
   none = value-none;

@@ -7,7 +7,6 @@ use Rattle.bounds.proofs.Among.{Among}
 use Rattle.bounds.proofs.Formula.{Fine}
 use Rattle.angle.specs.Ranges.{position_tests}
 use Rattle.angle.specs.Ellipsoids.{ellipsoid_of}
-use Rattle.angle.specs.declared.GeodeticUnits.{GeodeticUnits}
 use Rattle.angle.specs.Geodetic.{found_at, in_ranges, geodetic_units_of}
 use Rattle.angle.proofs.Sizes.{above, size_up_to}
 use Rattle.angle.proofs.GeodeticFormulas.{latitude_f, longitude_f, height_f, given}
@@ -18,23 +17,21 @@ pub record FoundSized (a b c : Float) : Type 0 where
   pub longitude : Among b (above 22000 1 140000 1)
   pub height : Among c (size_up_to 3300000 1)
 
--- no refusal of the ellipsoid, nor of the position
-abbrev pub Accepted : ℤ → ℤ → ℤ → ℤ → Type 0
-Accepted code X Y Z = first (position_tests code X Y Z) ≡ 0
-
 abbrev pub FoundBounded : Type 0
-FoundBounded = (code X Y Z : ℤ) → Accepted code X Y Z → let f = found_at (ellipsoid_of code) X Y Z in FoundSized f.latitude f.longitude f.height
+FoundBounded = (code X Y Z : ℤ) → first (position_tests code X Y Z) ≡ 0 → let f = found_at (ellipsoid_of code) X Y Z in FoundSized f.latitude f.longitude f.height
 
 -- nothing on the way is NaN or infinite: the three formulas are the definition's, step by step
 abbrev pub EveryFinite : Type 0
-EveryFinite = (code X Y Z : ℤ) → Accepted code X Y Z → let g = given (ellipsoid_of code) X Y Z in Fine g latitude_f × Fine g longitude_f × Fine g height_f
-
--- what is answered, from what is found: rounded at 5 places, the longitude past 90 degrees
-abbrev pub answered_by : Float → Float → Float → GeodeticUnits
-answered_by latitude longitude height = in_ranges (whole_of latitude 5) (whole_of longitude 5 +ℤ pos 32400000000) (whole_of height 5)
+EveryFinite =
+    (code X Y Z : ℤ) →
+    first (position_tests code X Y Z) ≡ 0 → Fine (given (ellipsoid_of code) X Y Z) latitude_f × Fine (given (ellipsoid_of code) X Y Z) longitude_f × Fine (given (ellipsoid_of code) X Y Z) height_f
 
 abbrev pub NoneRefused : Type 0
-NoneRefused = (code X Y Z : ℤ) → Accepted code X Y Z → let f = found_at (ellipsoid_of code) X Y Z in geodetic_units_of code X Y Z ≡ answered_by f.latitude f.longitude f.height
+NoneRefused =
+    (code X Y Z : ℤ) →
+    first (position_tests code X Y Z) ≡ 0 →
+    let f = found_at (ellipsoid_of code) X Y Z in
+    geodetic_units_of code X Y Z ≡ in_ranges (whole_of f.latitude 5) (whole_of f.longitude 5 +ℤ pos 32400000000) (whole_of f.height 5)
 
 pub record GeodeticLaws : Type 0 where
   pub bounded : FoundBounded

@@ -3,7 +3,6 @@ pub mod Outcomes
 pub mod Rounding
 pub mod Projection
 pub mod Geodetic
-pub mod Oblique
 pub mod Texts
 pub mod Malformed
 pub mod MarksApart
@@ -13,4 +12,3 @@ pub mod Joins
 pub mod LineOrders
 pub mod MalformedCases
 pub mod Velocities
-pub mod TextsReturn

@@ -3,7 +3,6 @@
 use Rattle.std.specs.Prelude.{◌≡◌, ℕ, ◌<◌, ◌≤◌, nat_abs, ◌-ℤ◌}
 use Rattle.chain.specs.declared.Point.{Point}
 use Rattle.chain.specs.declared.Chain.{Chain}
-use Rattle.chain.specs.declared.Answer.{Answer}
 use Rattle.chain.specs.declared.Answer.TheVariants.{Converted}
 use Rattle.chain.specs.Faults.{steps_of}
 use Rattle.chain.specs.Axes.{Axis, coordinate}
@@ -15,15 +14,10 @@ pub record Beyond (n : ℕ) (p q : Point) : Type 0 where
   pub axis : Axis
   pub far : n < nat_abs (coordinate axis p.position -ℤ coordinate axis q.position)
 
--- two points that lie at different positions
-abbrev pub Separate : Point → Point → Type 0
-Separate p q = p.position ≡ q.position → ⊥
-
--- a way over any chain, any two points p and q, and what each is converted to; nothing is asked of ids, issues, datums and epochs. The steps counted are those
--- within the chain's length
-abbrev pub ApartBy : (Chain → Point → Answer) → Type 0
-ApartBy way = (c : Chain) (p q p' q' : Point) → Beyond (inexact_steps (steps_of c)) p q → way c p ≡ Converted p' → way c q ≡ Converted q' → Separate p' q'
-
-pub record MarksApart : Type 0 where
-  pub along : ApartBy forward_of
-  pub back : ApartBy inverse_of
+-- any chain, any two points p and q, and what each is converted to; nothing is asked of ids, issues, datums and epochs. The steps counted are those within
+-- the chain's length
+abbrev pub MarksApart : Type 0
+MarksApart =
+    (c : Chain) (p q p' q' : Point) → Beyond (inexact_steps (steps_of c)) p q →
+    (forward_of c p ≡ Converted p' → forward_of c q ≡ Converted q' → p'.position ≡ q'.position → ⊥)
+    × (inverse_of c p ≡ Converted p' → inverse_of c q ≡ Converted q' → p'.position ≡ q'.position → ⊥)

@@ -6,10 +6,9 @@ use Rattle.chain.specs.declared.Chain.{Chain}
 use Rattle.chain.specs.declared.Kind.{Kind}
 use Rattle.chain.specs.declared.Kind.TheVariants.{BursaWolf}
 use Rattle.chain.specs.declared.Convention.TheVariants.{PositionVector}
-use Rattle.chain.specs.declared.Answer.{Answer}
 use Rattle.chain.specs.declared.Answer.TheVariants.{Converted}
 use Rattle.chain.specs.Faults.{steps_of}
-use Rattle.chain.specs.Convert.{forward_of, inverse_of}
+use Rattle.chain.specs.Convert.{forward_of}
 use Rattle.chain.specs.Case.{less, on, xyz, Case, case, forward, inverse, answer, expected}
 use Rattle.theorems.specs.RoundTrip.{inexact_steps}
 use Rattle.theorems.specs.MarksApart.{Beyond}
@@ -40,17 +39,13 @@ meeting =
 abbrev pub MarksMeet : Type 0
 MarksMeet = map answer meeting ≡ map expected meeting
 
--- a chain and two points to which the theorem applies, by a way over the chain: more than n apart, and neither refused
-pub record Applies (way : Chain → Point → Answer) : Type 0 where
+-- a chain and two points to which the theorem applies: more than n apart, and neither refused
+pub record Applies : Type 0 where
   pub chain : Chain
   pub p : Point
   pub q : Point
   pub p' : Point
   pub q' : Point
   pub beyond : Beyond (inexact_steps (steps_of chain)) p q
-  pub one : way chain p ≡ Converted p'
-  pub other : way chain q ≡ Converted q'
-
-pub record AppliesBothWays : Type 0 where
-  pub along : Applies forward_of
-  pub back : Applies inverse_of
+  pub one : forward_of chain p ≡ Converted p'
+  pub other : forward_of chain q ≡ Converted q'

@@ -5,10 +5,8 @@ use Rattle.bounds.proofs.Among.{Among}
 use Rattle.rounding.specs.Decimals.{whole_of}
 use Rattle.angle.specs.declared.OriginNumbers.{OriginNumbers}
 use Rattle.angle.specs.declared.Cartesian.TheVariants as cartesian
-use Rattle.angle.specs.declared.CartesianUnits.{CartesianUnits}
 use Rattle.angle.specs.declared.CartesianUnits.TheVariants.{Units}
 use Rattle.angle.specs.declared.Projected.TheVariants as projected
-use Rattle.angle.specs.declared.ProjectedMillimetres.{ProjectedMillimetres}
 use Rattle.angle.specs.declared.ProjectedMillimetres.TheVariants.{Millimetres}
 use Rattle.angle.specs.Units.{metres}
 use Rattle.angle.specs.Ranges.{origin_fault}
@@ -37,18 +35,16 @@ pub record Laid (a b : Float) : Type 0 where
 abbrev pub ProjectedFinite : Type 0
 ProjectedFinite = (o : OriginNumbers) (lat lon : ℤ) (e n : Float) → cassini_of o lat lon ≡ projected.Metres e n → Laid e n
 
--- what is answered in metres is answered in whole units, at 5 places, and in whole millimetres, at 3
-abbrev pub in_units : Float → Float → Float → CartesianUnits
-in_units x y z = Units (whole_of x 5) (whole_of y 5) (whole_of z 5)
-
+-- what is answered in metres is answered in whole units, and in whole millimetres
 abbrev pub UnitsAnswered : Type 0
-UnitsAnswered = (code lat lon h : ℤ) (x y z : Float) → cartesian_of code lat lon h ≡ cartesian.Metres x y z → cartesian_units_of code lat lon h ≡ in_units x y z
-
-abbrev pub in_millimetres : Float → Float → ProjectedMillimetres
-in_millimetres e n = Millimetres (whole_of e 3) (whole_of n 3)
+UnitsAnswered =
+    (code lat lon h : ℤ) (x y z : Float) →
+    cartesian_of code lat lon h ≡ cartesian.Metres x y z → cartesian_units_of code lat lon h ≡ Units (whole_of x 5) (whole_of y 5) (whole_of z 5)
 
 abbrev pub MillimetresAnswered : Type 0
-MillimetresAnswered = (o : OriginNumbers) (lat lon : ℤ) (e n : Float) → cassini_of o lat lon ≡ projected.Metres e n → cassini_millimetres_of o lat lon ≡ in_millimetres e n
+MillimetresAnswered =
+    (o : OriginNumbers) (lat lon : ℤ) (e n : Float) →
+    cassini_of o lat lon ≡ projected.Metres e n → cassini_millimetres_of o lat lon ≡ Millimetres (whole_of e 3) (whole_of n 3)
 
 pub record ProjectionLaws : Type 0 where
   pub origin : AtOrigin

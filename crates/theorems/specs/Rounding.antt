@@ -4,10 +4,9 @@ use Rattle.std.specs.Prelude.{◌≡◌, Bool, ℕ, ◌+◌, ◌*◌, ◌^◌, �
 use Rattle.std.specs.Float.{fin}
 use Rattle.std.specs.Float.Ieee.{up, down}
 use Rattle.refusal.specs.Order.{pick}
-use Rattle.rounding.specs.Nearest.{Near, Ties, Symmetric, Rounds, away, to_even, rounded}
+use Rattle.rounding.specs.Nearest.{Near, Ties, Symmetric, Rounds, away, rounded}
 use Rattle.rounding.specs.Decimals.{with_sign, rounded_of}
 use Rattle.rounding.specs.declared.decimals.Rounded.TheVariants.{Whole}
-use Rattle.chain.specs.Parts.{step_round}
 
 -- ---- a fraction: never more than a half off, at a half what the rule takes, and no other number; odd by a symmetric rule, monotone, and numerators less than L + 1 divisors apart round at most L + 1 apart
 pub record Fractions (ties : Ties) (d : ℕ) : Type 0 where
@@ -29,14 +28,8 @@ pub record Decimals (s : Bool) (m : ℕ) (e : ℤ) (p : ℕ) : Type 0 where
 abbrev pub Closest : Type 0
 Closest = (d : ℕ) (z r q : ℤ) → Near z d r → nat_abs (pos d *ℤ r -ℤ z) ≤ nat_abs (pos d *ℤ q -ℤ z)
 
--- the steps' own rounding, a half to the even number, is odd: the way back takes away what the opposite step would gain
-abbrev pub StepOpposite : Type 0
-StepOpposite = (d : ℕ) → 0 < d → (z : ℤ) → step_round (neg_ℤ z) d ≡ neg_ℤ (step_round z d)
-
 pub record Rounding : Type 0 where
   pub fractions : (ties : Ties) (d : ℕ) → 0 < d → Fractions ties d
   pub symmetric : Symmetric away
-  pub even : Symmetric to_even
-  pub opposite : StepOpposite
   pub decimals : (s : Bool) (m : ℕ) (e : ℤ) (p : ℕ) → Decimals s m e p
   pub closest : Closest

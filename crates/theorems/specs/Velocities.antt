@@ -1,9 +1,7 @@
 -- What is promised of a velocity grid, beside the definitions: the bilinear rule once over every mesh, one value on an edge that two cells share, a velocity
 -- small enough for a step; and of its lines, that their numbers are judged as the lines say them.
-use Rattle.std.specs.Prelude.{◌≡◌, true, false, List, ℕ, ◌+◌, ◌≤◌, ◌<◌, ℤ, pos, ◌≤ℤ◌, Float}
+use Rattle.std.specs.Prelude.{◌≡◌, true, false, List, ℕ, ◌+◌, ◌≤◌, ◌<◌, ℤ, pos, ◌≤ℤ◌}
 use Rattle.std.proofs.Math.Option.{some}
-use Rattle.ranges.specs.Ranges.{latitude_range, longitude_range}
-use Rattle.bounds.proofs.Formula.{Fine}
 use Rattle.line.specs.Fields.{said}
 use Rattle.line.specs.Forms.{grid_form, node_form}
 use Rattle.line.specs.Readers.{read_grid_header, hyphen_line, read_node}
@@ -13,19 +11,11 @@ use Rattle.line.specs.declared.VelocityParts.{VelocityParts}
 use Rattle.line.specs.declared.NodeLine.TheVariants as node
 use Rattle.velocity_grid.specs.Bilinear.{bilinear}
 use Rattle.velocity_grid.specs.OnGrid.{grid_range}
-use Rattle.velocity_grid.specs.AtPoint.{part_range, part_of, PartsOk}
+use Rattle.velocity_grid.specs.AtPoint.{part_range, part_of}
 use Rattle.velocity_grid.specs.Text.{parts_range, no_value}
 use Rattle.velocity_grid.specs.Bounded.{Bounded}
 use Rattle.velocity_grid.specs.declared.Cell.{Cell}
-use Rattle.velocity_grid.proofs.TurnFinite.{x_f, y_f, z_f, turn_given}
 use Rattle.velocity_grid.specs.declared.Corners.{Corners}
-
--- no node of a cell lies below l, and none above it
-abbrev pub NoneBelow : ℤ → Corners → Type 0
-NoneBelow l c = (l ≤ℤ c.south_west) × (l ≤ℤ c.south_east) × (l ≤ℤ c.north_west) × (l ≤ℤ c.north_east)
-
-abbrev pub NoneAbove : ℤ → Corners → Type 0
-NoneAbove l c = (c.south_west ≤ℤ l) × (c.south_east ≤ℤ l) × (c.north_west ≤ℤ l) × (c.north_east ≤ℤ l)
 
 -- ---- in a cell on a mesh of n: exact at each of its nodes, and never below the least nor above the greatest of them
 pub record InCell (n : ℕ) : Type 0 where
@@ -33,8 +23,10 @@ pub record InCell (n : ℕ) : Type 0 where
   pub south-east : (c : Corners) → bilinear (pos n) (pos n) (pos 0) c ≡ c.south_east
   pub north-west : (c : Corners) → bilinear (pos n) (pos 0) (pos n) c ≡ c.north_west
   pub north-east : (c : Corners) → bilinear (pos n) (pos n) (pos n) c ≡ c.north_east
-  pub least : (x y : ℕ) → x ≤ n → y ≤ n → (c : Corners) (l : ℤ) → NoneBelow l c → l ≤ℤ bilinear (pos n) (pos x) (pos y) c
-  pub most : (x y : ℕ) → x ≤ n → y ≤ n → (c : Corners) (l : ℤ) → NoneAbove l c → bilinear (pos n) (pos x) (pos y) c ≤ℤ l
+  pub least : (x y : ℕ) → x ≤ n → y ≤ n → (c : Corners) (l : ℤ)
+      → l ≤ℤ c.south_west → l ≤ℤ c.south_east → l ≤ℤ c.north_west → l ≤ℤ c.north_east → l ≤ℤ bilinear (pos n) (pos x) (pos y) c
+  pub most : (x y : ℕ) → x ≤ n → y ≤ n → (c : Corners) (l : ℤ)
+      → c.south_west ≤ℤ l → c.south_east ≤ℤ l → c.north_west ≤ℤ l → c.north_east ≤ℤ l → bilinear (pos n) (pos x) (pos y) c ≤ℤ l
 
 -- ---- on an edge: a cell's own east edge is its eastern neighbour's west edge, and so its north edge
 abbrev pub cell_at : ℕ → ℕ → ℤ → ℤ → ℤ → Cell
@@ -59,19 +51,11 @@ pub record NodeJudged (line : List ℕ) (p : VelocityParts) : Type 0 where
   pub same : parts_range carried ≡ parts_range p
   pub kept : parts_range p ≡ true → carried ≡ p
 
--- ---- nothing on the way of the turn is NaN or infinite: the three formulas are the definition's, step by step
-abbrev pub EachFinite : List Float → Type 0
-EachFinite g = Fine g x_f × Fine g y_f × Fine g z_f
-
-abbrev pub TurnFinite : Type 0
-TurnFinite = (p : VelocityParts) (lat lon : ℤ) → PartsOk p → latitude_range lat ≡ true → longitude_range lon ≡ true → EachFinite (turn_given p lat lon)
-
 pub record Velocities : Type 0 where
   pub cell : (n : ℕ) → 0 < n → InCell n
   pub east : SharedEast
   pub north : SharedNorth
   pub small : Bounded
-  pub finite : TurnFinite
   pub headers : (line : List ℕ) (g : GridHeader) → said grid_form line ≡ some g → HeaderJudged line g
   pub nodes : (line : List ℕ) (p : VelocityParts) → hyphen_line line ≡ false → said node_form line ≡ some p → NodeJudged line p
   -- the number of a node that has no value is past the range of every part

@@ -33,21 +33,14 @@ use Rattle.line.specs.declared.VelocityParts.{VelocityParts}
 use Rattle.velocity_grid.proofs.AtPoint.{sized-upto}
 
 -- ---- the latitude's and the longitude's sine and cosine, and the three parts
-abbrev pub x_f : Formula
+abbrev x_f : Formula
 x_f = plus (minus (times (opp (var 2)) (var 4)) (times (times (var 0) (var 3)) (var 5))) (times (times (var 1) (var 3)) (var 6))
 
-abbrev pub y_f : Formula
+abbrev y_f : Formula
 y_f = plus (minus (times (var 3) (var 4)) (times (times (var 0) (var 2)) (var 5))) (times (times (var 1) (var 2)) (var 6))
 
-abbrev pub z_f : Formula
+abbrev z_f : Formula
 z_f = plus (times (var 1) (var 5)) (times (var 0) (var 6))
-
--- what they are the formulas of
-abbrev pub turn_given : VelocityParts → ℤ → ℤ → List Float
-turn_given p lat lon =
-    let φ = radians lat in
-    let w = radians (lon -ℤ pos 32400000000) in
-    sine_of φ ∷ cosine_of φ ∷ cosine_of w ∷ neg (sine_of w) ∷ whole p.east ∷ whole p.north ∷ whole p.up ∷ []
 
 abbrev part : Ends
 part = wholes 0 2500
@@ -106,7 +99,7 @@ module _ (p : VelocityParts) (lat lon : ℤ) (o : PartsOk p) (a : latitude_range
   among z h = of_int-among 2500 z (sized-upto 2500 z h) part-finite
 
   abbrev given : List Float
-  given = turn_given p lat lon
+  given = sine_of φ ∷ cosine_of φ ∷ cosine_of w ∷ neg (sine_of w) ∷ whole p.east ∷ whole p.north ∷ whole p.up ∷ []
 
   all : All given space
   all =

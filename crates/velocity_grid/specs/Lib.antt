@@ -7,4 +7,3 @@ pub mod Bounded
 pub mod Text
 pub mod Motion
 pub mod Reading
-pub mod Vectors

@@ -3,7 +3,7 @@
 //! Buffers are made once and not cleared between calls on either side. Ends with 1 where a ratio is over
 //! the bar.
 
-use harness::gen::{chains::Chains, full, lots, piles};
+use harness::gen::{chains::Chains, full, lots};
 use harness::measure::{both, Pair};
 use harness::programs::Programs;
 use harness::rng::Rng;
@@ -20,8 +20,6 @@ use std::process::ExitCode;
 const BAR: f64 = 1.5;
 /// Of a sheet in pieces of 64 bytes beside the product's own sheet call.
 const PIECES_BAR: f64 = 3.0;
-/// Of the worst pile of 2 MiB beside the product's own sheet call on the same bytes, in parts of 64 KiB.
-const PILES_BAR: f64 = 10.0;
 const FULL: usize = 65_536;
 const CALLS: usize = 1000;
 const DAY: usize = 2000;
@@ -31,7 +29,6 @@ struct Report {
     worst: f64,
     at: String,
     pieces: f64,
-    piles: f64,
 }
 
 impl Report {
@@ -55,14 +52,12 @@ impl Report {
 }
 
 fn main() -> ExitCode {
-    interface::walls::take_down();
     let mut rng = Rng::new(arguments::number("--seed", 7));
     let chains = Chains::default();
     let mut report = Report::default();
     sheets(&mut report, &mut rng, &chains);
     linear(&mut rng, &chains);
     fragments(&mut report, &mut rng, &chains);
-    pile_shapes(&mut report, &mut rng);
     plans(&mut report, &mut rng);
     conversions(&mut report, &mut rng, &chains);
     rows(&mut report, &mut rng, &chains);
@@ -77,8 +72,7 @@ fn main() -> ExitCode {
     }
     println!("bench: worst ratio {:.2} ({}), bar {BAR}", report.worst, report.at);
     println!("bench: pieces of 64 bytes {:.2} times the sheet call, bar {PIECES_BAR}", report.pieces);
-    println!("bench: the worst pile {:.2} times the sheet call, bar {PILES_BAR}", report.piles);
-    if report.worst > BAR || report.pieces > PIECES_BAR || report.piles > PILES_BAR {
+    if report.worst > BAR || report.pieces > PIECES_BAR {
         ExitCode::FAILURE
     } else {
         ExitCode::SUCCESS
@@ -117,6 +111,7 @@ fn sheets(report: &mut Report, rng: &mut Rng, chains: &Chains) {
     sheet("one B step", full::sheet(rng, chains, "B", FULL));
     sheet("refusals", full::refusals(rng, chains, FULL));
     sheet("bad forms", full::malformed(rng, chains, FULL));
+    sheet("bare line feeds", vec![b'\n'; FULL]);
     sheet("no line feed", vec![b'S'; FULL]);
 }
 
@@ -125,6 +120,7 @@ fn plans(report: &mut Report, rng: &mut Rng) {
         text(report, &format!("plan, {name}"), &input, product::plan, baseline::plan::plan)
     };
     plan("full", full::plan(rng, FULL));
+    plan("bare line feeds", vec![b'\n'; FULL]);
 }
 
 /// A sheet in fragments, over a state of numbers: each call tests the state. Short, so that few runs are interrupted.
@@ -151,42 +147,6 @@ fn fragments(report: &mut Report, rng: &mut Rng, chains: &Chains) {
     for steps in ["T", "B", "BBBBBBBB"] {
         beside_the_sheet(report, &full::sheet(rng, chains, steps, FULL / 16), steps.len());
     }
-}
-
-/// Piles of 2 MiB of every shape, beside a sheet without steps of the same bytes.
-fn pile_shapes(report: &mut Report, rng: &mut Rng) {
-    for shape in piles::SHAPES {
-        let pile = piles::full(rng, shape, paper::latest::MOST_BYTES);
-        let lines = pile.iter().filter(|b| **b == b'\n').count();
-        let mut columns = product::Columns::new([product::rows_of_a_pile(&pile); 7]);
-        let mut out = vec![0; product::room_of_a_pile(&pile)];
-        let mut text = vec![0; product::room(&pile)];
-        let parts = parts_of(&pile);
-        let ours = || {
-            black_box(product::latest(black_box(&pile), &mut columns, &mut out));
-        };
-        let sheets = || {
-            for part in &parts {
-                black_box(product::sheet(black_box(part), &mut text));
-            }
-        };
-        let ratio = both(ours, sheets, lines, 15).ratio();
-        println!("  a pile of 2 MiB, {shape:?} ({lines} lines): {ratio:.2} times the sheet call (bar {PILES_BAR})");
-        report.piles = report.piles.max(ratio);
-    }
-}
-
-/// Whole lines, at most 64 KiB together.
-fn parts_of(pile: &[u8]) -> Vec<&[u8]> {
-    let mut parts = Vec::new();
-    let mut rest = pile;
-    while !rest.is_empty() {
-        let most = &rest[..rest.len().min(FULL)];
-        let end = most.iter().rposition(|b| *b == b'\n').map_or(most.len(), |place| place + 1);
-        parts.push(&rest[..end]);
-        rest = &rest[end..];
-    }
-    parts
 }
 
 /// The product's calls on a sheet in pieces of that many bytes.

@@ -1,12 +1,11 @@
-//! compare --short | --long [--seed N] [--programs FOLDER] [--command FILE]
+//! compare --short | --long [--seed N] [--programs FOLDER]
 //!
 //! The baseline, and with the feature `product` the product, against the independent program. Ends with
 //! 1 at the first difference, after printing the input.
 
 use harness::arguments;
 use harness::checks::{
-    angles, conversions, desk, faulty_lines, geodetic, grids, joins, later, latest, lots, roundings, rows, rso, rso_causes,
-    streams, texts, trips,
+    angles, conversions, geodetic, grids, joins, later, lots, roundings, rows, rso, rso_causes, streams, texts, trips,
 };
 use harness::compare::{Comparison, Outcome};
 use harness::programs::Programs;
@@ -27,10 +26,8 @@ struct Sizes {
     geodetic: u64,
     rso: u64,
     pairs: u64,
-    piles: u64,
     texts: u64,
     processes: u64,
-    desk: u64,
 }
 
 const SHORT: Sizes = Sizes {
@@ -46,10 +43,8 @@ const SHORT: Sizes = Sizes {
     geodetic: 200_000,
     rso: 200_000,
     pairs: 100_000,
-    piles: 20_000,
     texts: 12_000,
     processes: 200,
-    desk: 600,
 };
 
 const LONG: Sizes = Sizes {
@@ -65,10 +60,8 @@ const LONG: Sizes = Sizes {
     geodetic: 5_000_000,
     rso: 5_000_000,
     pairs: 2_000_000,
-    piles: 500_000,
     texts: 300_000,
     processes: 4_000,
-    desk: 20_000,
 };
 
 fn main() -> ExitCode {
@@ -110,17 +103,9 @@ fn programs() -> Vec<Programs> {
 }
 
 fn run(c: &mut Comparison, sizes: &Sizes) -> Outcome {
-    timed("lines with one fault or two", || {
-        println!("  {} lines, every letter's", faulty_lines::run(c)?);
-        Ok(())
-    })?;
     timed(&format!("{} sheets and as many plans", sizes.texts), || {
         texts::run(c, sizes.texts, sizes.processes)
     })?;
-    if let Some(command) = arguments::value("--command") {
-        let command = std::path::PathBuf::from(command);
-        timed(&format!("{} texts through the command, and long ones", sizes.desk), || desk::run(c, &command, sizes.desk))?;
-    }
     timed(&format!("{} sheets in fragments", sizes.streams), || streams::run(c, sizes.streams))?;
     timed(&format!("{} conversions each way", sizes.conversions), || conversions::run(c, sizes.conversions))?;
     timed(&format!("{} round trips that came home", sizes.trips), || round_trips(c, sizes.trips))?;
@@ -133,10 +118,6 @@ fn run(c: &mut Comparison, sizes: &Sizes) -> Outcome {
     timed(&format!("{} positions to angles", sizes.geodetic), || from_cartesian(c, sizes.geodetic))?;
     timed(&format!("{} points onto RSO and as many back", sizes.rso), || oblique_mercator(c, sizes.rso))?;
     timed(&format!("{} pairs for the later of two", sizes.pairs), || later::run(c, sizes.pairs))?;
-    timed(&format!("{} piles for the latest of every point", sizes.piles), || {
-        latest::run(c, sizes.piles)?;
-        latest::full(c)
-    })?;
     #[cfg(feature = "product")]
     timed("wrong lengths", || harness::checks::lengths::run(c, sizes.pairs / 100))?;
     Ok(())

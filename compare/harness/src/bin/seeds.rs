@@ -1,29 +1,39 @@
-//! seeds FOLDER COUNT NAME..: inputs from the generator for those entries of the fuzzer, a folder each, as files to start from. seeds
-//! alone prints the names.
+//! seeds FOLDER COUNT: sheets, plans and lot plans from the generator, as files for the fuzzer to start from.
 
-use harness::fuzz::ENTRIES;
-use harness::gen::chains::Chains;
+use harness::gen::{chains::Chains, lots, plans, sheets};
 use harness::rng::Rng;
+use harness::subject::Lot;
 use std::fs;
 use std::io;
 use std::path::Path;
 
 fn main() -> io::Result<()> {
-    let words: Vec<String> = std::env::args().skip(1).collect();
-    let [folder, count, names @ ..] = words.as_slice() else {
-        ENTRIES.iter().for_each(|entry| println!("{}", entry.name));
-        return Ok(());
-    };
+    let words: Vec<String> = std::env::args().collect();
+    let [_, folder, count] = words.as_slice() else { return Err(io::Error::other("seeds FOLDER COUNT")) };
     let count: u32 = count.parse().map_err(io::Error::other)?;
-    let chains = Chains::default();
-    for name in names {
-        let entry = ENTRIES.iter().find(|entry| entry.name == name);
-        let entry = entry.ok_or_else(|| io::Error::other(format!("no entry {name}")))?;
-        let (folder, mut rng) = (Path::new(folder).join(name), Rng::new(11));
+    let (mut rng, chains) = (Rng::new(11), Chains::default());
+    for name in ["sheet", "plan", "lot"] {
+        let folder = Path::new(folder).join(name);
         fs::create_dir_all(&folder)?;
         for place in 0..count {
-            fs::write(folder.join(format!("seed-{place}")), (entry.seed)(&mut rng, &chains))?;
+            let text = match name {
+                "sheet" => sheets::sheet(&mut rng, &chains),
+                "plan" => plans::plan(&mut rng),
+                _ => packed(&lots::lot(&mut rng, &chains)),
+            };
+            fs::write(folder.join(format!("seed-{place}")), text)?;
         }
     }
     Ok(())
+}
+
+/// As oracle/lot.c takes a lot plan apart.
+fn packed(lot: &Lot) -> Vec<u8> {
+    let length = lot.line.len().min(255);
+    let room = lot.room.clamp(72, 72 + 255) - 72;
+    let mut bytes = vec![length as u8, room as u8];
+    bytes.extend(lot.origin.iter().flat_map(|number| number.to_le_bytes()));
+    bytes.extend(&lot.text);
+    bytes.extend(&lot.line[..length]);
+    bytes
 }

@@ -7,7 +7,6 @@ use crate::tally::Function;
 use paper::numbers::steps;
 
 pub fn run(c: &mut Comparison, count: u64) -> Outcome {
-    meshes(c)?;
     let mut done = 0;
     while done < count {
         let grid = grids::grid(&mut c.rng);
@@ -32,33 +31,6 @@ pub fn run(c: &mut Comparison, count: u64) -> Outcome {
     Ok(())
 }
 
-/// Of a mesh from -130 to 130 minutes, of its multiples and of the ends of a word, 5 and 10 alone make a grid.
-fn meshes(c: &Comparison) -> Outcome {
-    let ends = [i64::MIN, i64::MAX, 5 + (1 << 32), 10 - (1 << 32), 300, 600, 30_000_000, 60_000_000];
-    for mesh in (-130..=130).chain(ends) {
-        let text =
-            format!("G\t1440000000\t36720000000\t2\t2\t{mesh}\n{}", "1\t2\t3\n".repeat(4)).into_bytes();
-        let wanted = Ok(if [5, 10].contains(&mesh) { [0; 3] } else { [2, 1, 0] });
-        let asked = Asked {
-            latitude: 1_440_000_000,
-            longitude: 36_720_000_000,
-            datum: 6,
-            before: 2_000_000,
-            after: 2_010_000,
-        };
-        for s in c.all() {
-            let (given, velocity) = (s.grid_fault(&text), s.grid_velocity(&text, &asked));
-            if given != wanted || velocity.is_ok() != (given == Ok([0; 3])) {
-                let name = s.name();
-                return Err(Mismatch(format!(
-                    "a mesh of {mesh} minutes\n  {name} {given:?}, {velocity:?}\n  by the request {wanted:?}"
-                )));
-            }
-        }
-    }
-    Ok(())
-}
-
 fn compared(c: &mut Comparison, text: &[u8], asked: &Asked) -> Outcome {
     let expected = c.reference.grid_velocity(text, asked);
     c.tally.count(Function::Grid, &expected);
@@ -70,9 +42,9 @@ fn compared(c: &mut Comparison, text: &[u8], asked: &Asked) -> Outcome {
 /// the node's own at a node, and the step is one that a chain takes.
 fn between_its_nodes(c: &Comparison, grid: &Grid, text: &[u8], asked: &Asked) -> Outcome {
     let mesh = grid.units();
+    let (north, east) = (asked.latitude - grid.corner[0], asked.longitude - grid.corner[1]);
     for s in c.all() {
         let Ok(answer) = s.grid_velocity(text, asked) else { continue };
-        let (north, east) = (asked.latitude - grid.corner[0], asked.longitude - grid.corner[1]);
         let about = |offset: i64| [offset.div_euclid(mesh), -(-offset).div_euclid(mesh)];
         let mut nodes = Vec::new();
         for row in about(north) {

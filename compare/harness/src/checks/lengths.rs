@@ -13,7 +13,6 @@ pub fn run(c: &mut Comparison, count: u64) -> Outcome {
         projections(c)?;
         streams(c)?;
         texts(c)?;
-        piles(c)?;
     }
     Ok(())
 }
@@ -174,23 +173,4 @@ fn texts(c: &mut Comparison) -> Outcome {
         decide(&what, number, length < room, &out, 0xa5)?;
     }
     Ok(())
-}
-
-/// A pile of about a hundred rows: -255 exactly where a column or the room is short, and then nothing written.
-fn piles(c: &mut Comparison) -> Outcome {
-    let pile = crate::gen::piles::pile(&mut c.rng);
-    let (needed, room) = (product::rows_of_a_pile(&pile), product::room_of_a_pile(&pile));
-    let mut rows = [needed; 7];
-    for column in &mut rows {
-        match c.rng.below(12) {
-            0 => *column = needed.saturating_sub(1),
-            1 => *column += 1,
-            _ => {}
-        }
-    }
-    let mut out = vec![0xa5; room - usize::from(c.rng.once_in(6))];
-    let wrong = rows.iter().any(|column| *column < needed) || out.len() < room;
-    let number = product::latest(&pile, &mut product::Columns::new(rows), &mut out);
-    let number = if number == -255 { 255 } else { number.min(254) };
-    decide(&format!("latest with {rows:?} rows for {needed} and {} of {room} bytes", out.len()), number, wrong, &out, 0xa5)
 }

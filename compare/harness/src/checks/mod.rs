@@ -2,13 +2,10 @@
 
 pub mod angles;
 pub mod conversions;
-pub mod desk;
-pub mod faulty_lines;
 pub mod geodetic;
 pub mod grids;
 pub mod joins;
 pub mod later;
-pub mod latest;
 #[cfg(feature = "product")]
 pub mod lengths;
 pub mod lots;

@@ -1,7 +1,7 @@
 //! Sheets in fragments: wherever they are cut, the same answers and the same closing state, and what one run says.
 
 use crate::compare::{shown, Comparison, Mismatch, Outcome};
-use crate::gen::{chains::Chains, sheets, texts};
+use crate::gen::{sheets, texts};
 use crate::rng::Rng;
 use crate::subject::{Fed, State, Subject};
 use crate::tally::Function;
@@ -47,17 +47,10 @@ fn to_the_limit(c: &mut Comparison) -> Outcome {
     for s in c.all() {
         let mut state = begun();
         for line in 1..=1_000_003 {
-            let text = if line > 1_000_000 {
-                "R\t1000001\t28\t0\n".to_string()
-            } else {
-                format!("R\t{line}\t19\t0\n")
-            };
+            let text = if line > 1_000_000 { "R\t1000001\t28\t0\n".to_string() } else { format!("R\t{line}\t19\t0\n") };
             let call = s.fed(&mut state, Some(b"\n"));
             if call != Ok((1, Some(text.into_bytes()))) {
-                return Err(Mismatch(format!(
-                    "line {line} of bare line feeds: {} answers {call:?}",
-                    s.name()
-                )));
+                return Err(Mismatch(format!("line {line} of bare line feeds: {} answers {call:?}", s.name())));
             }
         }
         let open = s.fed(&mut state, Some(b"X"));
@@ -65,17 +58,14 @@ fn to_the_limit(c: &mut Comparison) -> Outcome {
         let after = s.fed(&mut state, Some(b""));
         let wanted = (Ok((1, None)), Ok((0, Some(b"R\t1000001\t28\t0\n".to_vec()))), Err(29));
         if (&open, &last, &after) != (&wanted.0, &wanted.1, &wanted.2) || state.numbers[0] != 1_000_000 {
-            return Err(Mismatch(format!(
-                "past the limit: {} answers {open:?}, {last:?}, {after:?}",
-                s.name()
-            )));
+            return Err(Mismatch(format!("past the limit: {} answers {open:?}, {last:?}, {after:?}", s.name())));
         }
     }
     Ok(())
 }
 
 /// What every call answered, and the states after them; the last is the finish.
-pub fn fed(s: &dyn Subject, text: &[u8], cuts: &[usize]) -> (Vec<Fed>, State) {
+fn fed(s: &dyn Subject, text: &[u8], cuts: &[usize]) -> (Vec<Fed>, State) {
     let (mut state, mut calls) = (begun(), Vec::new());
     let mut rest = text;
     for &cut in cuts {
@@ -98,7 +88,7 @@ pub fn fed(s: &dyn Subject, text: &[u8], cuts: &[usize]) -> (Vec<Fed>, State) {
     (calls, state)
 }
 
-pub fn printed(calls: &[Fed]) -> Vec<u8> {
+fn printed(calls: &[Fed]) -> Vec<u8> {
     let texts = calls.iter().filter_map(|call| call.as_ref().ok()?.1.clone());
     texts.collect::<Vec<_>>().concat()
 }
@@ -132,7 +122,7 @@ fn whole_sheet(c: &mut Comparison) -> Outcome {
 
 /// One call on a state that may be at the limit, finished, out of range or one that no sheet makes.
 fn any_state(c: &mut Comparison) -> Outcome {
-    let state = state(&mut c.rng, &c.chains);
+    let state = state(c);
     let text = sheets::sheet(&mut c.rng, &c.chains);
     let start = text.iter().position(|&b| b == b'\n').map_or(0, |feed| feed + 1);
     let mut fragment = text[if c.rng.once_in(2) { start.min(text.len()) } else { 0 }..].to_vec();
@@ -160,12 +150,13 @@ fn any_state(c: &mut Comparison) -> Outcome {
     c.hold("state", input, &expected, call)
 }
 
-pub fn state(rng: &mut Rng, chains: &Chains) -> State {
-    let length = rng.index(9);
-    let mut chain = chains.good(rng, length);
-    if rng.once_in(8) {
-        chain.damage(rng);
+fn state(c: &mut Comparison) -> State {
+    let length = c.rng.index(9);
+    let mut chain = c.chains.good(&mut c.rng, length);
+    if c.rng.once_in(8) {
+        chain.damage(&mut c.rng);
     }
+    let rng = &mut c.rng;
     let mut state = begun();
     state.numbers[0] = match rng.below(4) {
         0 => 0,

@@ -177,11 +177,7 @@ impl Chain {
             2 => row[2 + 2 * rng.index(2)] = damaged(rng, 1, 10),
             3 => row[3 + 2 * rng.index(2)] = damaged(rng, numbers::EPOCH.0, numbers::EPOCH.1),
             4 => row[2 + rng.index(4)] = rng.pick(&[0, 1, 2, 3, 9, 10, 2_000_000]),
-            5 => {
-                let by = rng.pick(&[-1, 1]);
-                let epoch = &mut row[3 + 2 * rng.index(2)];
-                *epoch = epoch.wrapping_add(by);
-            }
+            5 => row[3 + 2 * rng.index(2)] += rng.pick(&[-1, 1]),
             6 => row[2 + 2 * rng.index(2)] = rng.between(1, 10),
             _ => damage_number(rng, row),
         }

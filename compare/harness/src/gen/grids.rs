@@ -127,9 +127,6 @@ fn out_of_range(rng: &mut Rng, line: &[u8]) -> Vec<u8> {
     };
     let place = if fields.len() == 6 { 1 + rng.index(5) } else { rng.index(3) };
     let (low, high) = ranges[place];
-    // A mesh that has its cells, and is none of the two.
-    let meshed = place == 5 && rng.once_in(2);
-    let number = if meshed { rng.pick(&[1, 2, 6, 7, 15, 20, 30, 60]) } else { damaged(rng, low, high) };
-    fields[place] = number.to_string();
+    fields[place] = damaged(rng, low, high).to_string();
     (fields.join("\t") + "\n").into_bytes()
 }

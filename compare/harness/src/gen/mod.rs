@@ -3,7 +3,6 @@
 pub mod angles;
 pub mod chains;
 pub mod clashes;
-pub mod faulty_lines;
 pub mod floats;
 pub mod full;
 pub mod geodetic;
@@ -13,7 +12,6 @@ pub mod lines;
 pub mod lots;
 pub mod numbers;
 pub mod pairs;
-pub mod piles;
 pub mod plans;
 pub mod points;
 pub mod rso;

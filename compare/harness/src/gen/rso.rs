@@ -78,8 +78,8 @@ pub fn damage(rng: &mut Rng, parameters: &mut [i64; 8]) {
     parameters[place] = match rng.below(8) {
         // A latitude that points have and a centre may not; an angle already less a full turn, or a turn more.
         0 if place == 1 => rng.between(0, CENTRE_LATITUDE.0 - 1),
-        0 if place == 3 || place == 4 => parameters[place].wrapping_sub(129_600_000_000),
-        1 if place == 3 || place == 4 => parameters[place].wrapping_add(129_600_000_000),
+        0 if place == 3 || place == 4 => parameters[place] - 129_600_000_000,
+        1 if place == 3 || place == 4 => parameters[place] + 129_600_000_000,
         _ => damaged(rng, low, high),
     };
 }

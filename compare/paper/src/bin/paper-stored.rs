@@ -5,7 +5,7 @@ use paper::angle::{self, Origin};
 use paper::geodetic::geodetic;
 use paper::lot_plan::lot_plan;
 use paper::rso::{self, Parameters};
-use paper::{decimal, grid, later, numbers, stream};
+use paper::{decimal, grid, later, numbers};
 
 const CHAIN: [i64; 26] = [
     66, 67, 1, 0, 5, 2000000, -1100000, 85100000, 500000, 12500, -8300, 40250, -1350, //
@@ -32,23 +32,6 @@ const BAD: &[u8] = b"P\tARAU\t9\t1\t6\t2000000\t-113105165411\t+623631179950\t71
 const OTHER: &[u8] = b"P\tARAV\t9\t1\t6\t2000000\t-113105165411\t623631179950\t71174811140\n";
 const GRID: &[u8] = b"G\t2310000000\t36090000000\t2\t3\t5\n-1800\t200\t30\n1400\t-500\t60\n7\t8\t-9\n\
     1000\t-110\t1200\n13\t14\t-1500\n-\n";
-const RADIO: &[u8] = b"E\t2021\n\
-    S\tB\t1\t0\t5\t2000000\tC\t-1100000\t85100000\t500000\t12500\t-8300\t40250\t-1350\n\
-    S\tT\t5\t2000000\t6\t2006586\t-15832\t-4363\t-9706\n\
-    S\tV\t6\t2006586\t6\t2010000\t-1876\t-90\t-684\n\
-    S\tF\t6\t2010000\t10\t2010000\n\
-    P\tJOHOR-07\t12\t4\t1\t0\t-122145678901\t622012345678\t53876543210\n\
-    \n\
-    E\t2009\n\
-    P\tJOHOR-08\t12\t4\t1\t0\t-122145678901\t622012345678\t+53876543210\n\
-    S\tT\t10\t2010000\t10\t2010000\t1\t2\t3\n\
-    P\tJOHOR-07\t12\t4\t1\t0\t-122145678901\t622012345678\t53876543210\n\
-    P\tJOHOR-0";
-const RADIO_2009: &[u8] = b"E\t2009\n\
-    S\tB\t1\t0\t5\t2000000\tP\t-1100000\t85100000\t500000\t12500\t-8300\t40250\t-1350\n\
-    S\tT\t5\t2000000\t7\t2006586\t-15832\t-4363\t-9706\n\
-    P\tJOHOR-07\t12\t4\t1\t0\t-122145678901\t622012345678\t53876543210\n\
-    P\tARAU\t1\t3\t6\t2000000\t-113105165410\t623631179950\t71174811140\n";
 
 fn main() {
     let there = numbers::forward(2021, &CHAIN, &POINT).unwrap_or_default();
@@ -74,8 +57,6 @@ fn main() {
     whole("grid_fault_none", &grid_fault(GRID));
     whole("grid_fault_over", &grid_fault(&[GRID, b"-\n"].concat()));
     whole("grid_fault", &grid_fault(b"G\t2310000000\t36090000000\t2\t3\t5\n1\t2\t3\n1\t2501\t03\n"));
-    radio("radio", RADIO);
-    radio("radio_2009", RADIO_2009);
     lot_plans();
     bits("cartesian", &angle::cartesian(2, 1234567890, 36700000123, 456789).unwrap_or_default());
     whole("cartesian_units", &angle::cartesian_units(2, 1234567890, 36700000123, 456789).unwrap_or_default());
@@ -107,29 +88,6 @@ fn main() {
     whole("later_fault_first", &fault(BAD, b""));
     whole("later_fault_ids", &fault(FIRST, OTHER));
     whole("later_fault_none", &fault(FIRST, SECOND));
-}
-
-/// A sheet in fragments of 16 bytes: what each line prints, and its length; the numbers before the finish and after it.
-fn radio(name: &str, sheet: &[u8]) {
-    let (mut state, mut room) = (stream::fresh(), [0; stream::ROOM]);
-    let (mut text, mut lengths) = (String::new(), Vec::new());
-    for mut fragment in sheet.chunks(16) {
-        while !fragment.is_empty() {
-            let fed = stream::feed(&mut state, &mut room, fragment).expect("a sound state");
-            fragment = &fragment[fed.taken..];
-            if let Some(answer) = fed.answer {
-                lengths.push(answer.len() as i64);
-                text.push_str(&answer);
-            }
-        }
-    }
-    whole(&format!("{name}_open"), &state);
-    let last = stream::finish(&mut state, &mut room).expect("a sound state");
-    lengths.push(last.len() as i64);
-    text.push_str(&last);
-    whole(&format!("{name}_closed"), &state);
-    whole(&format!("{name}_lengths"), &lengths);
-    println!("#define stored_{name} \"{}\"", text.escape_default());
 }
 
 fn grid_fault(text: &[u8]) -> [i64; 3] {
@@ -169,16 +127,8 @@ fn fault(first: &[u8], second: &[u8]) -> [i64; 3] {
 }
 
 fn whole(name: &str, values: &[i64]) {
-    print!("static const int64_t stored_{name}[{}] = {{", values.len());
-    for (place, value) in values.iter().enumerate() {
-        let parted = match place {
-            0 => "",
-            _ if place % 13 == 0 => ",\n    ",
-            _ => ", ",
-        };
-        print!("{parted}{value}");
-    }
-    println!("}};");
+    let list: Vec<String> = values.iter().map(i64::to_string).collect();
+    println!("static const int64_t stored_{name}[{}] = {{{}}};", values.len(), list.join(", "));
 }
 
 fn bits(name: &str, values: &[f64]) {

@@ -1,5 +1,5 @@
 -- `input::read_all` meets its contract. Assumes nothing.
-use Prim.Native.Nat.{◌+◌, ◌≤◌, ◌<◌, ◌-◌}
+use Prim.Native.Nat.{◌≤◌, ◌<◌, ◌-◌}
 use mathlib.Core.Path.{◌≡◌, refl}
 use native.Mathlib.Omega.{arith}
 use lib.ListN.{length}
@@ -21,32 +21,22 @@ is-failed (next.Whole n) e = absurd (omega (arith, e))
 is-failed next.Failed e = refl
 
 abbrev invariant-loop : tie.invariant-loop
-invariant-loop buffer₀ room held₀ reads₀ buffer held reads =
-    (held ≤ length buffer) × (length buffer ≡ length buffer₀) × (reads ≤ held + 1) × (room ≡ length buffer)
-    × ((a : Input) → Reads (length buffer) held reads a → Reads (length buffer) 0 1 a)
+invariant-loop buffer₀ held₀ buffer held = (held ≤ length buffer) × (length buffer ≡ length buffer₀) × ((a : Input) → Reads (length buffer) held a → Reads (length buffer) 0 a)
 
 abbrev decreases-loop : tie.decreases-loop
-decreases-loop buffer₀ room held₀ reads₀ buffer held reads = length buffer - held
+decreases-loop buffer₀ held₀ buffer held = length buffer - held
 
 returns : tie.Need-returns invariant-loop decreases-loop
 returns c =
     let c4 = c.before.before.before.before in
     let c6 = c4.before.before in
-    reads_same (omega (arith, c.before.before.before.buffer.given)) (c6.loop.invariant.4 _ (reads-failed (is-failed _ c.before.match.keys1) c4.one-read.ensures))
+    reads_same (omega (arith, c.before.before.before.buffer.given)) (c6.loop.invariant.2 _ (reads-failed (is-failed _ c.before.match.keys1) c4.one-read.ensures))
 
 returns-2 : tie.Need-returns-2 invariant-loop decreases-loop
 returns-2 c =
     let c5 = c.before.before.before.before.before in
     let c7 = c5.before.before in
-    reads_same (omega (arith, c.before.before.before.before.buffer.given)) (c7.loop.invariant.4 _ (reads_whole c.before.bytes.given.1 c5.one-read.ensures))
-
--- reading goes on with more bytes than it has made reads, so their number fits
-add_reads : tie.Need-overflow-add-reads invariant-loop decreases-loop
-add_reads c =
-    let c5 = c.before.before.before.before.before in
-    let c7 = c5.before.before in
-    let more = on-more c7.loop.invariant.0 c.before.bytes2.given.1 c5.one-read.ensures in
-    record { fits = omega (arith, more, c7.loop.invariant.1, c7.loop.invariant.2) }
+    reads_same (omega (arith, c.before.before.before.before.buffer.given)) (c7.loop.invariant.2 _ (reads_whole c.before.bytes.given.1 c5.one-read.ensures))
 
 loop-less : tie.Need-loop-smaller invariant-loop decreases-loop
 loop-less c =
@@ -59,16 +49,11 @@ loop-again c =
     let c5 = c.before.before.before.before.before in
     let c7 = c5.before.before in
     let same = c.before.before.before.before.buffer.given in
-    let more = on-more c7.loop.invariant.0 c.before.bytes2.given.1 c5.one-read.ensures in (
-      omega (arith, more, same),
-      omega (arith, same, c7.loop.invariant.1),
-      omega (arith, more, c7.loop.invariant.2),
-      omega (arith, same, c7.loop.invariant.1),
-      λ a q. reads_same (omega (arith, same)) (c7.loop.invariant.4 a (reads_on c.before.bytes2.given.1 c5.one-read.ensures (reads_same (omega (arith, same)) q))),
-    )
+    let more = on-more c7.loop.invariant.0 c.before.bytes2.given.1 c5.one-read.ensures in
+    (omega (arith, more, same), omega (arith, same, c7.loop.invariant.1), λ a q. reads_same (omega (arith, same)) (c7.loop.invariant.2 a (reads_on c.before.bytes2.given.1 c5.one-read.ensures (reads_same (omega (arith, same)) q))))
 
 pub read-all-spec : {M : Type 1} → statement M
 read-all-spec =
     tie.close
     (tie.spec invariant-loop decreases-loop (λ c. search rules) (λ c κs. search rules) (λ c. search rules) (λ c. search rules) returns (λ c. search rules)
-    (λ c. search rules) returns-2 (λ c. search rules) add_reads loop-less loop-again)
+    (λ c. search rules) returns-2 (λ c. search rules) loop-less loop-again)

@@ -10,4 +10,4 @@ answer-requires : tie.Need-answer-requires
 answer-requires c κs = omega (arith, any-fits (length c.before.before.before.args.text.now))
 
 pub print-any-spec : {M : Type 1} → statement M
-print-any-spec = tie.close (tie.spec (λ c κs. search rules) (λ c. search rules) answer-requires (λ c κs. search rules) (λ c κs. search rules) (λ c. search rules) (λ c. search rules))
+print-any-spec = tie.close (tie.spec (λ c κs. search rules) (λ c. search rules) answer-requires (λ c κs. search rules) (λ c. search rules))

@@ -2,10 +2,12 @@
 ghost use Rattle.line.specs.Text.{Wrote};
 ghost use Rattle.listing.specs.Fold.{Prints};
 ghost use Rattle.plan_rules.specs.Plan.{fresh, reply_text, plan_of};
-ghost use Rattle.plan_rules.specs.State.{Holds};
+ghost use Rattle.plan_rules.specs.State.{Holds, passed_in};
+ghost use Rattle.std.specs.Prelude.{◌≡◌, ◌+◌, ◌≤◌};
 
 use crate::decide::decide;
 use crate::{PlanOrigin, Reply, State};
+use line::LINE_FEED;
 
 // Nothing read yet.
 fn fresh() -> State
@@ -14,6 +16,18 @@ fn fresh() -> State
     State {
         line: 1,
         origin: PlanOrigin::Missing,
+    }
+}
+
+// The state after bare line feeds, which no program knows: their number is all that they change.
+fn passed(state: State, lines: usize) -> State
+    requires { state.line + lines ≤ 1000000 }
+    ensures { result ≡ passed_in state lines }
+{
+    let origin = state.origin;
+    State {
+        line: state.line + (lines as u64),
+        origin: origin,
     }
 }
 
@@ -42,12 +56,20 @@ pub fn plan(input: &[u8], out: &mut [u8]) -> usize
     let mut at: usize = 0;
     let mut from: usize = 0;
     while from < input.len() {
-        let end = line::line_end(input, from);
-        let decided = decide(state, &input[from..end]);
-        let reply = decided.reply;
-        at = write_reply(out, at, reply);
-        state = decided.state;
-        from = end;
+        if input[from] == LINE_FEED {
+            let feeds = line::write_feeds(input, from, out, at, state.line);
+            let lines = feeds.lines;
+            at = feeds.at;
+            state = passed(state, lines);
+            from = from + lines;
+        } else {
+            let end = line::line_end(input, from);
+            let decided = decide(state, &input[from..end]);
+            let reply = decided.reply;
+            at = write_reply(out, at, reply);
+            state = decided.state;
+            from = end;
+        }
     }
     at
 }

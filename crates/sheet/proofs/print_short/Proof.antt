@@ -10,4 +10,4 @@ answer-requires : tie.Need-answer-requires
 answer-requires c κs = let s = c.before.before.before in omega (arith, short-fits (length s.args.text.now) s.requires)
 
 pub print-short-spec : {M : Type 1} → statement M
-print-short-spec = tie.close (tie.spec (λ c κs. search rules) (λ c. search rules) answer-requires (λ c κs. search rules) (λ c κs. search rules) (λ c. search rules) (λ c. search rules))
+print-short-spec = tie.close (tie.spec (λ c κs. search rules) (λ c. search rules) answer-requires (λ c κs. search rules) (λ c. search rules))

@@ -8,7 +8,7 @@ ghost use Rattle.line.specs.Readers.{read_step};
 ghost use Rattle.line.specs.declared.StepLine.TheVariants as step_line;
 ghost use Rattle.sheet_rules.specs.declared.Reply.TheVariants as replies;
 ghost use Rattle.sheet_rules.specs.Sheet.{Sheet, reply_of, next_of};
-ghost use Rattle.sheet_rules.specs.State.{Holds, Stands, Gave};
+ghost use Rattle.sheet_rules.specs.State.{Holds, Gave};
 ghost use Rattle.sheet_rules.specs.OneLine.{sheet_at, counted, chain_with, sound_standing, steps_after, PreparesChain, answered_to, line_answered};
 
 use crate::decide::{begins_with, decide, malformed};
@@ -20,7 +20,7 @@ use line::StepLine;
 const MOST_LINES: u64 = 1000000;
 
 // Prepares a chain from no numbers, step by step, and answers whether it is good.
-pub(crate) fn prepare(chain: Chain, numbers: &mut Prepared) -> bool
+fn prepare(chain: Chain, numbers: &mut Prepared) -> bool
     requires { numbers.old ≡ replicate 72 (pos 0) }
     ensures { PreparesChain chain numbers.new result }
 {
@@ -95,15 +95,15 @@ fn chain_after(chain: Chain, reply: Reply, text: &[u8]) -> Chain
 }
 
 // Any piece, the empty one too.
-fn decide_any(state: State, kept: &mut [i64], numbers: &mut Prepared, text: &[u8]) -> Decided
-    requires { (state.line ≤ 1000000) × (length kept.old ≡ 111) × Stands state numbers.old }
+fn decide_any(state: State, numbers: &mut Prepared, text: &[u8]) -> Decided
+    requires { state.line ≤ 1000000 }
     ensures { (s : Sheet) → Holds state numbers.old s → Gave (reply_of s text.now) (next_of s text.now) numbers.new result }
 {
     if text.len() == 0 {
         let fault = line::strange(text);
         return malformed(state, fault, state.refused, state.closed);
     }
-    decide(state, kept, numbers, text)
+    decide(state, numbers, text)
 }
 
 // A line within the limit.
@@ -115,13 +115,10 @@ fn answer_within(standing: Standing, numbers: &mut Prepared, text: &[u8]) -> Ans
     let state = State {
         line: standing.line,
         profile: before.profile,
-        steps: before.length,
         refused: standing.refused,
         closed: standing.closed,
     };
-    // Who keeps a standing by value keeps no numbers.
-    let mut kept = crate::decide::engine::fresh();
-    let decided = decide_any(state, &mut kept, numbers, text);
+    let decided = decide_any(state, numbers, text);
     let reply = decided.reply;
     let next = decided.state;
     let chain = chain_after(before, reply, text);

@@ -5,8 +5,7 @@ use Prim.Native.Nat.{ℕ}
 use lib.Dec.{leb, ltb}
 use Rattle.rounding.proofs.Machine.{told}
 use Rattle.chain.specs.Numbers.{number}
-use Rattle.sheet_rules.specs.Engine.{flag}
-use Rattle.capi.specs.Fragments.{point_time}
+use Rattle.capi.specs.Fragments.{flag, point_time}
 use borrow.Author.Rules.{rules}
 use Rattle.capi.proofs.point_line.can_come.Statement.{statement}
 use Rattle.capi.proofs.point_line.can_come.Tie as tie

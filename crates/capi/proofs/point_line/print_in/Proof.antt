@@ -7,7 +7,7 @@ use native.Mathlib.Omega.{arith}
 use Rattle.rounding.proofs.Machine.{told}
 use Rattle.chain.specs.Numbers.{number}
 use Rattle.sheet_rules.proofs.Points.{printed-size}
-use Rattle.sheet_rules.specs.Engine.{flag}
+use Rattle.capi.specs.Fragments.{flag}
 use Rattle.capi.proofs.Streams.{chain-read}
 use Rattle.capi.proofs.PointCalls.{asked-so}
 use borrow.Author.Rules.{rules}

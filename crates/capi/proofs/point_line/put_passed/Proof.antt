@@ -9,7 +9,7 @@ use mir.Syntax.{w64}
 use mir.ValLaws.{to_z_pos}
 use Rattle.rounding.proofs.Machine.{told}
 use Rattle.chain.specs.Numbers.{number}
-use Rattle.sheet_rules.specs.Engine.{flag, bit}
+use Rattle.capi.specs.Fragments.{flag, bit}
 use Rattle.capi.proofs.PointCalls.{passed-head}
 use borrow.Author.Rules.{rules}
 use Rattle.capi.proofs.point_line.put_passed.Statement.{statement}

@@ -4,8 +4,7 @@ use mathlib.Core.Bool.{◌&&◌}
 use lib.IntN.{ℤ, pos}
 use Rattle.rounding.proofs.Machine.{told}
 use Rattle.ranges.specs.Ranges.{within}
-use Rattle.sheet_rules.specs.Engine.{is_flag}
-use Rattle.capi.specs.Fragments.{state_range}
+use Rattle.capi.specs.Fragments.{is_flag, state_range}
 use borrow.Author.Rules.{rules}
 use Rattle.capi.proofs.state.in_range.Statement.{statement}
 use Rattle.capi.proofs.state.in_range.Tie as tie

@@ -5,7 +5,7 @@ use Prim.Native.Nat.{ℕ, ◌+◌}
 use native.Mathlib.Omega.{arith}
 use Rattle.rounding.proofs.Machine.{told}
 use Rattle.chain.specs.Numbers.{number}
-use Rattle.sheet_rules.specs.Engine.{flag}
+use Rattle.capi.specs.Fragments.{flag}
 use Rattle.capi.proofs.Streams.{sound-in, chain-read}
 use borrow.Author.Rules.{rules}
 use Rattle.capi.proofs.state.is_answered.Statement.{statement}

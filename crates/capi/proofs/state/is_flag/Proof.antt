@@ -1,7 +1,7 @@
 -- `capi::state::is_flag` meets its contract. Assumes nothing.
 use mathlib.Core.Path.{◌∙◌, ap}
 use Rattle.rounding.proofs.Machine.{rd}
-use Rattle.sheet_rules.specs.Engine.{is_flag}
+use Rattle.capi.specs.Fragments.{is_flag}
 use borrow.Author.Rules.{rules}
 use Rattle.capi.proofs.state.is_flag.Statement.{statement}
 use Rattle.capi.proofs.state.is_flag.Tie as tie

@@ -4,7 +4,7 @@ use native.Mathlib.Omega.{arith}
 use lib.IntN.{nat_abs}
 use Rattle.rounding.proofs.Machine.{told}
 use Rattle.chain.specs.Numbers.{number}
-use Rattle.sheet_rules.specs.Engine.{flag}
+use Rattle.capi.specs.Fragments.{flag}
 use Rattle.capi.proofs.Streams.{counts, a-count, size_of, standing-parts, from_parts}
 use borrow.Author.Rules.{rules}
 use Rattle.capi.proofs.state.stream_from.Statement.{statement}

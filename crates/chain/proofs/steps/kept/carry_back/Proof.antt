@@ -49,8 +49,8 @@ module _ (c : tie.After-row-at invariant-loop decreases-loop) where
   is : (reverse (rows_of l 1 i)) ≡ row_at l i ∷ after
   is = let t = c.before.loop-test.true in rows-down l i t
 
-  good : (b : Bool) → c.row-at.result.good ≡ b → (row_at l i).good ≡ b
-  good b e = ap (λ (r : Row). r.good) (sym c.row-at.ensures) ∙ e
+  good : (b : Bool) → c.row_at.result.good ≡ b → (row_at l i).good ≡ b
+  good b e = ap (λ (r : Row). r.good) (sym c.row_at.ensures) ∙ e
 
   whole : carried inverse_by s.args.point s.args.end (reverse (rows_of l 1 i)) q ≡ carried inverse_by s.args.point s.args.end (reverse (rows_of l 1 s.args.length)) s.args.point.position
   whole = c.before.before.loop.invariant.2
@@ -63,7 +63,7 @@ returns c =
 inverse-ready-requires : tie.Need-inverse-ready-requires invariant-loop decreases-loop
 inverse-ready-requires c κs =
     let a = c.before.before in
-    (subst⁻¹ (λ (r : Row). ReadyOk r.ready) a.row-at.ensures (row_ok (l a) (i a) (good a true (not-false _ c.if1.false))), area_small (q a) a.before.before.loop.invariant.1)
+    (subst⁻¹ (λ (r : Row). ReadyOk r.ready) a.row_at.ensures (row_ok (l a) (i a) (good a true (not-false _ c.if1.false))), area_small (q a) a.before.before.loop.invariant.1)
 
 in-area-requires : tie.Need-in-area-requires invariant-loop decreases-loop
 in-area-requires c κs = tt
@@ -80,7 +80,7 @@ module _ (c : tie.After-in-area invariant-loop decreases-loop) where
   sound = good a true (not-false _ c.before.before.if1.false)
 
   is-next : c.before.inverse-ready.result ≡ next
-  is-next = c.before.inverse-ready.ensures ∙ ap (λ (r : Row). inverse_by (ready_parts r.ready) (q a)) a.row-at.ensures
+  is-next = c.before.inverse-ready.ensures ∙ ap (λ (r : Row). inverse_by (ready_parts r.ready) (q a)) a.row_at.ensures
 
   area : (b : Bool) → c.in-area.result ≡ b → in_area next ≡ b
   area b e = ap in_area (sym is-next) ∙ sym c.in-area.ensures ∙ e

@@ -1,8 +1,5 @@
 -- `sheet_rules::decide::standing::answer_within` meets its contract. Assumes nothing.
 use mathlib.Core.Path.{◌≡◌, refl, sym, ◌∙◌}
-use Prim.Native.Nat.{◌≤◌}
-use native.Mathlib.Omega.{arith}
-use lib.ListN.{length, length-map}
 use mir.Syntax.{w64}
 use mir.Val.{to_z, of_z}
 use Rattle.sheet_rules.specs.OneLine.{sheet_at}
@@ -11,31 +8,20 @@ use borrow.Author.Rules.{rules}
 use Rattle.sheet_rules.proofs.decide.standing.answer_within.Statement.{statement}
 use Rattle.sheet_rules.proofs.decide.standing.answer_within.Tie as tie
 
--- an array's length is what owning the struct tells
-long : (s : tie.Start) → s.args.standing.chain.length ≤ length s.args.standing.chain.steps
-long s = let e = sym (length-map s.args.standing.chain.steps _) ∙ s.well-formed.0.1.1.1.0.1.1.0.1.0.1 in omega (arith, e, s.requires.1)
-
-decide-any-requires : tie.Need-decide-any-requires
-decide-any-requires c κs =
-    let s = c.before.before.before.before.before.before in
-    let y : to_z w64 (of_z w64 s.args.standing.chain.profile) ≡ s.args.standing.chain.profile = search rules in
-    (s.requires.0, search rules, record { sheet = sheet_at s.args.standing; holds = rw y (held s.args.standing _ (long s) s.requires.2 s.requires.3) })
-
 chain-after-requires : tie.Need-chain-after-requires
 chain-after-requires c κs =
-    let s = c.before.before.before.before.before.before.before.before.before in
+    let s = c.before.before.before.before.before.before in
     let y : to_z w64 (of_z w64 s.args.standing.chain.profile) ≡ s.args.standing.chain.profile = search rules in
-    let g = c.before.before.decide-any.ensures (sheet_at s.args.standing) (rw y (held s.args.standing _ (long s) s.requires.2 s.requires.3)) in
+    let g = c.before.decide-any.ensures (sheet_at s.args.standing) (rw y (held s.args.standing _ s.requires.2 s.requires.3)) in
     (s.requires.1, λ t b e f. accepted-few (sheet_at s.args.standing) s.args.text.now t b (sym g.reply ∙ e) f)
 
 returns : tie.Need-returns
 returns c =
-    let s = c.before.before.before.before.before.before.before.before.before.before.before.before in
+    let s = c.before.before.before.before.before.before.before.before.before in
     let y : to_z w64 (of_z w64 s.args.standing.chain.profile) ≡ s.args.standing.chain.profile = search rules in
-    let g = c.before.before.before.before.before.decide-any.ensures (sheet_at s.args.standing) (rw y (held s.args.standing _ (long s) s.requires.2 s.requires.3)) in
-    let e : to_z w64 (of_z w64 c.before.before.before.before.before.decide-any.result.state.profile) ≡ c.before.before.before.before.before.decide-any.result.state.profile = search rules in
-    within-answered s.args.standing s.args.text.now s.requires.0 _ _ _ _ _ g.holds.line
-    (rw e (chain_by s.args.standing s.args.text.now _ _ _ g.reply g.holds.profile c.before.before.chain-after.ensures)) g.holds.refused g.holds.closed g.reply
+    let g = c.before.before.before.before.decide-any.ensures (sheet_at s.args.standing) (rw y (held s.args.standing _ s.requires.2 s.requires.3)) in
+    let e : to_z w64 (of_z w64 c.before.before.before.before.decide-any.result.state.profile) ≡ c.before.before.before.before.decide-any.result.state.profile = search rules in
+    within-answered s.args.standing s.args.text.now s.requires.0 _ _ _ _ _ g.holds.line (rw e (chain_by s.args.standing s.args.text.now _ _ _ g.reply g.holds.profile c.before.before.chain-after.ensures)) g.holds.refused g.holds.closed g.reply
 
 pub answer-within-spec : {M : Type 1} → statement M
-answer-within-spec = tie.close (tie.spec (search rules) (search rules) decide-any-requires chain-after-requires returns)
+answer-within-spec = tie.close (tie.spec (search rules) chain-after-requires returns)

@@ -20,11 +20,5 @@ returns c = λ s h.
     let r = ne_eqb (get_or t 0 0) letter_e (λ e. omega (arith, z, e)) in
     rw (p, q, r) (gave-malformed h _ _ _ _ h.refused h.closed c.before.strange.ensures _ c.malformed.ensures)
 
-decide-requires : tie.Need-decide-requires
-decide-requires c κs = let p = c.before.before.before.before.requires in (p.0, omega (arith, c.before.before.if1.false), p.1, p.2)
-
-returns-2 : tie.Need-returns-2
-returns-2 c = λ s h. (c.before.decide.ensures s h).0
-
 pub decide-any-spec : {M : Type 1} → statement M
-decide-any-spec = tie.close (tie.spec (search rules) (search rules) returns decide-requires (search rules) returns-2)
+decide-any-spec = tie.close (tie.spec (search rules) (search rules) returns (search rules) (λ c. search rules))

@@ -1,4 +1,0 @@
-/* The command: everything it does is in crate command. */
-int swivelcrane_command(void);
-
-int main(void) { return swivelcrane_command(); }

@@ -1,4 +1,0 @@
-pub mod Laws
-pub mod Statuses
-pub mod LineFeeds
-pub mod SheetRuns

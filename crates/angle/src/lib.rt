@@ -1,5 +1,7 @@
 // Angles to metres in f64, and back: geodetic to Cartesian, Cartesian to geodetic, and Cassini-Soldner. Latitudes and longitudes are whole units of 0.00001",
 // heights whole units of 0.00001 m, false eastings and northings whole millimetres. Every call answers for every input.
+#![tactic(auto)]
+
 mod ellipsoids;
 mod faults;
 mod from_xyz;
@@ -15,7 +17,7 @@ pub use projection::{cassini, cassini_millimetres, cassini_millimetres_from, mak
 pub use units::radians;
 
 // An ellipsoid: the semi-major axis in metres, the flattening, and the first eccentricity squared.
-#[derive(Drop)]
+#[derive(Clone, Copy)]
 pub struct Ellipsoid {
     pub a: f64,
     pub f: f64,
@@ -23,14 +25,14 @@ pub struct Ellipsoid {
 }
 
 // A row of the table of ellipsoids: the semi-major axis in metres, and 1/f.
-#[derive(Drop)]
+#[derive(Clone, Copy)]
 struct Figure {
     a: f64,
     inverse_flattening: f64,
 }
 
 // What an ellipsoid's e2 alone decides: the four factors of the meridian's length, and the second eccentricity squared.
-#[derive(Drop)]
+#[derive(Clone, Copy)]
 struct Terms {
     m0: f64,
     m2: f64,
@@ -40,7 +42,7 @@ struct Terms {
 }
 
 // What a latitude alone decides: itself in radians, its sine and cosine, and the radius of curvature in the prime vertical there, in metres.
-#[derive(Drop)]
+#[derive(Clone, Copy)]
 struct Parallel {
     phi: f64,
     sine: f64,
@@ -49,7 +51,7 @@ struct Parallel {
 }
 
 // A state origin as it is written: the ellipsoid's code (1 to 4), its latitude and longitude, its false easting and northing.
-#[derive(Drop)]
+#[derive(Clone, Copy)]
 pub struct OriginNumbers {
     pub ellipsoid: i64,
     pub latitude: i64,
@@ -60,7 +62,7 @@ pub struct OriginNumbers {
 
 // A state origin made ready for many points: the longitude stays whole; m0 is the meridian's length to its latitude, and the false
 // easting and northing are in metres.
-#[derive(Drop)]
+#[derive(Clone, Copy)]
 pub struct Origin {
     pub ellipsoid: Ellipsoid,
     pub longitude: i64,
@@ -70,28 +72,28 @@ pub struct Origin {
 }
 
 // An origin, or the refusal number.
-#[derive(Drop)]
+#[derive(Clone, Copy)]
 pub enum OriginAnswer {
     Made(Origin),
     Refused(u8),
 }
 
 // X, Y and Z in metres, or the refusal number.
-#[derive(Drop)]
+#[derive(Clone, Copy)]
 pub enum Cartesian {
     Metres(f64, f64, f64),
     Refused(u8),
 }
 
 // X, Y and Z in whole units of 0.00001 m, or the refusal number.
-#[derive(Drop)]
+#[derive(Clone, Copy)]
 pub enum CartesianUnits {
     Units(i64, i64, i64),
     Refused(u8),
 }
 
 // What the formulas from X, Y and Z give: latitude in seconds, longitude in seconds past 90 degrees, height in metres.
-#[derive(Drop)]
+#[derive(Clone, Copy)]
 struct Found {
     latitude: f64,
     longitude: f64,
@@ -99,21 +101,21 @@ struct Found {
 }
 
 // Latitude and longitude in whole units of 0.00001" and height in whole units of 0.00001 m, or the refusal number.
-#[derive(Drop)]
+#[derive(Clone, Copy)]
 pub enum GeodeticUnits {
     Units(i64, i64, i64),
     Refused(u8),
 }
 
 // Easting and northing in metres, or the refusal number.
-#[derive(Drop)]
+#[derive(Clone, Copy)]
 pub enum Projected {
     Metres(f64, f64),
     Refused(u8),
 }
 
 // Easting and northing in whole millimetres, or the refusal number.
-#[derive(Drop)]
+#[derive(Clone, Copy)]
 pub enum ProjectedMillimetres {
     Millimetres(i64, i64),
     Refused(u8),

@@ -1,5 +1,7 @@
 // Document 000's worked examples, run: the printed point on GRS80 in Cartesian coordinates, and the two Cassini examples from the
 // origin of Kedah and Perlis. Each line says what document 000 prints, and whether the libraries answer it.
+#![tactic(auto)]
+
 use angle::{CartesianUnits, OriginNumbers, Projected, ProjectedMillimetres};
 use libc::STDOUT_FILENO;
 use rounding::Rounded;

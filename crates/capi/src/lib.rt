@@ -1,5 +1,7 @@
 // Swivelcrane for C: the libraries' functions on numbers and slices. include/swivelcrane.h tells each call's units, lengths and answers.
 // Every call answers every input: 0 with its results written, or a refusal number, or WRONG_LENGTH, with nothing written.
+#![tactic(auto)]
+
 pub mod conversion;
 pub mod fragments;
 pub mod from_xyz;

@@ -6,7 +6,7 @@ use lib.IntN.{ℤ, pos, neg_ℤ, nat_abs, ◌+ℤ◌, ◌-ℤ◌, ◌*ℤ◌}
 use Rattle.rounding.specs.Nearest.{to_even, rounded}
 use Rattle.rounding.specs.Quotient.{mixed}
 use Rattle.rounding.proofs.Zn.{v, k, ◌⊕◌, ◌⊗◌, eq}
-use Rattle.rounding.proofs.Rounded.{rounded-apart, rounded-size, rounded-opposite, rounded-whole, even-symmetric}
+use Rattle.rounding.proofs.Roundings.{rounded-apart, rounded-size, rounded-opposite, rounded-whole, even-symmetric}
 use Rattle.chain.specs.Parts.{step_round}
 
 -- two values that lie less than L + 1 apart are rounded to numbers at most L + 1 apart

@@ -1,4 +1,5 @@
 // Datum steps on Cartesian positions, forward and inverse, and chains of up to eight of them.
+#![tactic(auto)]
 
 mod checks;
 mod faults;
@@ -21,7 +22,7 @@ pub use crate::steps::convert::{forward, inverse};
 pub use crate::steps::kept::{arrive_prepared, extend, forward_prepared, inverse_prepared};
 
 // Geocentric coordinates in whole units of 0.00001 m.
-#[derive(Drop)]
+#[derive(Clone, Copy)]
 pub struct Position {
     pub x: i64,
     pub y: i64,
@@ -29,21 +30,21 @@ pub struct Position {
 }
 
 // A datum (1 to 10) at an epoch, in thousandths of a year (0: none).
-#[derive(Drop)]
+#[derive(Clone, Copy)]
 pub struct Realization {
     pub datum: i64,
     pub epoch: i64,
 }
 
 // A point's name: up to 16 bytes, eight to a word, the first byte highest, zeros after the last. It is never examined here.
-#[derive(Drop)]
+#[derive(Clone, Copy)]
 pub struct Id {
     pub high: u64,
     pub low: u64,
 }
 
 // What a point is labelled with: its name, the issue of its coordinates (1 to 65,535), and its order of control (1 to 4). A conversion hands it on as it is.
-#[derive(Drop)]
+#[derive(Clone, Copy)]
 pub struct Label {
     pub id: Id,
     pub issue: i64,
@@ -51,7 +52,7 @@ pub struct Label {
 }
 
 // A control point.
-#[derive(Drop)]
+#[derive(Clone, Copy)]
 pub struct Point {
     pub label: Label,
     pub realization: Realization,
@@ -59,7 +60,7 @@ pub struct Point {
 }
 
 // T: a shift, in units.
-#[derive(Drop)]
+#[derive(Clone, Copy)]
 pub struct Shift {
     pub dx: i64,
     pub dy: i64,
@@ -67,7 +68,7 @@ pub struct Shift {
 }
 
 // V: a velocity, in units a year.
-#[derive(Drop)]
+#[derive(Clone, Copy)]
 pub struct Velocity {
     pub vx: i64,
     pub vy: i64,
@@ -75,14 +76,14 @@ pub struct Velocity {
 }
 
 // How the rotations of a Bursa-Wolf step turn: P, and C with all three signs changed.
-#[derive(Drop)]
+#[derive(Clone, Copy)]
 pub enum Convention {
     PositionVector,
     CoordinateFrame,
 }
 
 // B: shifts in units, rotations in 0.00001", scale in 10^-11.
-#[derive(Drop)]
+#[derive(Clone, Copy)]
 pub struct BursaWolf {
     pub convention: Convention,
     pub dx: i64,
@@ -95,7 +96,7 @@ pub struct BursaWolf {
 }
 
 // A kind of step carries just its own numbers. Frame is F: to ITRF2014, its figures are those of the datum before.
-#[derive(Drop)]
+#[derive(Clone, Copy)]
 pub enum Kind {
     Shift(Shift),
     Velocity(Velocity),
@@ -104,7 +105,7 @@ pub enum Kind {
 }
 
 // A step, with its datum and epoch before and after.
-#[derive(Drop)]
+#[derive(Clone, Copy)]
 pub struct Step {
     pub kind: Kind,
     pub before: Realization,
@@ -116,7 +117,7 @@ pub const LATEST: i64 = 2021;
 
 // A chain: the first `length` of its eight steps, under a profile, which is the edition of the circular that the job names: 2009 or 2021. That of 2009 has
 // datums 1 to 5 and 7, and of the steps T and B alone.
-#[derive(Drop)]
+#[derive(Clone, Copy)]
 pub struct Chain {
     pub steps: [Step; 8],
     pub length: usize,
@@ -128,7 +129,7 @@ pub struct Chain {
 pub type Prepared = [i64; 72];
 
 // A chain made ready for many points: its own refusal number, 0 for a good one; the profile that its points are examined under; and its steps prepared.
-#[derive(Drop)]
+#[derive(Clone, Copy)]
 pub struct ReadyChain {
     pub refusal: u8,
     pub profile: i64,
@@ -136,7 +137,7 @@ pub struct ReadyChain {
 }
 
 // Where a chain leads a point, its label apart: the refusal number, 0 for none, and the realization and position there; where it is refused, those that it had.
-#[derive(Drop)]
+#[derive(Clone, Copy)]
 pub struct Arrival {
     pub refusal: u8,
     pub realization: Realization,
@@ -144,21 +145,21 @@ pub struct Arrival {
 }
 
 // What a conversion answers: the point, or the refusal number.
-#[derive(Drop)]
+#[derive(Clone, Copy)]
 pub enum Answer {
     Converted(Point),
     Refused(u8),
 }
 
 // What joining two chains answers: the joined chain, and refusal number 0; or a chain of no steps, and the number.
-#[derive(Drop)]
+#[derive(Clone, Copy)]
 pub struct Joined {
     pub chain: Chain,
     pub refusal: u8,
 }
 
 // Which way a row of points goes by a chain: to its end, or back to its start.
-#[derive(Drop)]
+#[derive(Clone, Copy)]
 pub enum Direction {
     Forward,
     Inverse,

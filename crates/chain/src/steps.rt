@@ -14,7 +14,7 @@ pub mod kept;
 mod lifted;
 
 // Bursa-Wolf: shifts in units, rotations in 10^-11 radian by convention P, scale in 10^-11.
-#[derive(Drop)]
+#[derive(Clone, Copy)]
 pub struct Turn {
     pub dx: i64,
     pub dy: i64,
@@ -26,7 +26,7 @@ pub struct Turn {
 }
 
 // A frame: each axis gains (k + slope·coordinate)/10^14.
-#[derive(Drop)]
+#[derive(Clone, Copy)]
 pub struct Scale {
     pub kx: i64,
     pub ky: i64,
@@ -35,7 +35,7 @@ pub struct Scale {
 }
 
 // A shift or a velocity gains the same everywhere.
-#[derive(Drop)]
+#[derive(Clone, Copy)]
 pub enum Ready {
     Fixed(Position),
     Turned(Turn),

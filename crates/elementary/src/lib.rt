@@ -1,5 +1,7 @@
 // Functions of f64, each in a written order of operations (docs/ORDERS.md). Every call answers for every f64: outside the arguments that a function names it loses
 // accuracy, and nothing else.
+#![tactic(auto)]
+
 mod half;
 mod heron;
 mod hyperbolic;

@@ -1,17 +1,19 @@
 // Standard input, read to its end.
+#![tactic(auto)]
+
 ghost use Rattle.std.specs.Prelude.{◌≡◌, ◌≤◌, length};
 ghost use Rattle.input.specs.Input.{after_read, Follows, Reads};
 
 // Whole: this many bytes stand at the start of the buffer, and the input ended there or the buffer is full. Failed: a read failed, and what
 // was read before it is no input.
-#[derive(Drop)]
+#[derive(Clone, Copy)]
 pub enum Input {
     Whole(usize),
     Failed,
 }
 
 // What follows from a read: go on with this many bytes held, or the answer.
-#[derive(Drop)]
+#[derive(Clone, Copy)]
 enum Next {
     On(usize),
     Whole(usize),

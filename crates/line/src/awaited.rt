@@ -10,7 +10,7 @@ pub const GRID: u8 = b'g';
 pub const NODE: u8 = b'-';
 
 // This one letter; the kind of a step; the convention of a Bursa-Wolf step; an id; a number; or no field at all.
-#[derive(Drop)]
+#[derive(Clone, Copy)]
 pub enum Awaited {
     Letter(u8),
     Kind,

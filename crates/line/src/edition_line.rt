@@ -10,7 +10,7 @@ use crate::number::number;
 use crate::second_look::fault_of;
 
 // An edition's year, up to the cap, and where the field after it would begin.
-#[derive(Drop)]
+#[derive(Clone, Copy)]
 struct EditionFields {
     year: i64,
     next: usize,

@@ -10,7 +10,7 @@ pub const TAB: u8 = 9;
 pub const LINE_FEED: u8 = 10;
 
 // A field of one byte.
-#[derive(Drop)]
+#[derive(Clone, Copy)]
 pub struct ByteField {
     pub byte: u8,
     pub next: usize,

@@ -12,7 +12,7 @@ use crate::second_look::fault_of;
 use crate::{Geodetic, GeodeticLine};
 
 // A position as its fields say it, with numbers up to the cap, and where the field after them would begin.
-#[derive(Drop)]
+#[derive(Clone, Copy)]
 struct GeodeticFields {
     geodetic: Geodetic,
     next: usize,

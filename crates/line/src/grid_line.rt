@@ -11,7 +11,7 @@ use crate::second_look::fault_of;
 use crate::{GridHeader, GridLine};
 
 // A header as its fields say it, with numbers up to the cap, and where the field after them would begin.
-#[derive(Drop)]
+#[derive(Clone, Copy)]
 struct HeaderFields {
     header: GridHeader,
     next: usize,

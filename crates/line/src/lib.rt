@@ -2,6 +2,8 @@
 //
 // A line is at most 200 bytes with the line feed at its end; its fields are parted by one tab. Every function here takes any bytes
 // of any length. What is refused is refused for its form first, whatever its numbers are.
+#![tactic(auto)]
+
 mod awaited;
 mod compare;
 mod edition_line;
@@ -36,14 +38,14 @@ pub use write::{write_moved, write_point, write_projected, write_refusal};
 
 // What is wrong with the form of a line: a number of the refusal table, and the byte in the line, from 0, where the first offending field begins. For LENGTH and
 // COUNT the place is the line's length without its line feed, at most 200.
-#[derive(Drop)]
+#[derive(Clone, Copy)]
 pub struct Fault {
     pub number: u8,
     pub place: u8,
 }
 
 // Bare line feeds that were answered: how many, and the place past what was written for them.
-#[derive(Drop)]
+#[derive(Clone, Copy)]
 pub struct Feeds {
     pub lines: usize,
     pub at: usize,
@@ -53,7 +55,7 @@ pub struct Feeds {
 // good and what the fields say is not.
 
 // P: a control point.
-#[derive(Drop)]
+#[derive(Clone, Copy)]
 pub enum PointLine {
     Point(chain::Point),
     Malformed(Fault),
@@ -62,7 +64,7 @@ pub enum PointLine {
 
 // P: the line of an input that begins at some place, as a point line; the place in the line where the datum begins, 0 where the line is malformed: what stands before it
 // is the point's label, as it is written; and the place in the input where the line ends.
-#[derive(Drop)]
+#[derive(Clone, Copy)]
 pub struct PlacedLine {
     pub line: PointLine,
     pub place: usize,
@@ -70,7 +72,7 @@ pub struct PlacedLine {
 }
 
 // S: a step of a chain.
-#[derive(Drop)]
+#[derive(Clone, Copy)]
 pub enum StepLine {
     Step(chain::Step),
     Malformed(Fault),
@@ -78,7 +80,7 @@ pub enum StepLine {
 }
 
 // O: a state origin, by its whole numbers.
-#[derive(Drop)]
+#[derive(Clone, Copy)]
 pub enum OriginLine {
     Origin(angle::OriginNumbers),
     Malformed(Fault),
@@ -86,14 +88,14 @@ pub enum OriginLine {
 }
 
 // G: a named position, latitude and longitude in 0.00001".
-#[derive(Drop)]
+#[derive(Clone, Copy)]
 pub struct Geodetic {
     pub id: chain::Id,
     pub latitude: i64,
     pub longitude: i64,
 }
 
-#[derive(Drop)]
+#[derive(Clone, Copy)]
 pub enum GeodeticLine {
     Geodetic(Geodetic),
     Malformed(Fault),
@@ -102,14 +104,14 @@ pub enum GeodeticLine {
 
 // E: the edition of the circular that a job is under, by its year. The year is not examined: that is for whoever knows where the line may stand. It is carried up
 // to 10^13 in size, and a larger one as 10^13.
-#[derive(Drop)]
+#[derive(Clone, Copy)]
 pub enum EditionLine {
     Edition(i64),
     Malformed(Fault),
 }
 
 // G, of a velocity grid: the latitude and longitude of its south-west corner in 0.00001", rows, columns, and the mesh in minutes.
-#[derive(Drop)]
+#[derive(Clone, Copy)]
 pub struct GridHeader {
     pub latitude: i64,
     pub longitude: i64,
@@ -119,14 +121,14 @@ pub struct GridHeader {
 }
 
 // The numbers are not examined, and are carried up to 10^13 in size, a larger one as 10^13: their ranges are for the grid.
-#[derive(Drop)]
+#[derive(Clone, Copy)]
 pub enum GridLine {
     Header(GridHeader),
     Malformed(Fault),
 }
 
 // East, north and up, in hundredths of a millimetre a year.
-#[derive(Drop)]
+#[derive(Clone, Copy)]
 pub struct VelocityParts {
     pub east: i64,
     pub north: i64,
@@ -134,7 +136,7 @@ pub struct VelocityParts {
 }
 
 // A node of a velocity grid: its parts, carried likewise, or no value.
-#[derive(Drop)]
+#[derive(Clone, Copy)]
 pub enum NodeLine {
     Parts(VelocityParts),
     NoValue,
@@ -143,7 +145,7 @@ pub enum NodeLine {
 
 // Why neither of two point lines is the later one: a number of the refusal table; the line it is given for, 1 or 2, or 0 where neither alone is at fault; and the
 // place in that line, 0 but for a line of bad form. All three are 0 where nothing is refused.
-#[derive(Drop)]
+#[derive(Clone, Copy)]
 pub struct LaterFault {
     pub number: u8,
     pub line: u8,
@@ -151,7 +153,7 @@ pub struct LaterFault {
 }
 
 // Which of two point lines is the later one, or why neither is.
-#[derive(Drop)]
+#[derive(Clone, Copy)]
 pub enum Verdict {
     First,
     Second,
@@ -159,7 +161,7 @@ pub enum Verdict {
 }
 
 // The later of two point lines: that part of the caller's bytes, and no fault; or an empty part of the first and the fault.
-#[derive(Drop)]
+#[derive(Clone, Copy)]
 pub struct Later<'a> {
     pub part: &'a [u8],
     pub fault: LaterFault,

@@ -9,14 +9,14 @@ use crate::field::{closed, nowhere};
 const NAME_BYTES: u64 = 287984085681307646;
 
 // A name, and where the next field begins.
-#[derive(Drop)]
+#[derive(Clone, Copy)]
 pub struct Named {
     pub id: chain::Id,
     pub next: usize,
 }
 
 // Up to eight bytes of a name, the first highest, and the place past them.
-#[derive(Drop)]
+#[derive(Clone, Copy)]
 struct Word {
     value: u64,
     end: usize,

@@ -11,7 +11,7 @@ use crate::second_look::fault_of;
 use crate::{NodeLine, VelocityParts};
 
 // A node's parts as its fields say them, with numbers up to the cap, and where the field after them would begin.
-#[derive(Drop)]
+#[derive(Clone, Copy)]
 struct NodeFields {
     parts: VelocityParts,
     next: usize,

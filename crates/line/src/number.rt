@@ -21,14 +21,14 @@ const ZERO: u8 = 48;
 const NINE: u8 = 57;
 
 // A number with its sign, and where the next field begins.
-#[derive(Drop)]
+#[derive(Clone, Copy)]
 pub struct Integer {
     pub value: i64,
     pub next: usize,
 }
 
 // A number without a sign.
-#[derive(Drop)]
+#[derive(Clone, Copy)]
 struct Natural {
     value: u64,
     next: usize,

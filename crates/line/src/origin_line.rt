@@ -11,7 +11,7 @@ use crate::number::number;
 use crate::second_look::fault_of;
 
 // An origin as its fields say it, with numbers up to the cap, and where the field after them would begin.
-#[derive(Drop)]
+#[derive(Clone, Copy)]
 struct OriginFields {
     origin: angle::OriginNumbers,
     next: usize,

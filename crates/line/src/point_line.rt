@@ -20,7 +20,7 @@ use crate::{PlacedLine, PointLine};
 const LONGEST: usize = 200;
 
 // A point as its fields say it, with numbers up to the cap, where its datum begins, and where the field after them would begin.
-#[derive(Drop)]
+#[derive(Clone, Copy)]
 struct PointFields {
     point: chain::Point,
     place: usize,
@@ -28,14 +28,14 @@ struct PointFields {
 }
 
 // A number, and whether a line ends with it: the place where a next field would begin is then where the line ends.
-#[derive(Drop)]
+#[derive(Clone, Copy)]
 struct LastField {
     good: bool,
     number: Integer,
 }
 
 // The first line of some bytes, where it says a point: its fields, where the datum begins, and where the line ends.
-#[derive(Drop)]
+#[derive(Clone, Copy)]
 struct FirstLine {
     good: bool,
     point: chain::Point,

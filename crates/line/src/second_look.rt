@@ -17,7 +17,7 @@ use crate::step_line::{convention_letter, kind_letter};
 mod letters;
 
 // Where the first field begins that is wrong as an id, and as a number; past the end where there is none.
-#[derive(Drop)]
+#[derive(Clone, Copy)]
 struct Seen {
     id: usize,
     plain: usize,

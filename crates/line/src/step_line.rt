@@ -13,14 +13,14 @@ use crate::number::number;
 use crate::second_look::{fault_of, is_counted};
 
 // A kind of step as its fields say it, with numbers up to the cap, and where the field after them would begin.
-#[derive(Drop)]
+#[derive(Clone, Copy)]
 struct KindFields {
     kind: chain::Kind,
     next: usize,
 }
 
 // The same of a whole step.
-#[derive(Drop)]
+#[derive(Clone, Copy)]
 struct StepFields {
     step: chain::Step,
     next: usize,

@@ -1,5 +1,7 @@
 // Readers of lines over a table of good and damaged lines, each with its expected answer: the file stdout beside this folder, worked out by
 // hand from document 01. An accepted line prints what was read of it, a refused one its number.
+#![tactic(auto)]
+
 mod show;
 
 use crate::show::{edition, geodetic, later, origin, point, step};

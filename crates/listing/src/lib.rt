@@ -1,4 +1,6 @@
 // A program that answers its input line by line: how long an input may be, and how much room its text asks for.
+#![tactic(auto)]
+
 ghost use Rattle.std.specs.Prelude.{◌+◌, ◌≡◌};
 ghost use Rattle.listing.specs.Fold.{longest_input, short_input, room_for, cleared};
 

@@ -12,14 +12,14 @@ use rounding::{Rounded, round_places};
 const SECONDS: f64 = 206264.806247096355;
 
 // A turned back by the rectified angle, as angles of the sphere: theta across the initial line, mu along it.
-#[derive(Drop)]
+#[derive(Clone, Copy)]
 struct Turned {
     theta: f64,
     mu: f64,
 }
 
 // In seconds: the latitude, and the longitude less the centre's.
-#[derive(Drop)]
+#[derive(Clone, Copy)]
 struct Found {
     latitude: f64,
     difference: f64,

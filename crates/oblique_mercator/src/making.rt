@@ -9,7 +9,7 @@ use angle::Ellipsoid;
 use elementary::{arcsine, arctan_series, artanh_small, cosine, root, sine};
 
 // At the centre: A, B, D, G, which is the root of D * D - 1, and ln H.
-#[derive(Drop)]
+#[derive(Clone, Copy)]
 struct Centre {
     a: f64,
     b: f64,
@@ -19,7 +19,7 @@ struct Centre {
 }
 
 // At the natural origin: sine and cosine of the angle there, and how far west of the centre it lies, in radians.
-#[derive(Drop)]
+#[derive(Clone, Copy)]
 struct Natural {
     sin: f64,
     cos: f64,
@@ -27,7 +27,7 @@ struct Natural {
 }
 
 // The coefficients of the latitude's series.
-#[derive(Drop)]
+#[derive(Clone, Copy)]
 struct Series {
     k2: f64,
     k4: f64,

@@ -1,10 +1,12 @@
 // A plan's rules: one line decided by value over a state, and a whole plan from bytes to bytes.
+#![tactic(auto)]
+
 mod decide;
 
 pub use decide::whole::plan;
 
 // The reply to a line.
-#[derive(Drop)]
+#[derive(Clone, Copy)]
 enum Reply {
     // An accepted origin prints nothing.
     Nothing,
@@ -15,14 +17,14 @@ enum Reply {
 }
 
 // The plan's origin: none accepted, or its values, made once for all positions.
-#[derive(Drop)]
+#[derive(Clone, Copy)]
 enum PlanOrigin {
     Missing,
     Made(angle::Origin),
 }
 
 // What has been read so far.
-#[derive(Drop)]
+#[derive(Clone, Copy)]
 struct State {
     // The number of the line to come, from 1.
     line: u64,
@@ -30,7 +32,7 @@ struct State {
 }
 
 // What is decided on a line: the reply to it, and the state after it.
-#[derive(Drop)]
+#[derive(Clone, Copy)]
 struct Decided {
     reply: Reply,
     state: State,

@@ -1,5 +1,7 @@
 // The table of ranges: which whole numbers the product takes. All ends are allowed, every i64 is answered, and a range is said as (low, number, high) everywhere.
 // Tests are joined by `&`, so that each function is one expression with no branch.
+#![tactic(auto)]
+
 ghost use Rattle.std.specs.Prelude.{◌≡◌, ◌&&◌};
 ghost use Rattle.ranges.specs.Ranges.{within, equal, area, ellipsoid_range, latitude_range, longitude_range, height_range, offset_range, profile_range};
 

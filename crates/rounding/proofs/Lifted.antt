@@ -16,7 +16,7 @@ use Rattle.rounding.specs.Nearest.{to_even, goes_up, rounded}
 use Rattle.rounding.specs.Quotient.{mixed, settled_of}
 use Rattle.rounding.proofs.Zn.{v, k, ◌⊕◌, ◌⊖◌, ◌⊗◌, eq, uneq, abs, abs_neg}
 use Rattle.rounding.proofs.Machine.{fits}
-use Rattle.rounding.proofs.Rounded.{rounded-floor, even-symmetric}
+use Rattle.rounding.proofs.Roundings.{rounded-floor, even-symmetric}
 
 -- t is odd where t - 1 is not
 before : (t : ℤ) → t -ℤ pos 1 +ℤ pos 1 ≡ t

@@ -1,4 +1,6 @@
 // Reads a sheet from standard input, to its end or to one byte past the longest that is read, and writes what it prints.
+#![tactic(auto)]
+
 ghost use Rattle.std.specs.Prelude.{◌≡◌, ◌≤◌, length};
 ghost use Rattle.listing.specs.Fold.{short_input, room_for};
 ghost use Rattle.sheet_rules.specs.Sheet.{sheet_of};

@@ -1,4 +1,6 @@
 // A sheet's rules: one line decided by value over a state, and a whole sheet from bytes to bytes.
+#![tactic(auto)]
+
 mod decide;
 
 pub use decide::lent::{is_sound_at, print_lent};
@@ -6,7 +8,7 @@ pub use decide::standing::{answer_line, is_sound};
 pub use decide::whole::{sheet, write_reply};
 
 // The reply to a line.
-#[derive(Drop)]
+#[derive(Clone, Copy)]
 pub enum Reply {
     // An accepted step or edition prints nothing.
     Nothing,
@@ -17,7 +19,7 @@ pub enum Reply {
 }
 
 // What has been read so far, but for the chain, which is lent beside it so that no line copies it.
-#[derive(Drop)]
+#[derive(Clone, Copy)]
 struct State {
     // The number of the line to come, from 1.
     line: u64,
@@ -30,21 +32,21 @@ struct State {
 }
 
 // What is decided on a line: the reply to it, and the state after it.
-#[derive(Drop)]
+#[derive(Clone, Copy)]
 struct Decided {
     reply: Reply,
     state: State,
 }
 
 // What is printed for a line: the place past it, and the state after it.
-#[derive(Drop)]
+#[derive(Clone, Copy)]
 struct Printed {
     at: usize,
     state: State,
 }
 
 // Where a sheet stands between two lines, by value. Its chain is steps, as a caller can keep them and hand them back.
-#[derive(Drop)]
+#[derive(Clone, Copy)]
 pub struct Standing {
     // The number of the line to come, from 1; 1,000,001 where no more lines are read.
     pub line: u64,
@@ -57,7 +59,7 @@ pub struct Standing {
 }
 
 // What a line is answered, where a sheet stands somewhere.
-#[derive(Drop)]
+#[derive(Clone, Copy)]
 pub enum Response {
     Replied(Reply),
     // No sheet can stand there: a count is out of range, or the chain is bad.
@@ -66,7 +68,7 @@ pub enum Response {
 
 // What is printed for a point line over a lent chain: whether a sheet can stand there, where nothing is printed if not; the place past it; and whether the line closes
 // the chain.
-#[derive(Drop)]
+#[derive(Clone, Copy)]
 pub struct LentPoint {
     pub sound: bool,
     pub at: usize,
@@ -74,7 +76,7 @@ pub struct LentPoint {
 }
 
 // What a line is answered, and where the sheet stands after it.
-#[derive(Drop)]
+#[derive(Clone, Copy)]
 pub struct Answered {
     pub standing: Standing,
     pub response: Response,

@@ -1,5 +1,7 @@
 // A sheet that arrives in fragments of whatever length. The caller keeps the state; each call takes bytes up to and with the first line feed and answers the line
 // that it ends, so that there is never more than one answer to a call, and room is asked for one line.
+#![tactic(auto)]
+
 ghost use Rattle.std.specs.Prelude.{◌≡◌, ◌+◌, ◌-◌, ◌<◌, ◌≤◌, min, length, take, replicate};
 ghost use Rattle.std.proofs.lemmas.List.Edits.{sets};
 ghost use Rattle.sheet_stream.specs.Fragments.{no_bytes, spare_step, fresh as Fragments·fresh, unended, unsound, ends_with, fed_at, feed_of, finish_of};
@@ -12,7 +14,7 @@ use sheet_rules::{Reply, Response, Standing};
 const ROOM: usize = 200;
 
 // A sheet part of which has come. `fresh` makes the first; it has no other than what `feed` and `finish` give back.
-#[derive(Drop)]
+#[derive(Clone, Copy)]
 pub struct Stream {
     // Where the sheet stands after the lines that have ended.
     pub standing: Standing,
@@ -24,7 +26,7 @@ pub struct Stream {
 }
 
 // What a call answers.
-#[derive(Drop)]
+#[derive(Clone, Copy)]
 pub enum Outcome {
     // No line ended.
     Open,
@@ -35,7 +37,7 @@ pub enum Outcome {
 }
 
 // The state after a call, how many bytes of the fragment it took, and what it answers.
-#[derive(Drop)]
+#[derive(Clone, Copy)]
 pub struct Fed {
     pub stream: Stream,
     pub taken: usize,

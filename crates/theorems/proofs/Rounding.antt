@@ -1,6 +1,6 @@
 -- Rounding, from the laws of its crate. Assumes nothing.
 use Rattle.rounding.proofs.Nearest.{near-closest}
-use Rattle.rounding.proofs.Rounded.{is-rounded, only-rounded, away-symmetric, rounded-near, rounded-opposite, rounded-mono, rounded-apart}
+use Rattle.rounding.proofs.Roundings.{is-rounded, only-rounded, away-symmetric, rounded-near, rounded-opposite, rounded-mono, rounded-apart}
 use Rattle.rounding.proofs.Places as places
 use Rattle.theorems.specs.Rounding.{Rounding}
 

@@ -1,1 +1,2 @@
 // What is promised of the whole, each as a statement of its own (specs/) with its proof. There is no code.
+#![tactic(auto)]

@@ -9,7 +9,7 @@ use lib.IntN.{ℤ, pos, negsuc, nat_abs, ◌+ℤ◌, ◌-ℤ◌, ◌*ℤ◌}
 use lib.Signed.{◌≤ℤ◌, ◌<ℤ◌}
 use Rattle.rounding.specs.Nearest.{away, rounded}
 use Rattle.rounding.proofs.Zn.{P, N, v, k, ◌⊕◌, ◌⊖◌, ◌⊗◌, le, unle, eq, pos-abs, mul-le, add-le, abs-mul}
-use Rattle.rounding.proofs.Rounded.{rounded-exact, rounded-least, rounded-most, rounded-size}
+use Rattle.rounding.proofs.Roundings.{rounded-exact, rounded-least, rounded-most, rounded-size}
 use Rattle.velocity_grid.specs.Bilinear.{blend, weighted_sum, bilinear}
 use Rattle.velocity_grid.specs.declared.Corners.{Corners}
 

@@ -1,5 +1,7 @@
 // A velocity grid: east, north and up at its nodes, between them by the bilinear rule, and turned to a velocity step. Latitudes and longitudes are whole
 // units of 0.00001", parts whole hundredths of a millimetre a year, which are units of 0.00001 m. Every call answers for every input.
+#![tactic(auto)]
+
 mod at_point;
 mod between;
 mod header;
@@ -22,7 +24,7 @@ pub use text::{check_grid, read_grid};
 pub type Nodes = [i64; 12000];
 
 // What is wrong with a grid's text: a number of the refusal table; the line, from 1, or 0 where no line is; and the place in it, 0 but for a line of bad form.
-#[derive(Drop)]
+#[derive(Clone, Copy)]
 pub struct GridFault {
     pub number: u8,
     pub line: u16,
@@ -30,21 +32,21 @@ pub struct GridFault {
 }
 
 // A grid's header, or why its text is no grid.
-#[derive(Drop)]
+#[derive(Clone, Copy)]
 pub enum GridAnswer {
     Grid(line::GridHeader),
     Refused(GridFault),
 }
 
 // Where a number stands along an axis: the cell, from 0, and how far into it.
-#[derive(Drop)]
+#[derive(Clone, Copy)]
 pub struct AxisCell {
     pub cell: usize,
     pub offset: usize,
 }
 
 // The cell of a point: the number of its south-west node, how many nodes a row has, the mesh, and how far east and north of that node the point lies, in units.
-#[derive(Drop)]
+#[derive(Clone, Copy)]
 pub struct Cell {
     pub node: usize,
     pub columns: usize,
@@ -54,7 +56,7 @@ pub struct Cell {
 }
 
 // A part's values at the four nodes of a cell.
-#[derive(Drop)]
+#[derive(Clone, Copy)]
 pub struct Corners {
     pub south_west: i64,
     pub south_east: i64,
@@ -63,14 +65,14 @@ pub struct Corners {
 }
 
 // The three parts, or the refusal number.
-#[derive(Drop)]
+#[derive(Clone, Copy)]
 pub enum PartsAnswer {
     Parts(line::VelocityParts),
     Refused(u8),
 }
 
 // East, north and up turned to X, Y and Z, before they are rounded.
-#[derive(Drop)]
+#[derive(Clone, Copy)]
 pub struct Turned {
     pub x: f64,
     pub y: f64,
@@ -78,28 +80,28 @@ pub struct Turned {
 }
 
 // A velocity in whole units of 0.00001 m a year, or the refusal number.
-#[derive(Drop)]
+#[derive(Clone, Copy)]
 pub enum VelocityAnswer {
     Velocity(chain::Velocity),
     Refused(u8),
 }
 
 // A velocity step, or the refusal number.
-#[derive(Drop)]
+#[derive(Clone, Copy)]
 pub enum StepAnswer {
     Step(chain::Step),
     Refused(u8),
 }
 
 // East, north and up at a point, and the velocity that they turn to.
-#[derive(Drop)]
+#[derive(Clone, Copy)]
 pub struct Motion {
     pub parts: line::VelocityParts,
     pub velocity: chain::Velocity,
 }
 
 // The motion of a point, or the refusal number.
-#[derive(Drop)]
+#[derive(Clone, Copy)]
 pub enum MotionAnswer {
     Motion(Motion),
     Refused(u8),

@@ -58,7 +58,7 @@ fn reaches(s: &[u8], at: usize, k: usize) -> bool
 }
 
 // What so many digits say, if they are so many digits and the first is no 0.
-#[derive(Drop)]
+#[derive(Clone, Copy)]
 struct Run {
     good: bool,
     value: u64,
@@ -124,7 +124,7 @@ fn eleven(s: &[u8], at: usize) -> Run
 }
 
 // How many digits stand before a tab, one to seven of which the first is no 0, and what they say: a count of 0 where the field is another.
-#[derive(Drop)]
+#[derive(Clone, Copy)]
 struct Few {
     count: usize,
     value: u64,

@@ -1,0 +1,51 @@
+-- `angle::ellipsoids::axis` meets its contract: each literal is the f64 nearest to the printed number, which antt computes. Assumes nothing.
+use mathlib.Core.Path.{◌≡◌, refl, ap, ◌∙◌}
+use borrow.Author.Rules.{rules}
+use Prim.Native.Nat.{ℕ}
+use lib.IntN.{ℤ, pos}
+use lib.Ieee.{Float, binary64, of_bits, round}
+use Rattle.elementary.specs.Floats.{#}
+use Rattle.angle.specs.Ellipsoids.{table, figure_of}
+use Rattle.angle.specs.declared.Figure.{Figure}
+use Rattle.angle.proofs.Codes.{code_is, no_row}
+use Rattle.angle.proofs.ellipsoids.axis.Goals as goal
+
+abbrev f64 : ℕ → Float
+f64 b = of_bits binary64 b
+
+grs80 : f64 4708606483430899712 ≡ (figure_of (pos 1)).a
+unfolding figure_of table round of_bits
+grs80 = refl
+
+wgs84 : f64 4708606483430899712 ≡ (figure_of (pos 2)).a
+unfolding figure_of table round of_bits
+wgs84 = refl
+
+everest-modified : f64 4708605589071606055 ≡ (figure_of (pos 3)).a
+unfolding figure_of table round of_bits
+everest-modified = refl
+
+everest-1967 : f64 4708605583158509830 ≡ (figure_of (pos 4)).a
+unfolding figure_of table round of_bits
+everest-1967 = refl
+
+zero_is : f64 0 ≡ # 0
+unfolding round of_bits
+zero_is = refl
+
+pub returns-in-1 : goal.returns-in-1
+returns-in-1 c = grs80 ∙ ap (λ (y : ℤ). (figure_of y).a) (code_is c.args.code 1 c.ranges.code c.in-1.keys1)
+
+pub returns-in-2 : goal.returns-in-2
+returns-in-2 c = wgs84 ∙ ap (λ (y : ℤ). (figure_of y).a) (code_is c.args.code 2 c.ranges.code c.in-2.keys2)
+
+pub returns-in-3 : goal.returns-in-3
+returns-in-3 c = everest-modified ∙ ap (λ (y : ℤ). (figure_of y).a) (code_is c.args.code 3 c.ranges.code c.in-3.keys3)
+
+pub returns-in-4 : goal.returns-in-4
+returns-in-4 c = everest-1967 ∙ ap (λ (y : ℤ). (figure_of y).a) (code_is c.args.code 4 c.ranges.code c.in-4.keys4)
+
+pub returns-in_default : goal.returns-in_default
+returns-in_default c =
+    let r = c.in_default.rest in
+    zero_is ∙ ap (λ (f : Figure). f.a) (no_row c.args.code r.0.0.0.1 r.0.0.1 r.0.1 r.1)

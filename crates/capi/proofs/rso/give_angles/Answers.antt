@@ -1,0 +1,13 @@
+-- `capi::rso::give_angles` meets its contract: a refusal writes nothing, and what is given is stored from the first element on. Assumes nothing.
+use borrow.Author.Rules.{rules}
+use mathlib.Core.Path.{◌∙◌, ap}
+use Rattle.capi.specs.Rso.{of_angles}
+use Rattle.capi.proofs.Laws.{declined, numbers}
+use Rattle.rounding.proofs.Machine.{told}
+use Rattle.capi.proofs.rso.give_angles.Goals as goal
+
+pub returns-in-Refused : goal.returns-in-Refused
+returns-in-Refused c = declined (ap of_angles c.in-Refused.is) (told c.status.type_inv ∙ c.status.ensures)
+
+pub returns-in-Units : goal.returns-in-Units
+returns-in-Units c = numbers (ap of_angles c.in-Units.is) (search rules) c.requires

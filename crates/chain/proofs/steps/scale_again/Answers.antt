@@ -1,0 +1,24 @@
+-- `chain::steps::scale_again` meets its contract. Assumes nothing.
+use mathlib.Core.Path.{◌∙◌, ap, subst⁻¹}
+use lib.Dec.{lit≤}
+use Rattle.chain.specs.declared.Position.{Position}
+use Rattle.chain.specs.declared.steps.Ready.TheVariants.{Scaled}
+use Rattle.chain.specs.Parts.{minus, again}
+use Rattle.chain.specs.Axes.{Small}
+use Rattle.chain.proofs.StepLaws.{small-le}
+use Rattle.chain.proofs.Prepared.{gain-small}
+use Rattle.chain.proofs.steps.scale_again.Goals as goal
+
+pub scale_gain-requires : goal.scale_gain-requires
+scale_gain-requires c = (c.requires.0, c.requires.2)
+
+pub minus-requires : goal.minus-requires
+minus-requires c =
+    let s = c in (
+      small-le (lit≤ tt) s.requires.1,
+      subst⁻¹ (λ (g : Position). Small 180000000 g) c.scale_gain.ensures (gain-small (Scaled s.args.t) s.args.c s.requires.0 s.requires.2),
+    )
+
+pub returns : goal.returns
+unfolding again
+returns c = c.minus.ensures ∙ ap (minus c.args.q) c.scale_gain.ensures

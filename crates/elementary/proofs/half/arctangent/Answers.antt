@@ -1,0 +1,9 @@
+-- `elementary::half::arctangent` meets its contract: the formula is the written one. Assumes nothing.
+use borrow.Author.Rules.{rules}
+use lib.Ieee.{of_bits, round}
+use Rattle.elementary.specs.Half.{arctangent_of}
+use Rattle.elementary.proofs.half.arctangent.Goals as goal
+
+pub returns : goal.returns
+unfolding arctangent_of round of_bits
+returns c = rw (c.arctan_small.ensures, c.root.ensures)

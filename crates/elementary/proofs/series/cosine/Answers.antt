@@ -1,0 +1,8 @@
+-- `elementary::series::cosine` meets its contract. Assumes nothing.
+use borrow.Author.Rules.{rules}
+use Rattle.elementary.specs.Series.{cosine_of}
+use Rattle.elementary.proofs.series.cosine.Goals as goal
+
+pub returns : goal.returns
+unfolding cosine_of
+returns c = rw (c.polynomial.ensures, c.cosine_table-t.ensures)

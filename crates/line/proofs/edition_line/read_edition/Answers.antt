@@ -1,0 +1,29 @@
+-- `line::edition_line::read_edition` meets its contract. Assumes nothing.
+use Rattle.std.proofs.Common.{◌≡◌, sym, ap, ◌∙◌, ⊎_elim, arith, length-take-le, w64, to_z, of_z, rules}
+use Rattle.line.proofs.Answers as A
+use Rattle.line.specs.declared.EditionLine.TheVariants.{Edition, Malformed}
+use Rattle.line.specs.Forms.{edition_form}
+use Rattle.line.specs.Malformed.{edition_shape, fault_of}
+use Rattle.line.specs.Readers.{edition_as, read_edition}
+use Rattle.line.proofs.edition_line.read_edition.Goals as goal
+
+pub slice_bounds-s-end : goal.slice_bounds-s-end
+slice_bounds-s-end c = sym (length-take-le _ _ (omega arith))
+
+pub returns-then-r-end : goal.returns-then-r-end
+unfolding read_edition
+returns-then-r-end c =
+    let c3 = c.before.before.before in
+    let c6 = c3.before.before.before in
+    let line = c6.before.before.args.line.now in
+    let e : to_z w64 (of_z w64 c3.edition_fields-r.result.year) ≡ c3.edition_fields-r.result.year = search rules in
+    A.of-form (edition_as (Malformed (fault_of edition_shape line))) edition_form _ _ c6.body-end.ensures (omega arith) c3.edition_fields-r.ensures _ c.if-r-end.true (λ y q. ap Edition (e ∙ q))
+
+pub returns : goal.returns
+unfolding read_edition
+returns c =
+    let framed = c.body_end-end.ensures in
+    let line = c.args.line.now in
+    ap Malformed c.fault_of-fault.ensures
+    ∙ ⊎_elim (λ w. A.no-form (edition_as (Malformed (fault_of edition_shape line))) edition_form _ _ framed (omega arith) w.2.ensures w.4.left)
+    (λ w. A.no-frame (edition_as (Malformed (fault_of edition_shape line))) edition_form _ _ framed (omega arith)) c.if-end-line.branch

@@ -1,0 +1,27 @@
+-- `line::number::ahead` meets its contract. Assumes nothing.
+use Rattle.std.proofs.Common.{arith}
+use Rattle.line.proofs.Ahead as L
+use Rattle.line.proofs.Few as F
+use Rattle.line.proofs.number.ahead.Goals as goal
+
+pub eight-requires : goal.eight-requires
+eight-requires c =
+    let o = c.other_eight in
+    F.small (F.spelt c.word-d.ensures (o.ensures (L.not-true o.result c.if-not-other_eight.true)))
+
+pub returns-then-not-other_eight : goal.returns-then-not-other_eight
+returns-then-not-other_eight c =
+    let g = c.args in
+    let o = c.other_eight in
+    let y = F.spelt c.word-d.ensures (o.ensures (L.not-true o.result c.if-not-other_eight.true)) in
+    let v = F.says y (omega arith) in
+    rw c.eight.ensures (L.carry 100000000 (L.unmoved g.s.now g.at g.first (omega arith)) v (omega (arith, v.less)))
+
+pub returns-else-not-other_eight : goal.returns-else-not-other_eight
+returns-else-not-other_eight c = L.unmoved _ _ _ (omega arith)
+
+pub returns-else-at-s : goal.returns-else-at-s
+returns-else-at-s c = L.unmoved _ _ _ (omega arith)
+
+pub returns-else-s-ge8 : goal.returns-else-s-ge8
+returns-else-s-ge8 c = L.unmoved _ _ _ (omega arith)

@@ -1,0 +1,41 @@
+-- `lot_plan::chain_text::take_line` meets its contract. Assumes nothing.
+use mathlib.Core.Path.{◌≡◌, ap}
+use mir.Syntax.{w64}
+use mir.Val.{to_z, of_z}
+use borrow.Author.Tests.{eq-eqb, ne_eqb}
+use Rattle.line.specs.declared.Fault.{Fault}
+use Rattle.line.specs.Bytes.{letter_s, letter_e}
+use Rattle.lot_plan.specs.declared.Read.TheVariants.{Refused}
+use Rattle.lot_plan.specs.LotPlan.{with_line}
+use borrow.Author.Rules.{rules}
+use Rattle.lot_plan.proofs.chain_text.take_line.Tie as tie
+use Rattle.lot_plan.proofs.chain_text.take_line.Lts as lts
+use Rattle.lot_plan.proofs.chain_text.take_line.Reads as reads
+use Rattle.lot_plan.proofs.chain_text.take_line.Goals as goal
+
+abbrev TheStart : Type 0
+TheStart = lts.Start tie.the-claims reads.Pre reads.Post
+
+-- the profile, as the machine reads it
+profile : (s : TheStart) → to_z w64 (of_z w64 s.args.profile) ≡ s.args.profile
+profile s = search rules
+
+pub returns-then-letter-eq83 : goal.returns-then-letter-eq83
+unfolding with_line
+returns-then-letter-eq83 c =
+    λ ss none h.
+    let t = rw (profile c.before.before.before.before.before) at c.take_step.ensures in
+    rw (eq-eqb _ letter_s c.if-letter-eq83.true) (t ss h)
+
+pub returns-then-letter-eq69 : goal.returns-then-letter-eq69
+unfolding with_line
+returns-then-letter-eq69 c =
+    λ ss none h.
+    rw (ne_eqb _ letter_s c.if-letter-eq83.false, eq-eqb _ letter_e c.if-letter-eq69.true) (c.take_edition.ensures _ ss _ none h)
+
+pub returns : goal.returns
+unfolding with_line
+returns c =
+    λ ss none h.
+    rw (ne_eqb _ letter_s c.if-letter-eq83.false, ne_eqb _ letter_e c.if-letter-eq69.false)
+    (ap (λ (f : Fault). Refused f.number) c.strange-fault.ensures)

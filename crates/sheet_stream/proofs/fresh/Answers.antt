@@ -1,0 +1,6 @@
+-- `sheet_stream::fresh` meets its contract. Assumes nothing.
+use borrow.Author.Rules.{rules}
+use Rattle.sheet_stream.proofs.fresh.Goals as goal
+
+pub returns : goal.returns
+returns c = rw (c.no_bytes-kept.ensures, c.spare_step-step.ensures)

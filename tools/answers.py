@@ -21,7 +21,7 @@ def own(place):
 
 
 def norm(s):
-    return s.replace("_", "-")
+    return re.sub("-lem$", "", s.replace("_", "-").lower())
 
 
 class Function:
@@ -221,7 +221,9 @@ def turn_paths(f, text, env):
         bare = [u for u in used if u != "."]
         return f"let {m[1]} = {m[2]} in" if len(bare) <= 1 and m[2] in env else m[0]
 
-    return re.sub(r"let ([a-z][\w']*) = ([a-z_][\w']*)(?:\.before)+ in", plain, text)
+    text = re.sub(r"let ([a-z][\w']*) = ([a-z_][\w']*)(?:\.before)+ in", plain, text)
+    # a test on `!x` says of x itself
+    return re.sub(r"not-(?:true|false) _ (?=[a-z][\w']*\.(?:before\.)*if-not-)", "", text)
 
 
 def rename_types(f, text, loops):
@@ -238,7 +240,9 @@ def rename_types(f, text, loops):
         f.own.add(f.d["places"][i][0])
         return own(f.d["places"][i][0])
 
-    return re.sub(r"tie\.((?:Start|After|Then|Else|At|In)[\w'-]*)", place, text)
+    text = re.sub(r"tie\.((?:Start|After|Then|Else|At|In)[\w'-]*)", place, text)
+    names = "|".join(re.escape(f"{kind}-{loop[0][0]}".replace("_", "-")) for loop in loops for kind in ("invariant", "decreases"))
+    return re.sub(rf"(?<![\w.'-])(The[A-Z]\w*)(?: (?:{names}))+", r"\1", text) if names else text
 
 
 def spec_args(text):
@@ -337,6 +341,8 @@ def turn(crate, key, d, root):
             continue
         table = dict(zip(params, want))
         body = re.sub(r"(?<![\w.'₀-])([a-z_][\w']*₀?)(?![\w'₀])", lambda m: table.get(m[1], m[1]), body)
+        body = re.sub(r"\(to_[zu] w\d+ (l\.[\w.]+)\)", r"\1", body)
+        body = re.sub(r"to_[zu] w\d+ (l\.[\w.]+)", r"\1", body)
         new_name = f"{kind[1]}-{new}"
         inv_text.append(f"abbrev pub {new_name} : goal.{new_name}\n{new_name} l ={body.rstrip()}")
     ans_text = []
@@ -359,7 +365,7 @@ def turn(crate, key, d, root):
         comments = [l for l in lines if l.startswith("--") and not re.match(r"-- src/.*:\d+:\d+$", l)]
         if code[0].startswith("module "):
             env = {}
-            for m in re.finditer(r"\((\w+) : tie\.([\w'-]+)\)", code[0]):
+            for m in re.finditer(r"\((\w+) : tie\.([\w'-]+)[^()]*\)", code[0]):
                 i = f.place(m[2])
                 if i is not None:
                     env[m[1]] = i
@@ -449,6 +455,8 @@ def turn(crate, key, d, root):
             if f.own:
                 more = " tie.handed_clauses" if d["asked"] or any(d["clauses"]) else ""
                 ulines += [f"use {mod}.Lts as lts", f"use {mod}.Reads as reads"]
+                for loop in loops:
+                    more += f" goal.the-invariant-{loop[0][1]} goal.the-decreases-{loop[0][1]}"
                 claims = "tie.the-claims " if any(p[3] for p in d["places"]) else ""
                 ans_text[:0] = [f"abbrev {own(p)} : Type 0\n{own(p)} = lts.{p} {claims}reads.Pre reads.Post{more}" for p in sorted(f.own)]
             open(os.path.join(folder, "Answers.antt"), "w", encoding="utf-8").write((title + "\n" if title else "") + "\n".join(ulines + [f"use {mod}.Goals as goal", ""]) + "\n" + "\n\n".join(t.strip("\n") for t in ans_text) + "\n")

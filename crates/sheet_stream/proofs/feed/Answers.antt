@@ -91,7 +91,7 @@ returns-then-is_fed c =
 pub returns-then-not-is_sound : goal.returns-then-not-is_sound
 returns-then-not-is_sound c =
     let a = c.args in
-    c.refused-then-not-is_sound.ensures ∙ sym (feed-state a.stream a.fragment.now (L.sound-as a.stream (going c.before.before.before.before.before.before.before) _ c.is_sound.ensures ∙ not-true _ c.if-not-is_sound.true))
+    c.refused-then-not-is_sound.ensures ∙ sym (feed-state a.stream a.fragment.now (L.sound-as a.stream (going c.before.before.before.before.before.before.before) _ c.is_sound.ensures ∙ c.if-not-is_sound.true))
 
 pub returns : goal.returns
 returns c =
@@ -99,5 +99,5 @@ returns c =
     let g = going c.before.before.before.before.before.before.before.before.before in
     let k = c.keep_bytes-n-2.ensures in
     let f : fed_at s.args.fragment.now c.line_end-end.result ≡ false = sym c.is_fed.ensures ∙ c.if-is_fed.false in
-    let e : sound s.args.stream ≡ true = L.sound-as s.args.stream g _ c.is_sound.ensures ∙ not-false _ c.if-not-is_sound.false in
+    let e : sound s.args.stream ≡ true = L.sound-as s.args.stream g _ c.is_sound.ensures ∙ c.if-not-is_sound.false in
     L.fed-open s.args.stream g s.args.fragment.now _ c.line_end-end.ensures (long s) _ _ _ k.1 k.0 f refl e

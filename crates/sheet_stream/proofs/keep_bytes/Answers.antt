@@ -13,10 +13,10 @@ use Rattle.sheet_stream.proofs.keep_bytes.Reads as reads
 use Rattle.sheet_stream.proofs.keep_bytes.Goals as goal
 
 abbrev TheAfterSharedSliceKnown2 : Type 0
-TheAfterSharedSliceKnown2 = lts.After-shared_slice_known2 tie.the-claims reads.Pre reads.Post
+TheAfterSharedSliceKnown2 = lts.After-shared_slice_known2 tie.the-claims reads.Pre reads.Post goal.the-invariant-loop-i goal.the-decreases-loop-i
 
 abbrev TheStart : Type 0
-TheStart = lts.Start tie.the-claims reads.Pre reads.Post
+TheStart = lts.Start tie.the-claims reads.Pre reads.Post goal.the-invariant-loop-i goal.the-decreases-loop-i
 
 pub returns-then-size-count : goal.returns-then-size-count
 returns-then-size-count c =
@@ -28,11 +28,11 @@ pub loop-i-init : goal.loop-i-init
 loop-i-init c = (omega arith, refl, refl)
 
 -- a slice has fewer bytes than a usize counts
-short : (s : TheStart invariant-loop decreases-loop) → length s.args.room.now < 9223372036854775808
+short : (s : TheStart) → length s.args.room.now < 9223372036854775808
 short s = omega (arith, s.well_formed.0.1)
 
 -- the next place lies in the room
-in-room : (c : TheAfterSharedSliceKnown2 invariant-loop decreases-loop) → c.args.count + c.loop-i.i < length c.loop-i.room
+in-room : (c : TheAfterSharedSliceKnown2) → c.args.count + c.loop-i.i < length c.loop-i.room
 in-room c = omega (arith, c.loop-i-test.true, c.least-n.ensures, c.loop-i.invariant.1, c.if-size-count.false)
 
 pub bounds-bytes-i : goal.bounds-bytes-i

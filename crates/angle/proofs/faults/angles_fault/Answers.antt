@@ -27,12 +27,12 @@ longitude c t h =
 
 pub returns-then-not-is_latitude : goal.returns-then-not-is_latitude
 unfolding angles_fault
-returns-then-not-is_latitude c = rw (latitude c.before false (not-true _ c.if-not-is_latitude.true))
+returns-then-not-is_latitude c = rw (latitude c.before false (c.if-not-is_latitude.true))
 
 pub returns-then-not-is_longitude : goal.returns-then-not-is_longitude
 unfolding angles_fault
-returns-then-not-is_longitude c = rw (latitude c.before.before.before true (not-false _ c.if-not-is_latitude.false), longitude c.before false (not-true _ c.if-not-is_longitude.true))
+returns-then-not-is_longitude c = rw (latitude c.before.before.before true (c.if-not-is_latitude.false), longitude c.before false (c.if-not-is_longitude.true))
 
 pub returns : goal.returns
 unfolding angles_fault
-returns c = rw (latitude c.before.before.before true (not-false _ c.if-not-is_latitude.false), longitude c.before true (not-false _ c.if-not-is_longitude.false))
+returns c = rw (latitude c.before.before.before true (c.if-not-is_latitude.false), longitude c.before true (c.if-not-is_longitude.false))

@@ -40,26 +40,26 @@ northing c t h =
 
 pub returns-then-not-is_ellipsoid : goal.returns-then-not-is_ellipsoid
 unfolding origin_fault
-returns-then-not-is_ellipsoid c = rw (code c.before false (not-true _ c.if-not-is_ellipsoid.true))
+returns-then-not-is_ellipsoid c = rw (code c.before false (c.if-not-is_ellipsoid.true))
 
 pub returns-then-not-is_offset : goal.returns-then-not-is_offset
 unfolding origin_fault
-returns-then-not-is_offset c = rw (code c.before.before.before.before true (not-false _ c.if-not-is_ellipsoid.false), easting c.before false (not-true _ c.if-not-is_offset.true))
+returns-then-not-is_offset c = rw (code c.before.before.before.before true (c.if-not-is_ellipsoid.false), easting c.before false (c.if-not-is_offset.true))
 
 -- past the first two tests, and past all three
 first_two : (c : TheElse2) → (ellipsoid_range c.args.o.ellipsoid ≡ true) × (offset_range c.args.o.false_easting ≡ true)
-first_two c = (code c.before.before.before.before true (not-false _ c.if-not-is_ellipsoid.false), easting c.before true (not-false _ c.if-not-is_offset.false))
+first_two c = (code c.before.before.before.before true (c.if-not-is_ellipsoid.false), easting c.before true (c.if-not-is_offset.false))
 
 pub returns-then-not-is_offset-2 : goal.returns-then-not-is_offset-2
 unfolding origin_fault
 returns-then-not-is_offset-2 c =
     let p = first_two c.before.before.before in
-    rw (p.0, p.1, northing c.before false (not-true _ c.if-not-is_offset-2.true))
+    rw (p.0, p.1, northing c.before false (c.if-not-is_offset-2.true))
 
 pub returns : goal.returns
 unfolding origin_fault angles_fault
 returns c =
     let p = first_two c.before.before.before.before.before.before in
     let o = c.args.o in
-    rw (p.0, p.1, northing c.before.before.before.before true (not-false _ c.if-not-is_offset-2.false))
+    rw (p.0, p.1, northing c.before.before.before.before true (c.if-not-is_offset-2.false))
     (c.angles_fault.ensures ∙ ap₂ angles_fault (to_z-of_z w64 o.latitude (search rules)) (to_z-of_z w64 o.longitude (search rules)))

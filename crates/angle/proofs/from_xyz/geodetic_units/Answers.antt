@@ -49,17 +49,17 @@ inside c t h =
     sym (c.in_area.ensures ∙ rw (to_z-of_z w64 a.args.x a.ranges.x, to_z-of_z w64 a.args.y a.ranges.y, to_z-of_z w64 a.args.z a.ranges.z)) ∙ h
 
 pub returns-then-not-is_ellipsoid : goal.returns-then-not-is_ellipsoid
-returns-then-not-is_ellipsoid c = let a = c.args in by_code a.code a.x a.y a.z (good-code c.before false (not-true _ c.if-not-is_ellipsoid.true))
+returns-then-not-is_ellipsoid c = let a = c.args in by_code a.code a.x a.y a.z (good-code c.before false (c.if-not-is_ellipsoid.true))
 
 pub returns-then-not-in_area : goal.returns-then-not-in_area
 returns-then-not-in_area c =
     let a = c.args in
-    by-area a.code a.x a.y a.z (good-code c.before.before.before true (not-false _ c.if-not-is_ellipsoid.false)) (inside c.before false (not-true _ c.if-not-in_area.true))
+    by-area a.code a.x a.y a.z (good-code c.before.before.before true (c.if-not-is_ellipsoid.false)) (inside c.before false (c.if-not-in_area.true))
 
 pub found-requires : goal.found-requires
 found-requires c =
     let a = c in
-    rw (to_z-of_z w64 a.args.x a.ranges.x, to_z-of_z w64 a.args.y a.ranges.y, to_z-of_z w64 a.args.z a.ranges.z) (inside c.before.before true (not-false _ c.if-not-in_area.false))
+    rw (to_z-of_z w64 a.args.x a.ranges.x, to_z-of_z w64 a.args.y a.ranges.y, to_z-of_z w64 a.args.z a.ranges.z) (inside c.before.before true (c.if-not-in_area.false))
 
 pub returns : goal.returns
 returns c =
@@ -68,4 +68,4 @@ returns c =
     let x : to_z w64 (of_z w64 a.args.x) ≡ a.args.x = to_z-of_z w64 a.args.x a.ranges.x in
     let y : to_z w64 (of_z w64 a.args.y) ≡ a.args.y = to_z-of_z w64 a.args.y a.ranges.y in
     let z : to_z w64 (of_z w64 a.args.z) ≡ a.args.z = to_z-of_z w64 a.args.z a.ranges.z in
-    rw (c.in_angles.ensures, c.found.ensures, c.ellipsoid.ensures, i, x, y, z) (by-none a.args.code a.args.x a.args.y a.args.z (good-code c.before.before.before.before.before.before true (not-false _ c.if-not-is_ellipsoid.false)) (inside c.before.before.before.before true (not-false _ c.if-not-in_area.false)))
+    rw (c.in_angles.ensures, c.found.ensures, c.ellipsoid.ensures, i, x, y, z) (by-none a.args.code a.args.x a.args.y a.args.z (good-code c.before.before.before.before.before.before true (c.if-not-is_ellipsoid.false)) (inside c.before.before.before.before true (c.if-not-in_area.false)))

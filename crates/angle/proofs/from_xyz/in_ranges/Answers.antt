@@ -40,15 +40,15 @@ height c t h = let a = c in told (negsuc 49999999) a.args.height (pos 900000000)
 
 pub returns-then-not-is_latitude : goal.returns-then-not-is_latitude
 unfolding in_ranges
-returns-then-not-is_latitude c = rw (latitude c.before false (not-true _ c.if-not-is_latitude.true))
+returns-then-not-is_latitude c = rw (latitude c.before false (c.if-not-is_latitude.true))
 
 pub returns-then-not-within : goal.returns-then-not-within
 unfolding in_ranges
-returns-then-not-within c = rw (latitude c.before.before.before true (not-false _ c.if-not-is_latitude.false), longitude c.before false (not-true _ c.if-not-within.true))
+returns-then-not-within c = rw (latitude c.before.before.before true (c.if-not-is_latitude.false), longitude c.before false (c.if-not-within.true))
 
 pub returns-then-not-is_height : goal.returns-then-not-is_height
 unfolding in_ranges
-returns-then-not-is_height c = rw (latitude c.before.before.before.before.before true (not-false _ c.if-not-is_latitude.false), longitude c.before.before.before true (not-false _ c.if-not-within.false), height c.before false (not-true _ c.if-not-is_height.true))
+returns-then-not-is_height c = rw (latitude c.before.before.before.before.before true (c.if-not-is_latitude.false), longitude c.before.before.before true (c.if-not-within.false), height c.before false (c.if-not-is_height.true))
 
 -- the sum fits
 sum_fits : (z : ℤ) → within (pos 3240000000) z (pos 10800000000) ≡ true → SFits w64 (z +ℤ pos 32400000000)
@@ -60,7 +60,7 @@ sum_fits z h =
 pub overflow_add-longitude : goal.overflow_add-longitude
 overflow_add-longitude c =
     let a = c in
-    rw (to_z-of_z w64 a.args.past a.ranges.past) (sum_fits a.args.past (past c.before.before.before true (not-false _ c.if-not-within.false)))
+    rw (to_z-of_z w64 a.args.past a.ranges.past) (sum_fits a.args.past (past c.before.before.before true (c.if-not-within.false)))
 
 pub returns : goal.returns
 unfolding in_ranges
@@ -69,5 +69,5 @@ returns c =
     let i : to_z w64 (of_z w64 a.args.latitude) ≡ a.args.latitude = to_z-of_z w64 a.args.latitude a.ranges.latitude in
     let j : to_z w64 (of_z w64 a.args.past) ≡ a.args.past = to_z-of_z w64 a.args.past a.ranges.past in
     let k : to_z w64 (of_z w64 a.args.height) ≡ a.args.height = to_z-of_z w64 a.args.height a.ranges.height in
-    let m : to_z w64 (of_z w64 (a.args.past +ℤ pos 32400000000)) ≡ a.args.past +ℤ pos 32400000000 = to_z-of_z w64 (a.args.past +ℤ pos 32400000000) (sum_fits a.args.past (past c.before.before.before true (not-false _ c.if-not-within.false))) in
-    rw (i, j, m, k, latitude c.before.before.before.before.before true (not-false _ c.if-not-is_latitude.false), longitude c.before.before.before true (not-false _ c.if-not-within.false), height c.before true (not-false _ c.if-not-is_height.false))
+    let m : to_z w64 (of_z w64 (a.args.past +ℤ pos 32400000000)) ≡ a.args.past +ℤ pos 32400000000 = to_z-of_z w64 (a.args.past +ℤ pos 32400000000) (sum_fits a.args.past (past c.before.before.before true (c.if-not-within.false))) in
+    rw (i, j, m, k, latitude c.before.before.before.before.before true (c.if-not-is_latitude.false), longitude c.before.before.before true (c.if-not-within.false), height c.before true (c.if-not-is_height.false))

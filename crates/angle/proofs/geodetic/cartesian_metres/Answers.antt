@@ -61,7 +61,7 @@ code : (c : TheAfterIsEllipsoid) (t : Bool) → c.is_ellipsoid.result ≡ t → 
 code c t h = told (pos 1) c.args.code (pos 4) c.ranges.code c.is_ellipsoid.ensures h
 
 pub returns-then-not-is_ellipsoid : goal.returns-then-not-is_ellipsoid
-returns-then-not-is_ellipsoid c = let a = c.args in by_code a.code a.latitude a.longitude a.height (code c.before false (not-true _ c.if-not-is_ellipsoid.true))
+returns-then-not-is_ellipsoid c = let a = c.args in by_code a.code a.latitude a.longitude a.height (code c.before false (c.if-not-is_ellipsoid.true))
 
 angles : (c : TheAfterAnglesFault) → c.angles_fault-fault.result ≡ first (angle_tests c.args.latitude c.args.longitude)
 unfolding angles_fault
@@ -73,7 +73,7 @@ pub returns-then-fault-ne0 : goal.returns-then-fault-ne0
 returns-then-fault-ne0 c =
     let a = c.args in
     ap Refused (angles c.before)
-    ∙ by-angles a.code a.latitude a.longitude a.height (code c.before.before.before true (not-false _ c.if-not-is_ellipsoid.false))
+    ∙ by-angles a.code a.latitude a.longitude a.height (code c.before.before.before true (c.if-not-is_ellipsoid.false))
     (λ (z : first (angle_tests a.latitude a.longitude) ≡ 0). c.if-fault-ne0.true (angles c.before ∙ z))
 
 passed-angles : (c : TheElse2) → Passed (angle_tests c.args.latitude c.args.longitude)
@@ -89,14 +89,14 @@ height c t h =
 pub returns-then-not-is_height : goal.returns-then-not-is_height
 returns-then-not-is_height c =
     let a = c.args in
-    by_height a.code a.latitude a.longitude a.height (code c.before.before.before.before.before true (not-false _ c.if-not-is_ellipsoid.false)) (passed-angles c.before.before)
-    (height c.before false (not-true _ c.if-not-is_height.true))
+    by_height a.code a.latitude a.longitude a.height (code c.before.before.before.before.before true (c.if-not-is_ellipsoid.false)) (passed-angles c.before.before)
+    (height c.before false (c.if-not-is_height.true))
 
 all-passed : (c : TheElse3)
     → Passed (cartesian_tests c.args.code c.args.latitude c.args.longitude c.args.height)
 all-passed c =
     let p = passed-angles c.before.before in
-    (ap not (code c.before.before.before.before.before true (not-false _ c.if-not-is_ellipsoid.false)), (p.0, (p.1.0, (ap not (height c.before true (not-false _ c.if-not-is_height.false)), tt))))
+    (ap not (code c.before.before.before.before.before true (c.if-not-is_ellipsoid.false)), (p.0, (p.1.0, (ap not (height c.before true (c.if-not-is_height.false)), tt))))
 
 pub position-requires : goal.position-requires
 position-requires c =

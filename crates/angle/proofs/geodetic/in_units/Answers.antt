@@ -9,4 +9,4 @@ returns-in-Refused c = rw c.in-Refused.is
 
 pub returns-in-Metres : goal.returns-in-Metres
 unfolding in_units
-returns-in-Metres c = rw (c.in-Metres.is, c.All-three.ensures, c.round_places-c.ensures, c.round_places-b.ensures, c.round_places-a.ensures)
+returns-in-Metres c = rw (c.in-Metres.is, c.all_three.ensures, c.round_places-c.ensures, c.round_places-b.ensures, c.round_places-a.ensures)

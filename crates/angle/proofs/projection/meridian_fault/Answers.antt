@@ -103,10 +103,10 @@ pub returns-then-not-within : goal.returns-then-not-within
 returns-then-not-within c =
     let d = c.before.before.before in
     let p = passed-angles c.before.before in
-    sym (on (ahead d) (after d) p ∙ ap (λ (t : Bool). first ((not t gives numbers.apart) ∷ [])) (apart c.before false (not-true _ c.if-not-within.true)))
+    sym (on (ahead d) (after d) p ∙ ap (λ (t : Bool). first ((not t gives numbers.apart) ∷ [])) (apart c.before false (c.if-not-within.true)))
 
 pub returns : goal.returns
 returns c =
     let d = c.before.before.before in
     let p = passed-angles c.before.before in
-    sym (on (ahead d) (after d) p ∙ ap (λ (t : Bool). first ((not t gives numbers.apart) ∷ [])) (apart c.before true (not-false _ c.if-not-within.false)))
+    sym (on (ahead d) (after d) p ∙ ap (λ (t : Bool). first ((not t gives numbers.apart) ∷ [])) (apart c.before true (c.if-not-within.false)))

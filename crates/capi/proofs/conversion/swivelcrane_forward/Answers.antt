@@ -9,16 +9,16 @@ use Rattle.capi.proofs.Conversions.{sizes, unsized, converted}
 use Rattle.capi.proofs.conversion.swivelcrane_forward.Goals as goal
 
 pub returns-then-not-are_sized : goal.returns-then-not-are_sized
-returns-then-not-are_sized c = let s = c.args in unsized forward_of s.profile s.chain.now s.point.now s.out.now (sym c.are_sized.ensures ∙ not-true _ c.if-not-are_sized.true)
+returns-then-not-are_sized c = let s = c.args in unsized forward_of s.profile s.chain.now s.point.now s.out.now (sym c.are_sized.ensures ∙ c.if-not-are_sized.true)
 
 pub point_from-requires : goal.point_from-requires
-point_from-requires c = let e = (sizes _ _ _ (sym c.are_sized.ensures ∙ not-false _ c.if-not-are_sized.false)).0 in omega (arith, e)
+point_from-requires c = let e = (sizes _ _ _ (sym c.are_sized.ensures ∙ c.if-not-are_sized.false)).0 in omega (arith, e)
 
 pub give-requires : goal.give-requires
-give-requires c = (sizes _ _ _ (sym c.are_sized.ensures ∙ not-false _ c.if-not-are_sized.false)).1
+give-requires c = (sizes _ _ _ (sym c.are_sized.ensures ∙ c.if-not-are_sized.false)).1
 
 pub returns : goal.returns
 returns c =
     let sized = c in
-    converted forward_of _ _ _ _ (sym sized.are_sized.ensures ∙ not-false _ sized.if-not-are_sized.false)
+    converted forward_of _ _ _ _ (sym sized.are_sized.ensures ∙ sized.if-not-are_sized.false)
     (rd sized.ranges.profile) c.point_from.ensures c.forward_by.ensures c.give.ensures (told c.give.type_inv)

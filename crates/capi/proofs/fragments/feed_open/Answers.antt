@@ -24,7 +24,7 @@ pub returns-then-not-is_answered : goal.returns-then-not-is_answered
 returns-then-not-is_answered c =
     let s = c in
     open-state s.args.numbers.now s.args.bytes.now s.requires.0 s.requires.1 s.args.fragment.now s.args.told.now
-    (answered-as s.args.numbers.now s.args.bytes.now s.requires.0 s.requires.1 false (sym (not-true _ c.if-not-is_answered.true) ∙ c.is_answered.ensures))
+    (answered-as s.args.numbers.now s.args.bytes.now s.requires.0 s.requires.1 false (sym (c.if-not-is_answered.true) ∙ c.is_answered.ensures))
     (told c.minus.type_inv ∙ c.minus.ensures)
 
 -- a slice has fewer bytes than an i64 counts, and the first line lies in the fragment

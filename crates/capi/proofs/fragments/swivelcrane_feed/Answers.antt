@@ -27,12 +27,12 @@ pub returns-then-not-are_sized-told : goal.returns-then-not-are_sized-told
 returns-then-not-are_sized-told c =
     let s = c.args in
     let f : Stream → Fed = λ x. feed_of x s.fragment.now in
-    let e = sym (ap (λ (b : Bool). b && eqb (length s.told.now) 2) c.are_sized.ensures) ∙ not-true _ c.if-not-are_sized-told.true in
+    let e = sym (ap (λ (b : Bool). b && eqb (length s.told.now) 2) c.are_sized.ensures) ∙ c.if-not-are_sized-told.true in
     record { state = unsized f s.numbers.now s.bytes.now e; tells = told-unsized f s.numbers.now s.bytes.now s.told.now e }
 
 -- past the first test: the lengths
 sized : (c : TheElse1) → sized_feed c.args.numbers.now c.args.bytes.now c.args.out.now c.args.told.now ≡ true
-sized c = sym (ap (λ (b : Bool). b && eqb (length c.args.told.now) 2) c.are_sized.ensures) ∙ not-false _ c.if-not-are_sized-told.false
+sized c = sym (ap (λ (b : Bool). b && eqb (length c.args.told.now) 2) c.are_sized.ensures) ∙ c.if-not-are_sized-told.false
 
 parts : (c : TheElse1) → Sized (length c.args.numbers.now) (length c.args.bytes.now) (length c.args.out.now)
 parts c = sized-parts _ _ _ (both _ _ (sized c)).0
@@ -49,7 +49,7 @@ pub returns-then-not-in_range : goal.returns-then-not-in_range
 returns-then-not-in_range c =
     let s = c.before.before.before.before.before.before.before.before.before.args in
     let f : Stream → Fed = λ x. feed_of x s.fragment.now in
-    let e = sym c.in_range.ensures ∙ not-true _ c.if-not-in_range.true in
+    let e = sym c.in_range.ensures ∙ c.if-not-in_range.true in
     record {
       state = unranged f s.numbers.now s.bytes.now (sized c.before.before.before.before) e (told c.minus.ok ∙ c.minus.ensures);
       tells = told-unranged f s.numbers.now s.bytes.now s.told.now (sized c.before.before.before.before) e;
@@ -57,12 +57,12 @@ returns-then-not-in_range c =
 
 -- past the second: the counts and the flags
 good : (c : TheElse2) → state_range c.before.before.before.before.before.before.before.before.args.numbers.now ≡ true
-good c = sym c.in_range.ensures ∙ not-false _ c.if-not-in_range.false
+good c = sym c.in_range.ensures ∙ c.if-not-in_range.false
 
 pub feed_open-requires : goal.feed_open-requires
 feed_open-requires c =
     let p = parts c.before.before.before.before.before.before.before.before.before in
-    (p.state, good c.before.before.before.before.before.before, p.line, two-told c.before.before.before.before.before.before.before.before.before, c.first_end-end.ensures, sym c.is_fed.ensures ∙ not-true _ c.if-not-is_fed.true)
+    (p.state, good c.before.before.before.before.before.before, p.line, two-told c.before.before.before.before.before.before.before.before.before, c.first_end-end.ensures, sym c.is_fed.ensures ∙ c.if-not-is_fed.true)
 
 pub returns-then-not-is_fed : goal.returns-then-not-is_fed
 returns-then-not-is_fed c =
@@ -78,7 +78,7 @@ returns-then-not-is_fed c =
 pub feed_line-requires : goal.feed_line-requires
 feed_line-requires c =
     let p = parts c.before.before.before.before.before.before.before.before.before.before in
-    (p.state, good c.before.before.before.before.before.before.before, p.line, p.room, two-told c.before.before.before.before.before.before.before.before.before.before, c.first_end-end.ensures, sym c.is_fed.ensures ∙ not-false _ c.if-not-is_fed.false)
+    (p.state, good c.before.before.before.before.before.before.before, p.line, p.room, two-told c.before.before.before.before.before.before.before.before.before.before, c.first_end-end.ensures, sym c.is_fed.ensures ∙ c.if-not-is_fed.false)
 
 pub returns : goal.returns
 returns c =

@@ -26,11 +26,11 @@ TheElse2 = lts.Else2 tie.the-claims reads.Pre reads.Post
 pub returns-then-not-are_sized : goal.returns-then-not-are_sized
 returns-then-not-are_sized c =
     let s = c.args in
-    unsized finish_of s.numbers.now s.bytes.now (sym c.are_sized.ensures ∙ not-true _ c.if-not-are_sized.true)
+    unsized finish_of s.numbers.now s.bytes.now (sym c.are_sized.ensures ∙ c.if-not-are_sized.true)
 
 -- past the first test: the lengths
 sized : (c : TheElse1) → sized_state (length c.args.numbers.now) (length c.args.bytes.now) (length c.args.out.now) ≡ true
-sized c = sym c.are_sized.ensures ∙ not-false _ c.if-not-are_sized.false
+sized c = sym c.are_sized.ensures ∙ c.if-not-are_sized.false
 
 parts : (c : TheElse1) → Sized (length c.args.numbers.now) (length c.args.bytes.now) (length c.args.out.now)
 parts c = sized-parts _ _ _ (sized c)
@@ -41,11 +41,11 @@ in_range-requires c = (parts c.before).state
 pub returns-then-not-in_range : goal.returns-then-not-in_range
 returns-then-not-in_range c =
     let s = c.before.before.before.before.before.before.before.before.args in
-    unranged finish_of s.numbers.now s.bytes.now (sized c.before.before.before.before) (sym c.in_range.ensures ∙ not-true _ c.if-not-in_range.true) (told c.minus.type_inv ∙ c.minus.ensures)
+    unranged finish_of s.numbers.now s.bytes.now (sized c.before.before.before.before) (sym c.in_range.ensures ∙ c.if-not-in_range.true) (told c.minus.type_inv ∙ c.minus.ensures)
 
 -- past the second: the counts and the flags
 good : (c : TheElse2) → state_range c.before.before.before.before.before.before.before.args.numbers.now ≡ true
-good c = sym c.in_range.ensures ∙ not-false _ c.if-not-in_range.false
+good c = sym c.in_range.ensures ∙ c.if-not-in_range.false
 
 pub stream_from-requires : goal.stream_from-requires
 stream_from-requires c = ((parts c.before.before.before.before.before).state, (parts c.before.before.before.before.before).line, good c.before.before)

@@ -31,7 +31,7 @@ TheStart = lts.Start tie.the-claims reads.Pre reads.Post
 pub returns-then-not-are_sized : goal.returns-then-not-are_sized
 returns-then-not-are_sized c =
     let s = c.args in
-    unsized s.first-profile s.second-profile s.first.now s.second.now s.out.now (sym c.are_sized.ensures ∙ not-true _ c.if-not-are_sized.true)
+    unsized s.first-profile s.second-profile s.first.now s.second.now s.out.now (sym c.are_sized.ensures ∙ c.if-not-are_sized.true)
 
 -- the two chains joined
 module _ (c : TheAfterJoin) where
@@ -54,7 +54,7 @@ module _ (c : TheAfterJoin) where
   room = start.args.out.now
 
   sized : room_for_eight (length rows) (length more) (length room) ≡ true
-  sized = sym c.are_sized.ensures ∙ not-false _ c.if-not-are_sized.false
+  sized = sym c.are_sized.ensures ∙ c.if-not-are_sized.false
 
   is : c.join-joined.result ≡ join_of (chain_from one rows) (chain_from two more)
   is =

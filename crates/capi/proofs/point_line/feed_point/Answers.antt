@@ -24,7 +24,7 @@ returns-then-not-printed c =
     let p = c.before.before.before.before.before in
     let s = p in
     let n = s.args in
-    point-state n.numbers.now n.bytes.now s.requires.0 s.requires.1 s.requires.6 n.text.now s.requires.7 n.end n.out.now n.told.now p.print_in-printed.ensures (not-true _ c.if-not-printed.true)
+    point-state n.numbers.now n.bytes.now s.requires.0 s.requires.1 s.requires.6 n.text.now s.requires.7 n.end n.out.now n.told.now p.print_in-printed.ensures (c.if-not-printed.true)
     (told c.minus.type_inv ∙ c.minus.ensures)
 
 pub slice_set_of-told : goal.slice_set_of-told
@@ -39,7 +39,7 @@ overflow_cast-result c =
     let p = i.before.before.before.before in
     let s = p in
     let n = s.args in
-    let f = point-fits n.numbers.now n.bytes.now s.requires.0 s.requires.1 s.requires.6 n.text.now s.requires.7 n.end n.out.now n.told.now p.print_in-printed.ensures (not-false _ i.if-not-printed.false) in
+    let f = point-fits n.numbers.now n.bytes.now s.requires.0 s.requires.1 s.requires.6 n.text.now s.requires.7 n.end n.out.now n.told.now p.print_in-printed.ensures (i.if-not-printed.false) in
     record { sfits = omega (arith, f) }
 
 pub shape_of-out : goal.shape_of-out
@@ -53,5 +53,5 @@ returns c =
     let p = i.before.before.before.before in
     let s = p in
     let n = s.args in
-    point-told n.numbers.now n.bytes.now s.requires.0 s.requires.1 s.requires.6 n.text.now s.requires.7 n.end n.out.now n.told.now p.print_in-printed.ensures (not-false _ i.if-not-printed.false) s.requires.3 s.requires.4
+    point-told n.numbers.now n.bytes.now s.requires.0 s.requires.1 s.requires.6 n.text.now s.requires.7 n.end n.out.now n.told.now p.print_in-printed.ensures (i.if-not-printed.false) s.requires.3 s.requires.4
     k.put_passed.ensures (b.put_bytes.ensures ∙ no-bytes-is) (two n.told.now (to_z w64 n.end) (pos 1) s.requires.4 ∙ ap (λ (z : ℤ). z ∷ pos 1 ∷ []) (to_z_pos w64 n.end s.requires.5))

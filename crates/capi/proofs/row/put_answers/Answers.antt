@@ -17,7 +17,7 @@ use Rattle.capi.proofs.row.put_answers.Reads as reads
 use Rattle.capi.proofs.row.put_answers.Goals as goal
 
 abbrev TheAfterPutAnswerArg : Type 0
-TheAfterPutAnswerArg = lts.After-put_answer-arg tie.the-claims reads.Pre reads.Post
+TheAfterPutAnswerArg = lts.After-put_answer-arg tie.the-claims reads.Pre reads.Post goal.the-invariant-loop-i goal.the-decreases-loop-i
 
 pub loop-i-init : goal.loop-i-init
 loop-i-init c =
@@ -26,7 +26,7 @@ loop-i-init c =
     (omega arith, refl, ap (λ (n : ℕ). sets s.out.now 0 (answers_of (convert_ready s.ready s.direction) n s.points.now)) z)
 
 -- there is room for the answer
-room : (c : TheAfterPutAnswerArg invariant-loop decreases-loop) → 8 * c.loop-i.i + 8 ≤ length c.loop-i.out
+room : (c : TheAfterPutAnswerArg) → 8 * c.loop-i.i + 8 ≤ length c.loop-i.out
 room c =
     let k = c.loop-i in
     omega (arith, k.invariant.1, c.loop-i-test.true, c.requires)

@@ -31,7 +31,7 @@ TheStart = lts.Start tie.the-claims reads.Pre reads.Post
 pub returns-then-not-are_whole : goal.returns-then-not-are_whole
 returns-then-not-are_whole c =
     let s = c.args in
-    unsized s.profile s.direction s.chain.now s.points.now s.answers.now (sym c.are_whole.ensures ∙ not-true _ c.if-not-are_whole.true)
+    unsized s.profile s.direction s.chain.now s.points.now s.answers.now (sym c.are_whole.ensures ∙ c.if-not-are_whole.true)
 
 -- whole rows, and what they are refused for before the chain
 module _ (c : TheAfterLentFault) where
@@ -54,7 +54,7 @@ module _ (c : TheAfterLentFault) where
   answers = start.args.answers.now
 
   sized : whole_rows (length steps) (length points) (length answers) ≡ true
-  sized = sym c.are_whole.ensures ∙ not-false _ c.if-not-are_whole.false
+  sized = sym c.are_whole.ensures ∙ c.if-not-are_whole.false
 
   found : c.lent_fault-lent.result ≡ first (lent_tests direction (length points / 7) (length answers / 8))
   found = c.lent_fault-lent.ensures ∙ ap (λ (d : ℤ). first (lent_tests d (length points / 7) (length answers / 8))) (rd start.ranges.direction)

@@ -13,7 +13,7 @@ unfolding state_range
 returns c =
     ap₂ ◌&&◌
     (ap₂ ◌&&◌
-    (ap₂ ◌&&◌ (c.within.ensures ∙ ap (λ (z : ℤ). within (pos 0) z (pos 1000000)) (told c.Within-arg.given))
+    (ap₂ ◌&&◌ (c.within.ensures ∙ ap (λ (z : ℤ). within (pos 0) z (pos 1000000)) (told c.within-arg-1.given))
     (c.within-2.ensures ∙ ap (λ (z : ℤ). within (pos 0) z (pos 200)) (told c.within-arg-2-1.given)))
     (c.within-3.ensures ∙ ap (λ (z : ℤ). within (pos 0) z (pos 8)) (told c.within-arg-3-1.given)))
     (ap₂ ◌&&◌

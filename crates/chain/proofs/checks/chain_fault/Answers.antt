@@ -21,12 +21,12 @@ marked : (c : TheAfterIsProfile) (b : Bool) → c.is_profile.result ≡ b → pr
 marked c b e = sym (c.is_profile.ensures ∙ ap profile_range (told c.struct_told-1.given.1.1.0.1)) ∙ e
 
 pub returns-then-not-is_profile : goal.returns-then-not-is_profile
-returns-then-not-is_profile c = let m = marked c.before _ (not-true _ c.if-not-is_profile.true) in rw m
+returns-then-not-is_profile c = let m = marked c.before _ (c.if-not-is_profile.true) in rw m
 
 pub returns-then-chain-gt8 : goal.returns-then-chain-gt8
 returns-then-chain-gt8 c =
     let s = c in
-    let m = marked c.before.before.before _ (not-false _ c.if-not-is_profile.false) in
+    let m = marked c.before.before.before _ (c.if-not-is_profile.false) in
     let a = lt-ltb 8 s.args.chain.length c.if-chain-gt8.true in
     rw (m, a)
 
@@ -36,6 +36,6 @@ steps_fault-requires c = c.if-chain-gt8.false
 pub returns : goal.returns
 returns c =
     let s = c in
-    let m = marked c.before.before.before.before _ (not-false _ c.if-not-is_profile.false) in
+    let m = marked c.before.before.before.before _ (c.if-not-is_profile.false) in
     let a = le-ltb 8 s.args.chain.length c.if-chain-gt8.false in
     c.steps_fault.ensures ∙ (rw (m, a))

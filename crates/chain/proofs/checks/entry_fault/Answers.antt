@@ -52,7 +52,7 @@ module _ (c : TheElse1) where
 pub returns-then-not-same_realization : goal.returns-then-not-same_realization
 returns-then-not-same_realization c =
     let t = c.before.before.before in
-    let a = sym c.same_realization.ensures ∙ not-true _ c.if-not-same_realization.true in
+    let a = sym c.same_realization.ensures ∙ c.if-not-same_realization.true in
     let e : ◌≡◌ {A = ℕ} refusal.start (first (realization_and_area_tests (point t) (wanted t))) = rw a in
     e ∙ realization-and-area t
 
@@ -60,8 +60,8 @@ pub returns-then-not-in_area : goal.returns-then-not-in_area
 returns-then-not-in_area c =
     let d = c.before.before.before in
     let t = d.before.before.before in
-    let a = sym d.same_realization.ensures ∙ not-false _ d.if-not-same_realization.false in
-    let b = sym c.in_area.ensures ∙ not-true _ c.if-not-in_area.true in
+    let a = sym d.same_realization.ensures ∙ d.if-not-same_realization.false in
+    let b = sym c.in_area.ensures ∙ c.if-not-in_area.true in
     let e : ◌≡◌ {A = ℕ} refusal.area (first (realization_and_area_tests (point t) (wanted t))) = rw (a, b) in
     e ∙ realization-and-area t
 
@@ -69,7 +69,7 @@ pub returns : goal.returns
 returns c =
     let d = c.before.before.before in
     let t = d.before.before.before in
-    let a = sym d.same_realization.ensures ∙ not-false _ d.if-not-same_realization.false in
-    let b = sym c.in_area.ensures ∙ not-false _ c.if-not-in_area.false in
+    let a = sym d.same_realization.ensures ∙ d.if-not-same_realization.false in
+    let b = sym c.in_area.ensures ∙ c.if-not-in_area.false in
     let e : ◌≡◌ {A = ℕ} 0 (first (realization_and_area_tests (point t) (wanted t))) = rw (a, b) in
     e ∙ realization-and-area t

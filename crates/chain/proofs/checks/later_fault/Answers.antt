@@ -52,7 +52,7 @@ module _ (c : TheAfterSameRealization) where
   same b e = sym c.same_realization.ensures ∙ e
 
 pub returns-then-not-same_realization : goal.returns-then-not-same_realization
-returns-then-not-same_realization c = let e = same c.before false (not-true _ c.if-not-same_realization.true) in ap (λ (b : Bool). pick (not b) 5 0) (sym e) ∙ joined c.before
+returns-then-not-same_realization c = let e = same c.before false (c.if-not-same_realization.true) in ap (λ (b : Bool). pick (not b) 5 0) (sym e) ∙ joined c.before
 
 pub returns : goal.returns
-returns c = let e = same c.before true (not-false _ c.if-not-same_realization.false) in ap (λ (b : Bool). pick (not b) 5 0) (sym e) ∙ joined c.before
+returns c = let e = same c.before true (c.if-not-same_realization.false) in ap (λ (b : Bool). pick (not b) 5 0) (sym e) ∙ joined c.before

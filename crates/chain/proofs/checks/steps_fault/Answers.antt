@@ -20,33 +20,33 @@ use Rattle.chain.proofs.checks.steps_fault.Reads as reads
 use Rattle.chain.proofs.checks.steps_fault.Goals as goal
 
 abbrev TheAfterLaterFault : Type 0
-TheAfterLaterFault = lts.After-later_fault tie.the-claims reads.Pre reads.Post
+TheAfterLaterFault = lts.After-later_fault tie.the-claims reads.Pre reads.Post goal.the-invariant-loop-i goal.the-decreases-loop-i
 
 abbrev TheAfterStepFault : Type 0
-TheAfterStepFault = lts.After-step_fault tie.the-claims reads.Pre reads.Post
+TheAfterStepFault = lts.After-step_fault tie.the-claims reads.Pre reads.Post goal.the-invariant-loop-i goal.the-decreases-loop-i
 
 abbrev TheAtLoop : Type 0
-TheAtLoop = lts.At-loop tie.the-claims reads.Pre reads.Post
+TheAtLoop = lts.At-loop tie.the-claims reads.Pre reads.Post goal.the-invariant-loop-i goal.the-decreases-loop-i
 
 abbrev TheStart : Type 0
-TheStart = lts.Start tie.the-claims reads.Pre reads.Post
+TheStart = lts.Start tie.the-claims reads.Pre reads.Post goal.the-invariant-loop-i goal.the-decreases-loop-i
 
-long : (s : TheStart invariant-loop decreases-loop) → length s.args.chain.steps ≡ 8
+long : (s : TheStart) → length s.args.chain.steps ≡ 8
 long s = sym (length-map s.args.chain.steps _) ∙ s.well_formed.0.1.1.0.1.0.1
 
 pub returns-then-n-eq0 : goal.returns-then-n-eq0
 returns-then-n-eq0 c = let s = c in ap (λ (n : ℕ). first (steps_tests s.args.chain.profile (take n s.args.chain.steps))) (sym c.if-n-eq0.true)
 
 -- the first step's tests, then the others'
-module _ (s : TheStart invariant-loop decreases-loop) where
+module _ (s : TheStart) where
   abbrev profile : ℤ
-  profile = s.args.t1.profile
+  profile = s.args.chain.profile
 
   abbrev steps : List Step
-  steps = s.args.t1.steps
+  steps = s.args.chain.steps
 
   abbrev count : ℕ
-  count = s.args.t1.length
+  count = s.args.chain.length
 
   abbrev rest : ℕ
   rest = first (later_tests profile (get_or steps 0 step_past_end) (drop 1 (take count steps)))
@@ -56,15 +56,15 @@ module _ (s : TheStart invariant-loop decreases-loop) where
   begin h = first-tests profile steps count (omega arith) (omega (arith, long s))
 
 -- what the first step by itself is refused for
-module _ (c : TheAfterStepFault invariant-loop decreases-loop) where
-  abbrev start : TheStart invariant-loop decreases-loop
+module _ (c : TheAfterStepFault) where
+  abbrev start : TheStart
   start = c.before.before.before.before
 
-  own : c.step-fault.result ≡ step_fault (profile start) (get_or (steps start) 0 step_past_end)
-  own = c.step-fault.ensures ∙ ap (λ (y : ℤ). step_fault y (get_or (steps start) 0 step_past_end)) (told c.before.struct_told.given.1.1.0.1)
+  own : c.step_fault-f.result ≡ step_fault (profile start) (get_or (steps start) 0 step_past_end)
+  own = c.step_fault-f.ensures ∙ ap (λ (y : ℤ). step_fault y (get_or (steps start) 0 step_past_end)) (told c.struct_told-1.given.1.1.0.1)
 
   begun : first (steps_tests (profile start) (take (count start) (steps start))) ≡ or_else (step_fault (profile start) (get_or (steps start) 0 step_past_end)) (rest start)
-  begun = begin start c.before.before.before.if1.false
+  begun = begin start c.if-n-eq0.false
 
 pub returns-then-f-ne0 : goal.returns-then-f-ne0
 returns-then-f-ne0 c =
@@ -79,32 +79,32 @@ loop-i-init c =
     (omega (arith, c.if-n-eq0.false), sym (begun c.before ∙ or_else-right (step_fault (profile s) (get_or (steps s) 0 step_past_end)) (rest s) (sym f ∙ c.if-f-ne0.false)))
 
 -- a turn: the step at index i, then the rest
-module _ (c : TheAfterLaterFault invariant-loop decreases-loop) where
-  abbrev s : TheStart invariant-loop decreases-loop
+module _ (c : TheAfterLaterFault) where
+  abbrev s : TheStart
   s = c.before.before.before.before.before.before.before.before.before.before
 
-  abbrev at : TheAtLoop invariant-loop decreases-loop
+  abbrev at : TheAtLoop
   at = c.before.before.before.before
 
   abbrev i : ℕ
-  i = at.loop.i
+  i = at.loop-i.i
 
   abbrev here : Step
   here = get_or (steps s) i step_past_end
 
   abbrev one : ℕ
-  one = first (step_tests (profile s) here ++ (join_test at.loop.previous here ∷ []))
+  one = first (step_tests (profile s) here ++ (join_test at.loop-i.previous here ∷ []))
 
   abbrev after : ℕ
   after = first (later_tests (profile s) here (drop (i + 1) (take (count s) (steps s))))
 
   turn : or_else one after ≡ first (steps_tests (profile s) (take (count s) (steps s)))
   turn =
-      let l = c.before.before.before.loop-test.true in
-      sym (later-from (steps s) (count s) i l (omega (arith, long s, l)) (profile s) at.loop.previous) ∙ at.loop.inv.1
+      let l = c.loop-i-test.true in
+      sym (later-from (steps s) (count s) i l (omega (arith, long s, l)) (profile s) at.loop-i.previous) ∙ at.loop-i.inv.1
 
-  found : c.later-fault.result ≡ one
-  found = c.later-fault.ensures ∙ ap (λ (y : ℤ). first (step_tests y here ++ (join_test at.loop.previous here ∷ []))) (told c.before.struct-told2.given.1.1.0.1)
+  found : c.later_fault-f.result ≡ one
+  found = c.later_fault-f.ensures ∙ ap (λ (y : ℤ). first (step_tests y here ++ (join_test at.loop-i.previous here ∷ []))) (told c.struct_told-in-loop-i-1.given.1.1.0.1)
 
 pub returns-then-f-ne0-2 : goal.returns-then-f-ne0-2
 returns-then-f-ne0-2 c =

@@ -21,13 +21,13 @@ TheStart = lts.Start tie.the-claims reads.Pre reads.Post
 
 pub returns-then-not-point_in_range : goal.returns-then-not-point_in_range
 unfolding point_fault
-returns-then-not-point_in_range c = let a = sym c.point_in_range.ensures ∙ not-true _ c.if-not-point_in_range.true in rw a
+returns-then-not-point_in_range c = let a = sym c.point_in_range.ensures ∙ c.if-not-point_in_range.true in rw a
 
 pub returns-then-not-agrees : goal.returns-then-not-agrees
 unfolding point_fault
 returns-then-not-agrees c =
-    let a = sym c.point_in_range.ensures ∙ not-false _ c.if-not-point_in_range.false in
-    let b = sym c.agrees.ensures ∙ not-true _ c.if-not-agrees.true in
+    let a = sym c.point_in_range.ensures ∙ c.if-not-point_in_range.false in
+    let b = sym c.agrees.ensures ∙ c.if-not-agrees.true in
     rw (a, b)
 
 -- past the first two tests
@@ -39,18 +39,18 @@ module _ (c : TheAfterHasDatum) where
   start = at.before.before.before.before.before
 
   in-range : point_range start.args.point ≡ true
-  in-range = sym at.point_in_range.ensures ∙ not-false _ at.if-not-point_in_range.false
+  in-range = sym at.point_in_range.ensures ∙ at.if-not-point_in_range.false
 
   agree : agrees start.args.point.realization ≡ true
-  agree = sym at.agrees.ensures ∙ not-false _ at.if-not-agrees.false
+  agree = sym at.agrees.ensures ∙ at.if-not-agrees.false
 
   had : (b : Bool) → c.has_datum.result ≡ b → has_datum start.args.profile start.args.point.realization ≡ b
   had b e = sym (c.has_datum.ensures ∙ ap (λ (y : ℤ). has_datum y start.args.point.realization) (rd start.ranges.profile)) ∙ e
 
 pub returns-then-not-has_datum : goal.returns-then-not-has_datum
 unfolding point_fault
-returns-then-not-has_datum c = let d = had c.before _ (not-true _ c.if-not-has_datum.true) in rw (in-range c.before, agree c.before, d)
+returns-then-not-has_datum c = let d = had c.before _ (c.if-not-has_datum.true) in rw (in-range c.before, agree c.before, d)
 
 pub returns : goal.returns
 unfolding point_fault
-returns c = let d = had c.before _ (not-false _ c.if-not-has_datum.false) in rw (in-range c.before, agree c.before, d)
+returns c = let d = had c.before _ (c.if-not-has_datum.false) in rw (in-range c.before, agree c.before, d)

@@ -21,37 +21,37 @@ use Rattle.chain.proofs.lent.are_good.Reads as reads
 use Rattle.chain.proofs.lent.are_good.Goals as goal
 
 abbrev TheAfterDoesFollow : Type 0
-TheAfterDoesFollow = lts.After-does_follow tie.the-claims reads.Pre reads.Post
+TheAfterDoesFollow = lts.After-does_follow tie.the-claims reads.Pre reads.Post goal.the-invariant-loop-i goal.the-decreases-loop-i
 
 abbrev TheAfterIsDated : Type 0
-TheAfterIsDated = lts.After-is_dated tie.the-claims reads.Pre reads.Post
+TheAfterIsDated = lts.After-is_dated tie.the-claims reads.Pre reads.Post goal.the-invariant-loop-i goal.the-decreases-loop-i
 
 abbrev TheAtLoop : Type 0
-TheAtLoop = lts.At-loop tie.the-claims reads.Pre reads.Post
+TheAtLoop = lts.At-loop tie.the-claims reads.Pre reads.Post goal.the-invariant-loop-i goal.the-decreases-loop-i
 
 abbrev TheElse2 : Type 0
-TheElse2 = lts.Else2 tie.the-claims reads.Pre reads.Post
+TheElse2 = lts.Else2 tie.the-claims reads.Pre reads.Post goal.the-invariant-loop-i goal.the-decreases-loop-i
 
 abbrev TheStart : Type 0
-TheStart = lts.Start tie.the-claims reads.Pre reads.Post
+TheStart = lts.Start tie.the-claims reads.Pre reads.Post goal.the-invariant-loop-i goal.the-decreases-loop-i
 
 pub returns-then-n-eq0 : goal.returns-then-n-eq0
 unfolding good_steps
 returns-then-n-eq0 c = let s = c.args in ap (λ (n : ℕ). good_steps s.profile (take n (eight_from s.steps.now))) (sym c.if-n-eq0.true)
 
 -- whether the first step begins well
-first-end : (c : TheAfterIsDated invariant-loop decreases-loop) (b : Bool) → c.is_dated.result ≡ b → dated c.args.profile (step_from c.args.steps.now).before ≡ b
+first-end : (c : TheAfterIsDated) (b : Bool) → c.is_dated.result ≡ b → dated c.args.profile (step_from c.args.steps.now).before ≡ b
 first-end c b e = sym (c.is_dated.ensures ∙ ap₂ dated (rd c.ranges.profile) c.before_in-end.ensures) ∙ e
 
 pub returns-then-not-is_dated : goal.returns-then-not-is_dated
 returns-then-not-is_dated c =
     let s = c in
-    let d = first-end c.before false (not-true _ c.if-not-is_dated.true) in
+    let d = first-end c.before false (c.if-not-is_dated.true) in
     sym (good-begins s.args.profile s.args.steps.now s.requires (omega (arith, c.if-n-eq0.false)) ∙ (rw d))
 
 -- the first step begins well: the others decide
-module _ (c : TheElse2 invariant-loop decreases-loop) where
-  abbrev start : TheStart invariant-loop decreases-loop
+module _ (c : TheElse2) where
+  abbrev start : TheStart
   start = c.before.before.before.before
 
   abbrev ns : List ℤ
@@ -60,33 +60,33 @@ module _ (c : TheElse2 invariant-loop decreases-loop) where
   abbrev year : ℤ
   year = to_z w64 (of_z w64 start.args.profile)
 
-  decided : good_steps start.args.profile (steps_in ns) ≡ all_follow year c.before.before.before-in.result (steps_in ns)
+  decided : good_steps start.args.profile (steps_in ns) ≡ all_follow year c.before_in-end.result (steps_in ns)
   decided =
-      good-begins start.args.profile ns start.pre (omega (arith, c.before.before.before.if1.false))
-      ∙ ap₂ ◌&&◌ (first-end c.before true (not-false _ c.if2.false)) (ap₂ (λ (y : ℤ) (r : Realization). all_follow y r (steps_in ns)) (sym (rd start.ranges.profile)) (sym c.before.before.before-in.ensures))
+      good-begins start.args.profile ns start.requires (omega (arith, c.if-n-eq0.false))
+      ∙ ap₂ ◌&&◌ (first-end c.before true (c.if-not-is_dated.false)) (ap₂ (λ (y : ℤ) (r : Realization). all_follow y r (steps_in ns)) (sym (rd start.ranges.profile)) (sym c.before_in-end.ensures))
 
 pub loop-i-init : goal.loop-i-init
 loop-i-init c = (omega arith, refl)
 
 -- a turn: the step at index i, then the rest
-module _ (c : TheAfterDoesFollow invariant-loop decreases-loop) where
-  abbrev from : TheElse2 invariant-loop decreases-loop
+module _ (c : TheAfterDoesFollow) where
+  abbrev from : TheElse2
   from = c.before.before.before.before
 
-  abbrev at : TheAtLoop invariant-loop decreases-loop
+  abbrev at : TheAtLoop
   at = c.before.before.before
 
   abbrev all : Bool
-  all = all_follow (year from) from.before.before.before-in.result (steps_in (ns from))
+  all = all_follow (year from) from.before_in-end.result (steps_in (ns from))
 
-  found : (b : Bool) → c.does-follow.result ≡ b → follows (year from) at.loop.end (step_from (drop (13 * at.loop.i) (ns from))) ≡ b
-  found b e = ap (λ (l : List ℤ). follows (year from) at.loop.end (step_from l)) (sym (rest-is (ns from) (13 * at.loop.i))) ∙ sym c.does-follow.ensures ∙ e
+  found : (b : Bool) → c.does_follow.result ≡ b → follows (year from) at.loop-i.end (step_from (drop (13 * at.loop-i.i) (ns from))) ≡ b
+  found b e = ap (λ (l : List ℤ). follows (year from) at.loop-i.end (step_from l)) (sym (rest-is (ns from) (13 * at.loop-i.i))) ∙ sym c.does_follow.ensures ∙ e
 
 pub returns-then-not-does_follow : goal.returns-then-not-does_follow
 returns-then-not-does_follow c =
     let a = c.before in
     let e = from a in
-    ends_there (year e) (ns e) (start e).pre (at a).loop.i a.loop-i-test.true (at a).loop.end (all a) (at a).loop.invariant.1 (found a false (not-true _ c.if-not-does_follow.true))
+    ends_there (year e) (ns e) (start e).pre (at a).loop.i a.loop-i-test.true (at a).loop.end (all a) (at a).loop.invariant.1 (found a false (c.if-not-does_follow.true))
     ∙ sym (decided e)
 
 pub loop-i-preserved : goal.loop-i-preserved
@@ -95,7 +95,7 @@ loop-i-preserved c =
     let e = from a in (
       omega arith,
       ap (λ (r : Realization). all_follow (year e) r (drop ((at a).loop.i + 1) (steps_in (ns e)))) c.after_at-end.ensures
-          ∙ goes_on (year e) (ns e) (start e).pre (at a).loop.i a.loop-i-test.true (at a).loop.end (all a) (at a).loop.invariant.1 (found a true (not-false _ c.if-not-does_follow.false)),
+          ∙ goes_on (year e) (ns e) (start e).pre (at a).loop.i a.loop-i-test.true (at a).loop.end (all a) (at a).loop.invariant.1 (found a true (c.if-not-does_follow.false)),
     )
 
 pub returns : goal.returns

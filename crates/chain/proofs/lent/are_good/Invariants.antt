@@ -17,7 +17,7 @@ use Rattle.chain.proofs.LentSteps.{rest-is, good-begins, ends_there, goes_on}
 use Rattle.chain.proofs.lent.are_good.Given as goal
 
 abbrev pub invariant-loop-i : goal.invariant-loop-i
-invariant-loop-i l = (l.i ≤ l.n) × (all_follow (to_z w64 l.profile) l.end (drop l.i (steps_in l.steps)) ≡ all_follow (to_z w64 l.profile) l.initial.end (steps_in l.steps))
+invariant-loop-i l = (l.i ≤ l.n) × (all_follow l.profile l.end (drop l.i (steps_in l.steps)) ≡ all_follow l.profile l.initial.end (steps_in l.steps))
 
 abbrev pub decreases-loop-i : goal.decreases-loop-i
 decreases-loop-i l = l.n - l.i

@@ -31,7 +31,7 @@ tested c b e =
 
 pub returns-then-not-same_realization-is_dated : goal.returns-then-not-same_realization-is_dated
 unfolding follows
-returns-then-not-same_realization-is_dated c = let t = tested c.before false (not-true _ c.if-not-same_realization-is_dated.true) in rw t
+returns-then-not-same_realization-is_dated c = let t = tested c.before false (c.if-not-same_realization-is_dated.true) in rw t
 
 -- then the kind, between what was read
 module _ (s : TheStart) where
@@ -42,6 +42,6 @@ module _ (s : TheStart) where
 pub returns : goal.returns
 unfolding follows
 returns c =
-    let t = tested c.before.before true (not-false _ c.if-not-same_realization-is_dated.false) in
+    let t = tested c.before.before true (c.if-not-same_realization-is_dated.false) in
     let s = c.before.before.before.before.before.before in
     rw t (c.is_good_kind.ensures ∙ read s (rd s.ranges.profile) c.before_in-before.ensures c.after_in-after.ensures)

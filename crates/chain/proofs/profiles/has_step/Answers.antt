@@ -26,7 +26,7 @@ pub returns-then-not-equal : goal.returns-then-not-equal
 returns-then-not-equal c =
     let s = c in
     let e = c.equal.ensures ∙ ap (λ (z : ℤ). equal (pos 2009) z) (rd s.ranges.profile) in
-    lacks-none s.args.profile s.args.step (sym e ∙ not-true _ c.if-not-equal.true)
+    lacks-none s.args.profile s.args.step (sym e ∙ c.if-not-equal.true)
 
 pub returns : goal.returns
 unfolding has_step

@@ -30,13 +30,13 @@ returns-then-fault-ne0 c =
 pub returns-in-Forward : goal.returns-in-Forward
 returns-in-Forward c =
     let e = c.before.before.before.before.before in
-    let s = e.before.before.before.args in
+    let s = e.before.before.args in
     c.forward_prepared.ensures ∙ ap (λ (d : Direction). convert_prepared d s.t1.numbers s.point) (sym c.enum_told.given.1)
     ∙ ready-goes s.t1 s.direction s.point e.if1.false (sym (found e) ∙ c.if2.false)
 
 pub returns-in-Inverse : goal.returns-in-Inverse
 returns-in-Inverse c =
     let e = c.before.before.before.before.before in
-    let s = e.before.before.before.args in
+    let s = e.before.before.args in
     c.inverse_prepared.ensures ∙ ap (λ (d : Direction). convert_prepared d s.t1.numbers s.point) (sym c.enum-told2.given.1)
     ∙ ready-goes s.t1 s.direction s.point e.if1.false (sym (found e) ∙ c.if2.false)

@@ -18,23 +18,23 @@ use Rattle.chain.proofs.row.prepare_steps.Reads as reads
 use Rattle.chain.proofs.row.prepare_steps.Goals as goal
 
 abbrev TheStart : Type 0
-TheStart = lts.Start tie.the-claims reads.Pre reads.Post
+TheStart = lts.Start tie.the-claims reads.Pre reads.Post goal.the-invariant-loop-i goal.the-decreases-loop-i
 
-module _ (s : TheStart invariant-loop decreases-loop) where
+module _ (s : TheStart) where
   abbrev steps : List Step
-  steps = s.args.t1.steps
+  steps = s.args.chain.steps
 
   abbrev count : ℕ
-  count = s.args.t1.length
+  count = s.args.chain.length
 
   abbrev profile : ℤ
-  profile = s.args.t1.profile
+  profile = s.args.chain.profile
 
   long : length steps ≡ 8
   long = sym (length-map steps _) ∙ s.good.0.1.1.0.1.0.1
 
   few : count ≤ 8
-  few = (chain-passed s.args.t1 s.pre).0
+  few = (chain-passed s.args.chain s.requires).0
 
 pub loop-i-init : goal.loop-i-init
 loop-i-init c = (omega arith, refl)

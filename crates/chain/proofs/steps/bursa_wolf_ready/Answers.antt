@@ -26,19 +26,19 @@ in-range e f h l = to₂ (λ (r s : ℤ). (nat_abs r ≤ 1000000) × (nat_abs s 
 
 pub turned-rx-requires : goal.turned-rx-requires
 turned-rx-requires c =
-    let o = ranges c.before.before in
+    let o = ranges c.before.before.before in
     let t = c.args.t in
     in-range (told {z = t.rx} c.struct_told-1.given.1.1.1.1.0.1) (told {z = t.s} c.struct_told-2-1.given.1.1.1.1.1.1.1.0.1) o.rx o.s
 
 pub turned-ry-requires : goal.turned-ry-requires
 turned-ry-requires c =
-    let o = ranges c.before.before.before.before.before in
+    let o = ranges c.before.before.before.before.before.before in
     let t = c.args.t in
     in-range (told {z = t.ry} c.struct_told-3-1.given.1.1.1.1.1.0.1) (told {z = t.s} c.struct_told-4-1.given.1.1.1.1.1.1.1.0.1) o.ry o.s
 
 pub turned-rz-requires : goal.turned-rz-requires
 turned-rz-requires c =
-    let o = ranges c.before.before.before.before.before.before.before.before in
+    let o = ranges c.before.before.before.before.before.before.before.before.before in
     let t = c.args.t in
     in-range (told {z = t.rz} c.struct_told-5-1.given.1.1.1.1.1.1.0.1) (told {z = t.s} c.struct_told-6-1.given.1.1.1.1.1.1.1.0.1) o.rz o.s
 

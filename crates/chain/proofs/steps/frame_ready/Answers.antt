@@ -98,7 +98,7 @@ module _ (c : TheAfterRow) where
   scale-given = of₃ at_epoch (read 6 212 (ok s).scale.0 (lit< tt)) (read 7 11 (ok s).scale.1 (lit< tt)) (dt c.before.before)
 
 pub overflow_sub-dt : goal.overflow_sub-dt
-overflow_sub-dt c = fit- (told {z = c.args.step.before.epoch} c.struct_told-1.given.1.0.1) epoch0 (f c.before.before.before)
+overflow_sub-dt c = fit- (told {z = c.args.step.before.epoch} c.struct_told-1.given.1.0.1) epoch0 (f c.before.before.before.before)
 
 pub shift_over14-kx-requires : goal.shift_over14-kx-requires
 shift_over14-kx-requires c = shift-asked c.before.before 0 (lit< tt)

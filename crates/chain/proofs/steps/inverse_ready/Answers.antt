@@ -34,4 +34,4 @@ pub returns-in-Turned : goal.returns-in-Turned
 returns-in-Turned c = c.turn_back.ensures ∙ ap (by c.before.before) (sym c.in-Turned.is)
 
 pub returns-in-Scaled : goal.returns-in-Scaled
-returns-in-Scaled c = c.Scale-back.ensures ∙ ap (by c.before.before) (sym c.in-Scaled.is)
+returns-in-Scaled c = c.scale_back.ensures ∙ ap (by c.before.before) (sym c.in-Scaled.is)

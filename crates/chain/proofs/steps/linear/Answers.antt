@@ -68,13 +68,13 @@ module _ (s : TheStart) where
   cz = rd* (rd s.ranges.c) z f₃
 
 pub overflow_mul-result : goal.overflow_mul-result
-overflow_mul-result c = let s = c.before.before in fit* (rd s.ranges.a) (x s) (f₁ s)
+overflow_mul-result c = let s = c.before.before.before in fit* (rd s.ranges.a) (x s) (f₁ s)
 
 pub overflow_mul-result-2 : goal.overflow_mul-result-2
-overflow_mul-result-2 c = let s = c.before.before.before.before in fit* (rd s.ranges.b) (y s) (f₂ s)
+overflow_mul-result-2 c = let s = c.before.before.before.before.before in fit* (rd s.ranges.b) (y s) (f₂ s)
 
 pub overflow_add-result : goal.overflow_add-result
-overflow_add-result c = let s = c.before.before.before.before in fit+ (ax s) (by s) (f₁₂ s)
+overflow_add-result c = let s = c.before.before.before.before.before in fit+ (ax s) (by s) (f₁₂ s)
 
 pub overflow_mul-result-3 : goal.overflow_mul-result-3
 overflow_mul-result-3 c = let s = c.before.before.before.before.before.before in fit* (rd s.ranges.c) (z s) (f₃ s)

@@ -32,10 +32,10 @@ module _ (s : TheStart) where
       fits 650180000000 (abs (v (coordinate i s.args.p) ⊖ v (coordinate i s.args.g)) (omega arith) (omega arith)) (omega arith)
 
 pub overflow_sub-result : goal.overflow_sub-result
-overflow_sub-result c = let s = c.before.before.before.before in fit- (p s on_x) (g s on_x) (f s on_x)
+overflow_sub-result c = let s = c.before.before.before.before.before in fit- (p s on_x) (g s on_x) (f s on_x)
 
 pub overflow_sub-result-2 : goal.overflow_sub-result-2
-overflow_sub-result-2 c = let s = c.before.before.before.before.before.before.before.before in fit- (p s on_y) (g s on_y) (f s on_y)
+overflow_sub-result-2 c = let s = c.before.before.before.before.before.before.before.before.before in fit- (p s on_y) (g s on_y) (f s on_y)
 
 pub overflow_sub-result-3 : goal.overflow_sub-result-3
 overflow_sub-result-3 c = let s = c.before.before.before.before.before.before.before.before.before.before.before.before in fit- (p s on_z) (g s on_z) (f s on_z)

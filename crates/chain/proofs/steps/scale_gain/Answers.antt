@@ -38,18 +38,18 @@ given k a z = step_round (k +ℤ a *ℤ z) 100000000000000
 
 pub scale_part-x-requires : goal.scale_part-x-requires
 unfolding asked
-scale_part-x-requires c = let s = c.before.before.before in to₃ asked (start s.args.t.kx s.requires.0.kx) (slope s) (at s on_x) (s.requires.0.kx, s.requires.0.slope, s.requires.1.on on_x)
+scale_part-x-requires c = let s = c.before.before.before.before in to₃ asked (start s.args.t.kx s.requires.0.kx) (slope s) (at s on_x) (s.requires.0.kx, s.requires.0.slope, s.requires.1.on on_x)
 
 pub scale_part-y-requires : goal.scale_part-y-requires
 unfolding asked
 scale_part-y-requires c =
-    let s = c.before.before.before.before.before.before.before in
+    let s = c.before.before.before.before.before.before.before.before in
     to₃ asked (start s.args.t.ky s.requires.0.ky) (slope s) (at s on_y) (s.requires.0.ky, s.requires.0.slope, s.requires.1.on on_y)
 
 pub scale_part-z-requires : goal.scale_part-z-requires
 unfolding asked
 scale_part-z-requires c =
-    let s = c.before.before.before.before.before.before.before.before.before.before.before in
+    let s = c.before.before.before.before.before.before.before.before.before.before.before.before in
     to₃ asked (start s.args.t.kz s.requires.0.kz) (slope s) (at s on_z) (s.requires.0.kz, s.requires.0.slope, s.requires.1.on on_z)
 
 pub returns : goal.returns

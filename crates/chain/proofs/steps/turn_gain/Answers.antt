@@ -77,30 +77,30 @@ module _ (s : TheStart) where
   given k a b c = part (over11 k a b c) s.args.p
 
 pub overflow_sub-t : goal.overflow_sub-t
-overflow_sub-t c = let s = c.before.before in fit0- (read (T s).rz (hz s)) (opposite (T s).rz (hz s))
+overflow_sub-t c = let s = c.before.before.before in fit0- (read (T s).rz (hz s)) (opposite (T s).rz (hz s))
 
 pub turn_part-x-requires : goal.turn_part-x-requires
 unfolding asked
-turn_part-x-requires c = let s = c.before.before.before.before.before in to₄ (asked s) (dx s) (sc s) (turned (T s).rz (hz s)) (read (T s).ry (hy s)) (ok-x s)
+turn_part-x-requires c = let s = c.before.before.before.before.before.before in to₄ (asked s) (dx s) (sc s) (turned (T s).rz (hz s)) (read (T s).ry (hy s)) (ok-x s)
 
 pub overflow_sub-t-2 : goal.overflow_sub-t-2
-overflow_sub-t-2 c = let s = c.before.before.before.before.before.before.before.before in fit0- (read (T s).rx (hx s)) (opposite (T s).rx (hx s))
+overflow_sub-t-2 c = let s = c.before.before.before.before.before.before.before.before.before in fit0- (read (T s).rx (hx s)) (opposite (T s).rx (hx s))
 
 pub turn_part-y-requires : goal.turn_part-y-requires
 unfolding asked
 turn_part-y-requires c =
-    let s = c.before.before.before.before.before.before.before.before.before.before.before in
+    let s = c.before.before.before.before.before.before.before.before.before.before.before.before in
     to₄ (asked s) (dy s) (read (T s).rz (hz s)) (sc s) (turned (T s).rx (hx s)) (ok-y s)
 
 pub overflow_sub-t-3 : goal.overflow_sub-t-3
 overflow_sub-t-3 c =
-    let s = c.before.before.before.before.before.before.before.before.before.before.before.before.before.before in
+    let s = c.before.before.before.before.before.before.before.before.before.before.before.before.before.before.before in
     fit0- (read (T s).ry (hy s)) (opposite (T s).ry (hy s))
 
 pub turn_part-z-requires : goal.turn_part-z-requires
 unfolding asked
 turn_part-z-requires c =
-    let s = c.before.before.before.before.before.before.before.before.before.before.before.before.before.before.before.before.before in
+    let s = c.before.before.before.before.before.before.before.before.before.before.before.before.before.before.before.before.before.before in
     to₄ (asked s) (dz s) (turned (T s).ry (hy s)) (read (T s).rx (hx s)) (sc s) (ok-z s)
 
 pub returns : goal.returns

@@ -70,17 +70,17 @@ overflow_sub-dt c =
 
 pub moved-x-requires : goal.moved-x-requires
 unfolding asked
-moved-x-requires c = let s = c.before.before.before.before.before.before.before in to₂ asked (vx s) (dt c.before) ((ranges s).vx, few s)
+moved-x-requires c = let s = c.before.before.before.before.before.before.before.before in to₂ asked (vx s) (dt c.before.before) ((ranges s).vx, few s)
 
 pub moved-y-requires : goal.moved-y-requires
 unfolding asked
-moved-y-requires c = let s = c.before.before.before.before.before.before.before.before.before in to₂ asked (vy s) (dt c.before.before.before) ((ranges s).vy, few s)
+moved-y-requires c = let s = c.before.before.before.before.before.before.before.before.before.before in to₂ asked (vy s) (dt c.before.before.before.before) ((ranges s).vy, few s)
 
 pub moved-z-requires : goal.moved-z-requires
 unfolding asked
 moved-z-requires c =
-    let s = c.before.before.before.before.before.before.before.before.before.before.before in
-    to₂ asked (vz s) (dt c.before.before.before.before.before) ((ranges s).vz, few s)
+    let s = c.before.before.before.before.before.before.before.before.before.before.before.before in
+    to₂ asked (vz s) (dt c.before.before.before.before.before.before) ((ranges s).vz, few s)
 
 pub returns : goal.returns
 returns c =

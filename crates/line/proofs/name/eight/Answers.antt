@@ -26,7 +26,7 @@ loop-left-preserved c =
     let c3 = c2.before in
     let c6 = c3 in
     let k = c6.loop-left in
-    (N.run_more k.invariant.0 (omega arith) c.wide.result k.scale (omega arith) (sym c2.is_name_byte.ensures ∙ not-false _ c.if-not-is_name_byte.false) c.wide.ensures (omega (arith, c3.shared_slice_known-in-loop-left-1.given k.i)) k.invariant.1, N.scale-next k.invariant.0 (omega arith) k.scale k.invariant.1)
+    (N.run_more k.invariant.0 (omega arith) c.wide.result k.scale (omega arith) (sym c2.is_name_byte.ensures ∙ c.if-not-is_name_byte.false) c.wide.ensures (omega (arith, c3.shared_slice_known-in-loop-left-1.given k.i)) k.invariant.1, N.scale-next k.invariant.0 (omega arith) k.scale k.invariant.1)
 
 pub returns-after-loop-left : goal.returns-after-loop-left
 returns-after-loop-left c = let k = c.loop-left in record { left = k.left; run = k.invariant.0; last = λ h. absurd (omega arith) }
@@ -35,4 +35,4 @@ pub returns-then-s-i : goal.returns-then-s-i
 returns-then-s-i c = let k = c.loop-left in record { left = k.left; run = k.invariant.0; last = λ h. N.past_off c.args.s.now k.i (omega arith) }
 
 pub returns-then-not-is_name_byte : goal.returns-then-not-is_name_byte
-returns-then-not-is_name_byte c = let k = c.loop-left in record { left = k.left; run = k.invariant.0; last = λ h. sym c.is_name_byte.ensures ∙ not-true _ c.if-not-is_name_byte.true }
+returns-then-not-is_name_byte c = let k = c.loop-left in record { left = k.left; run = k.invariant.0; last = λ h. sym c.is_name_byte.ensures ∙ c.if-not-is_name_byte.true }

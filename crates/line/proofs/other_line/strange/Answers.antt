@@ -14,7 +14,7 @@ returns-then-end-line c =
     c.found.ensures ∙ rw (L.body-some line end c.body_end-end.ensures c.if-end-line.true) (L.strange-fields (take end line) (end_of line))
 
 pub found-requires-2 : goal.found-requires-2
-found-requires-2 c = omega (arith, c.end_of_lem.ensures, end_low c.args.line.now)
+found-requires-2 c = omega (arith, c.end_of-last.ensures, end_low c.args.line.now)
 
 pub returns : goal.returns
 unfolding fault_of
@@ -22,4 +22,4 @@ returns c =
     let line = c.args.line.now in
     c.found-2.ensures
     ∙ rw (L.body-none line c.body_end-end.result c.body_end-end.ensures (omega arith))
-    (ap (fault refusal.length) c.end_of_lem.ensures)
+    (ap (fault refusal.length) c.end_of-last.ensures)

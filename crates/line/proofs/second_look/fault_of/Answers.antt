@@ -30,7 +30,7 @@ returns-then-end-line c =
     (ap (λ (e : ℕ). fields_fault (shape_of g.first fs) e fs) c.end_of_lem.ensures)
 
 pub found-requires : goal.found-requires
-found-requires c = omega (arith, c.end_of_lem.ensures, end_low c.args.line.now)
+found-requires c = omega (arith, c.end_of-last.ensures, end_low c.args.line.now)
 
 pub returns : goal.returns
 unfolding fault_of
@@ -38,4 +38,4 @@ returns c =
     let line = c.args.line.now in
     c.found.ensures
     ∙ rw (L.body-none line c.body_end-end.result c.body_end-end.ensures (omega arith))
-    (ap (fault refusal.length) c.end_of_lem.ensures)
+    (ap (fault refusal.length) c.end_of-last.ensures)

@@ -18,7 +18,7 @@ returns-then-not-has_count c =
     let w = n in
     let g = w.args in
     c.found-then-not-has_count.ensures
-    ∙ L.is-count w.letter_place-wrong.ensures g.end (omega arith) refl (eqb-false _ _ (sym n.has_count.ensures ∙ not-true _ c.if-not-has_count.true))
+    ∙ L.is-count w.letter_place-wrong.ensures g.end (omega arith) refl (eqb-false _ _ (sym n.has_count.ensures ∙ c.if-not-has_count.true))
     ∙ L.by_shape g.end (fields g.s.now) w.kind_in-kind.ensures
 
 pub returns-then-seen-s : goal.returns-then-seen-s
@@ -28,7 +28,7 @@ returns-then-seen-s c =
     let w = n in
     let g = w.args in
     c.found-then-seen-s.ensures
-    ∙ L.is-id w.letter_place-wrong.ensures g.end (omega arith) refl (eqb-true _ _ (sym n.has_count.ensures ∙ not-false _ k.if-not-has_count.false)) k.look-seen.ensures
+    ∙ L.is-id w.letter_place-wrong.ensures g.end (omega arith) refl (eqb-true _ _ (sym n.has_count.ensures ∙ k.if-not-has_count.false)) k.look-seen.ensures
     (omega arith)
     ∙ L.by_shape g.end (fields g.s.now) w.kind_in-kind.ensures
 
@@ -39,7 +39,7 @@ returns-then-seen-s-2 c =
     let w = n in
     let g = w.args in
     c.found-then-seen-s-2.ensures
-    ∙ L.is_plain w.letter_place-wrong.ensures g.end (omega arith) refl (eqb-true _ _ (sym n.has_count.ensures ∙ not-false _ k.if-not-has_count.false)) k.look-seen.ensures
+    ∙ L.is_plain w.letter_place-wrong.ensures g.end (omega arith) refl (eqb-true _ _ (sym n.has_count.ensures ∙ k.if-not-has_count.false)) k.look-seen.ensures
     (omega arith) (omega arith)
     ∙ L.by_shape g.end (fields g.s.now) w.kind_in-kind.ensures
 
@@ -50,6 +50,6 @@ returns c =
     let w = n in
     let g = w.args in
     c.found-2.ensures
-    ∙ L.is_none w.letter_place-wrong.ensures g.end (omega arith) refl (eqb-true _ _ (sym n.has_count.ensures ∙ not-false _ k.if-not-has_count.false)) k.look-seen.ensures
+    ∙ L.is_none w.letter_place-wrong.ensures g.end (omega arith) refl (eqb-true _ _ (sym n.has_count.ensures ∙ k.if-not-has_count.false)) k.look-seen.ensures
     (omega arith) (omega arith)
     ∙ L.by_shape g.end (fields g.s.now) w.kind_in-kind.ensures

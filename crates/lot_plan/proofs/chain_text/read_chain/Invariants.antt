@@ -10,7 +10,7 @@ use borrow.Author.Rules.{rules}
 use Rattle.lot_plan.proofs.chain_text.read_chain.Given as goal
 
 abbrev pub invariant-loop-from : goal.invariant-loop-from
-invariant-loop-from l = Midway l.text (to_z w64 l.profile) l.numbers l.from
+invariant-loop-from l = Midway l.text l.profile l.numbers l.from
 
 abbrev pub decreases-loop-from : goal.decreases-loop-from
 decreases-loop-from l = length l.text - l.from

@@ -20,8 +20,8 @@ TheStart = lts.Start tie.the-claims reads.Pre reads.Post
 profile : (s : TheStart) → to_z w64 (of_z w64 s.args.profile) ≡ s.args.profile
 profile s = search rules
 
-said : (c : TheAfterReadStep) → read_step c.args.profile c.args.text.now ≡ c.Read-step.result
-said c = sym (rw (profile c.before.before) at c.Read-step.ensures)
+said : (c : TheAfterReadStep) → read_step c.args.profile c.args.text.now ≡ c.read_step.result
+said c = sym (rw (profile c.before.before) at c.read_step.ensures)
 
 pub add_step-requires : goal.add_step-requires
 add_step-requires c = rw (profile c.before.before.before.before) (step-sound _ _ _ (said c.before.before ∙ c.in-Step.is))

@@ -58,7 +58,7 @@ longitude c t h =
 
 pub returns-then-not-is_latitude : goal.returns-then-not-is_latitude
 unfolding in_ranges
-returns-then-not-is_latitude c = rw (latitude c.before false (not-true _ c.if-not-is_latitude.true))
+returns-then-not-is_latitude c = rw (latitude c.before false (c.if-not-is_latitude.true))
 
 pub overflow_sub-centre : goal.overflow_sub-centre
 overflow_sub-centre c = rw (read c.before.before) (west-fits c.before.before)
@@ -68,19 +68,19 @@ overflow_sub-centre-2 c = rw (read c.before.before) (east-fits c.before.before)
 
 pub returns-then-not-within : goal.returns-then-not-within
 unfolding in_ranges
-returns-then-not-within c = rw (latitude c.before.before.before true (not-false _ c.if-not-is_latitude.false), longitude c.before false (not-true _ c.if-not-within.true))
+returns-then-not-within c = rw (latitude c.before.before.before true (c.if-not-is_latitude.false), longitude c.before false (c.if-not-within.true))
 
 pub overflow_add-result : goal.overflow_add-result
 overflow_add-result c =
     let a = c.before.before.before.before in
-    rw (to_z-of_z w64 a.args.difference a.ranges.difference, read a) (longitude-fits (a.args.difference +ℤ a.args.centre) (longitude c.before true (not-false _ c.if-not-within.false)))
+    rw (to_z-of_z w64 a.args.difference a.ranges.difference, read a) (longitude-fits (a.args.difference +ℤ a.args.centre) (longitude c.before true (c.if-not-within.false)))
 
 pub returns : goal.returns
 unfolding in_ranges
 returns c =
     let a = c.before.before.before.before in
-    let l = longitude c.before true (not-false _ c.if-not-within.false) in
+    let l = longitude c.before true (c.if-not-within.false) in
     let i : to_z w64 (of_z w64 a.args.latitude) ≡ a.args.latitude = to_z-of_z w64 a.args.latitude a.ranges.latitude in
     let j : to_z w64 (of_z w64 a.args.difference) ≡ a.args.difference = to_z-of_z w64 a.args.difference a.ranges.difference in
     let m : to_z w64 (of_z w64 (a.args.difference +ℤ a.args.centre)) ≡ a.args.difference +ℤ a.args.centre = to_z-of_z w64 (a.args.difference +ℤ a.args.centre) (longitude-fits (a.args.difference +ℤ a.args.centre) l) in
-    rw (i, j, read a, m, latitude c.before.before.before true (not-false _ c.if-not-is_latitude.false), l)
+    rw (i, j, read a, m, latitude c.before.before.before true (c.if-not-is_latitude.false), l)

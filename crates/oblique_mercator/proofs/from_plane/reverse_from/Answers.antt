@@ -20,19 +20,19 @@ centre c t h = told (pos 35640000000) c.args.p.centre (pos 43200000000) (search 
 
 pub returns-then-not-is_longitude : goal.returns-then-not-is_longitude
 unfolding reverse_from_of
-returns-then-not-is_longitude c = rw (centre c.before false (not-true _ c.if-not-is_longitude.true))
+returns-then-not-is_longitude c = rw (centre c.before false (c.if-not-is_longitude.true))
 
 pub returns-then-not-in_plane : goal.returns-then-not-in_plane
 unfolding reverse_from_of
 returns-then-not-in_plane c =
-    let e = sym (ap₂ ◌&&◌ c.in_plane.ensures c.in_plane-2.ensures) ∙ not-true _ c.if-not-in_plane.true in
-    rw (centre c.before.before.before.before true (not-false _ c.if-not-is_longitude.false), e)
+    let e = sym (ap₂ ◌&&◌ c.in_plane.ensures c.in_plane-2.ensures) ∙ c.if-not-in_plane.true in
+    rw (centre c.before.before.before.before true (c.if-not-is_longitude.false), e)
 
 pub unproject-requires : goal.unproject-requires
-unproject-requires c = centre c.before.before.before.before true (not-false _ c.if-not-is_longitude.false)
+unproject-requires c = centre c.before.before.before.before true (c.if-not-is_longitude.false)
 
 pub returns : goal.returns
 unfolding reverse_from_of
 returns c =
-    let e = sym (ap₂ ◌&&◌ c.in_plane.ensures c.in_plane-2.ensures) ∙ not-false _ c.if-not-in_plane.false in
-    rw (centre c.before.before.before.before.before true (not-false _ c.if-not-is_longitude.false), e) c.unproject.ensures
+    let e = sym (ap₂ ◌&&◌ c.in_plane.ensures c.in_plane-2.ensures) ∙ c.if-not-in_plane.false in
+    rw (centre c.before.before.before.before.before true (c.if-not-is_longitude.false), e) c.unproject.ensures

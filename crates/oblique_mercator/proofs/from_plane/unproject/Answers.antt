@@ -11,7 +11,7 @@ use Rattle.oblique_mercator.proofs.from_plane.unproject.Goals as goal
 pub returns-then-not-gate : goal.returns-then-not-gate
 unfolding reverse_at
 returns-then-not-gate c =
-    let e = sym (c.gate.ensures ∙ ap gate_of c.turn-t.ensures) ∙ not-true _ c.if-not-gate.true in
+    let e = sym (c.gate.ensures ∙ ap gate_of c.turn-t.ensures) ∙ c.if-not-gate.true in
     rw e
 
 pub in_units-requires : goal.in_units-requires
@@ -24,7 +24,7 @@ pub returns : goal.returns
 unfolding reverse_at
 returns c =
     let a = c in
-    let e = sym (c.gate.ensures ∙ ap gate_of c.turn-t.ensures) ∙ not-false _ c.if-not-gate.false in
+    let e = sym (c.gate.ensures ∙ ap gate_of c.turn-t.ensures) ∙ c.if-not-gate.false in
     let f : SFits w64 a.args.p.centre = search rules in
     let i : to_z w64 (of_z w64 a.args.p.centre) ≡ a.args.p.centre = to_z-of_z w64 a.args.p.centre f in
     rw e (cc (c.in_units.ensures, c.find.ensures, c.turn-t.ensures))

@@ -9,11 +9,11 @@ use Rattle.oblique_mercator.proofs.making.make_projection.Goals as goal
 
 pub returns-then-not-in_range : goal.returns-then-not-in_range
 unfolding projection_of
-returns-then-not-in_range c = let e = sym c.in_range.ensures ∙ not-true _ c.if-not-in_range.true in rw e
+returns-then-not-in_range c = let e = sym c.in_range.ensures ∙ c.if-not-in_range.true in rw e
 
 pub made-requires : goal.made-requires
-made-requires c = sym c.in_range.ensures ∙ not-false _ c.if-not-in_range.false
+made-requires c = sym c.in_range.ensures ∙ c.if-not-in_range.false
 
 pub returns : goal.returns
 unfolding projection_of
-returns c = let e = sym c.in_range.ensures ∙ not-false _ c.if-not-in_range.false in rw e (ap Made c.made.ensures)
+returns c = let e = sym c.in_range.ensures ∙ c.if-not-in_range.false in rw e (ap Made c.made.ensures)

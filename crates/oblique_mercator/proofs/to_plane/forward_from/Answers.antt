@@ -40,20 +40,20 @@ longitude c t h =
 
 pub returns-then-not-is_longitude : goal.returns-then-not-is_longitude
 unfolding forward_from_of
-returns-then-not-is_longitude c = rw (centre c.before false (not-true _ c.if-not-is_longitude.true))
+returns-then-not-is_longitude c = rw (centre c.before false (c.if-not-is_longitude.true))
 
 pub returns-then-not-is_latitude : goal.returns-then-not-is_latitude
 unfolding forward_from_of
-returns-then-not-is_latitude c = rw (centre c.before.before.before true (not-false _ c.if-not-is_longitude.false), latitude c.before false (not-true _ c.if-not-is_latitude.true))
+returns-then-not-is_latitude c = rw (centre c.before.before.before true (c.if-not-is_longitude.false), latitude c.before false (c.if-not-is_latitude.true))
 
 pub returns-then-not-is_longitude-2 : goal.returns-then-not-is_longitude-2
 unfolding forward_from_of
-returns-then-not-is_longitude-2 c = rw (centre c.before.before.before.before.before true (not-false _ c.if-not-is_longitude.false), latitude c.before.before.before true (not-false _ c.if-not-is_latitude.false), longitude c.before false (not-true _ c.if-not-is_longitude-2.true))
+returns-then-not-is_longitude-2 c = rw (centre c.before.before.before.before.before true (c.if-not-is_longitude.false), latitude c.before.before.before true (c.if-not-is_latitude.false), longitude c.before false (c.if-not-is_longitude-2.true))
 
 -- past all three
 all : (c : TheElse3)
     → (longitude_range c.args.p.centre ≡ true) × (latitude_range c.args.latitude ≡ true) × (longitude_range c.args.longitude ≡ true)
-all c = (centre c.before.before.before.before.before true (not-false _ c.if-not-is_longitude.false), latitude c.before.before.before true (not-false _ c.if-not-is_latitude.false), longitude c.before true (not-false _ c.if-not-is_longitude-2.false))
+all c = (centre c.before.before.before.before.before true (c.if-not-is_longitude.false), latitude c.before.before.before true (c.if-not-is_latitude.false), longitude c.before true (c.if-not-is_longitude-2.false))
 
 pub project-requires : goal.project-requires
 project-requires c =

@@ -11,14 +11,14 @@ pub take_step-requires : goal.take_step-requires
 take_step-requires c =
     let a = c in
     let y : to_z w64 (of_z w64 a.args.state.profile) ≡ a.args.state.profile = search rules in
-    (a.requires, step-sound _ _ _ (sym (rw y at c.Read-step.ensures) ∙ c.in-Step.is))
+    (a.requires, step-sound _ _ _ (sym (rw y at c.read_step.ensures) ∙ c.in-Step.is))
 
 pub returns-in-Malformed : goal.returns-in-Malformed
 returns-in-Malformed c =
     λ s h.
     let a = c in
     let y : to_z w64 (of_z w64 a.args.state.profile) ≡ a.args.state.profile = search rules in
-    let e = sym (rw (y, h.profile) at c.Read-step.ensures) ∙ c.in-Malformed.is in
+    let e = sym (rw (y, h.profile) at c.read_step.ensures) ∙ c.in-Malformed.is in
     rw e (gave-refusal h _ _ _ _ refl h.closed _ _ _ c.malformed.ensures)
 
 pub returns-in-Refused : goal.returns-in-Refused
@@ -26,7 +26,7 @@ returns-in-Refused c =
     λ s h.
     let a = c in
     let y : to_z w64 (of_z w64 a.args.state.profile) ≡ a.args.state.profile = search rules in
-    let e = sym (rw (y, h.profile) at c.Read-step.ensures) ∙ c.in-Refused.is in
+    let e = sym (rw (y, h.profile) at c.read_step.ensures) ∙ c.in-Refused.is in
     rw e (gave-refusal h _ _ _ _ refl h.closed _ _ _ c.refuse.ensures)
 
 pub returns-in-Step : goal.returns-in-Step
@@ -34,5 +34,5 @@ returns-in-Step c =
     λ s h.
     let a = c in
     let y : to_z w64 (of_z w64 a.args.state.profile) ≡ a.args.state.profile = search rules in
-    let e = sym (rw (y, h.profile) at c.Read-step.ensures) ∙ c.in-Step.is in
+    let e = sym (rw (y, h.profile) at c.read_step.ensures) ∙ c.in-Step.is in
     rw e (c.take_step.ensures s h)

@@ -16,11 +16,11 @@ returns-then-not-is_profile c =
     λ s l h.
     let y = c.args.year in
     let e : to_z w64 (of_z w64 y) ≡ y = search rules in
-    gave-no-edition h y (omega arith) (sym (rw e at c.is_profile.ensures) ∙ not-true _ c.if-not-is_profile.true) _ c.refuse-then-not-is_profile.ensures
+    gave-no-edition h y (omega arith) (sym (rw e at c.is_profile.ensures) ∙ c.if-not-is_profile.true) _ c.refuse-then-not-is_profile.ensures
 
 pub returns : goal.returns
 returns c =
     λ s l h.
     let y = c.args.year in
     let e : to_z w64 (of_z w64 y) ≡ y = search rules in
-    gave-edition h y (omega arith) (sym (rw e at c.is_profile.ensures) ∙ not-false _ c.if-not-is_profile.false) _ refl (rw e)
+    gave-edition h y (omega arith) (sym (rw e at c.is_profile.ensures) ∙ c.if-not-is_profile.false) _ refl (rw e)

@@ -21,10 +21,10 @@ abbrev TheElse1 : Type 0
 TheElse1 = lts.Else1 tie.the-claims reads.Pre reads.Post
 
 pub returns-then-not-in_range : goal.returns-then-not-in_range
-returns-then-not-in_range c = rw (sym c.in_range.ensures ∙ not-true _ c.if-not-in_range.true)
+returns-then-not-in_range c = rw (sym c.in_range.ensures ∙ c.if-not-in_range.true)
 
 ranged : (c : TheElse1) → grid_range c.args.g ≡ true
-ranged c = sym c.in_range.ensures ∙ not-false _ c.if-not-in_range.false
+ranged c = sym c.in_range.ensures ∙ c.if-not-in_range.false
 
 pub count-requires : goal.count-requires
 count-requires c =

@@ -80,13 +80,13 @@ pub returns-then-not-on_grid : goal.returns-then-not-on_grid
 returns-then-not-on_grid c =
     let e = c.before.before in
     let a = e.args in
-    by-off-grid a.g a.nodes.now a.latitude a.longitude (grid-passed e.before.before) (angles-passed e) (on-the-grid c.before false (not-true _ c.if-not-on_grid.true))
+    by-off-grid a.g a.nodes.now a.latitude a.longitude (grid-passed e.before.before) (angles-passed e) (on-the-grid c.before false (c.if-not-on_grid.true))
 
 pub cell-c-requires : goal.cell-c-requires
 cell-c-requires c =
     let e = c.before.before in
     let s = e in
-    (not-false _ (grid-passed e.before.before).0, ap₂ (on_grid s.args.g) (rd s.ranges.latitude) (rd s.ranges.longitude) ∙ on-the-grid c.before true (not-false _ c.if-not-on_grid.false))
+    (not-false _ (grid-passed e.before.before).0, ap₂ (on_grid s.args.g) (rd s.ranges.latitude) (rd s.ranges.longitude) ∙ on-the-grid c.before true (c.if-not-on_grid.false))
 
 -- the cell, and its nodes
 module _ (c : TheAfterCell) where
@@ -113,13 +113,13 @@ returns-then-not-cell_known c =
     let b = c.before.before in
     let e = b.before.before.before in
     let a = e.args in
-    by-nodes a.g a.nodes.now a.latitude a.longitude (grid-passed e.before.before) (angles-passed e) (on-the-grid b.before.before true (not-false _ b.if-not-on_grid.false))
-    (nodes c.before false (not-true _ c.if-not-cell_known.true))
+    by-nodes a.g a.nodes.now a.latitude a.longitude (grid-passed e.before.before) (angles-passed e) (on-the-grid b.before.before true (b.if-not-on_grid.false))
+    (nodes c.before false (c.if-not-cell_known.true))
 
 pub parts_in-requires : goal.parts_in-requires
 parts_in-requires c =
     let b = c.before.before in
-    (inside b, sym c.cell_known.ensures ∙ not-false _ c.if-not-cell_known.false)
+    (inside b, sym c.cell_known.ensures ∙ c.if-not-cell_known.false)
 
 pub returns : goal.returns
 returns c =
@@ -127,6 +127,6 @@ returns c =
     let b = d.before.before in
     let e = b.before.before.before in
     let a = e.args in
-    ap Parts (c.Parts-in.ensures ∙ ap (parts_in a.nodes.now) (cell-is b))
-    ∙ by-none a.g a.nodes.now a.latitude a.longitude (grid-passed e.before.before) (angles-passed e) (on-the-grid b.before.before true (not-false _ b.if-not-on_grid.false))
-    (nodes d.before true (not-false _ d.if-not-cell_known.false))
+    ap Parts (c.parts_in.ensures ∙ ap (parts_in a.nodes.now) (cell-is b))
+    ∙ by-none a.g a.nodes.now a.latitude a.longitude (grid-passed e.before.before) (angles-passed e) (on-the-grid b.before.before true (b.if-not-on_grid.false))
+    (nodes d.before true (d.if-not-cell_known.false))

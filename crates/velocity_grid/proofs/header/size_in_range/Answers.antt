@@ -38,14 +38,14 @@ module _ (c : TheAfterWithin2) where
       (c.within-2.ensures ∙ ap (λ (z : ℤ). within (pos 2) z (pos 2000)) (rd start.ranges.columns))
 
 pub returns-then-not-within : goal.returns-then-not-within
-returns-then-not-within c = let s = start c.before in sym (not-sized s.args.rows s.args.columns (sym (tested c.before) ∙ not-true _ c.if-not-within.true))
+returns-then-not-within c = let s = start c.before in sym (not-sized s.args.rows s.args.columns (sym (tested c.before) ∙ c.if-not-within.true))
 
 module _ (c : TheElse1) where
   abbrev begun : TheStart
   begun = start c.before
 
   passed : (within (pos 2) begun.args.rows (pos 2000) ≡ true) × (within (pos 2) begun.args.columns (pos 2000) ≡ true)
-  passed = both (within (pos 2) begun.args.rows (pos 2000)) (within (pos 2) begun.args.columns (pos 2000)) (sym (tested c.before) ∙ not-false _ c.if-not-within.false)
+  passed = both (within (pos 2) begun.args.rows (pos 2000)) (within (pos 2) begun.args.columns (pos 2000)) (sym (tested c.before) ∙ c.if-not-within.false)
 
   product : SFits w64 (begun.args.rows *ℤ begun.args.columns)
   product =

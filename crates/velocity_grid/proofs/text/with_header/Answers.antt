@@ -35,14 +35,14 @@ given f g z = rw (eq-eqb f.number 0 z)
 
 pub returns-then-not-in_range : goal.returns-then-not-in_range
 unfolding headed
-returns-then-not-in_range c = rw (sym c.in_range.ensures ∙ not-true _ c.if-not-in_range.true)
+returns-then-not-in_range c = rw (sym c.in_range.ensures ∙ c.if-not-in_range.true)
 
 pub nodes-requires : goal.nodes-requires
 nodes-requires c =
     let t = c.struct_told-2-1.given in
     let g = c.args.g in
     ap₂ size_range (told t.1.1.0.1) (told t.1.1.1.0.1)
-    ∙ (header g (sym c.in_range.ensures ∙ not-false _ c.if-not-in_range.false)).sizes
+    ∙ (header g (sym c.in_range.ensures ∙ c.if-not-in_range.false)).sizes
 
 pub nodes_fault-fault-requires : goal.nodes_fault-fault-requires
 nodes_fault-fault-requires c = (c.requires, c.nodes.ensures.1)
@@ -52,7 +52,7 @@ module _ (c : TheAfterNodesFault) where
   begun = c.before.before.before.before.before.before.before
 
   in-range : grid_range begun.args.g ≡ true
-  in-range = sym c.in_range.ensures ∙ not-false _ c.if-not-in_range.false
+  in-range = sym c.in_range.ensures ∙ c.if-not-in_range.false
 
   fault-is : c.nodes_fault-fault.result ≡ nodes_fault (nodes_of begun.args.g) 2 (lines (drop begun.args.start begun.args.text.now))
   unfolding nodes_of

@@ -48,7 +48,7 @@ module _ (c : TheAfterEntryFault) where
   start = c.before.before.before.before.before.before
 
   found : c.entry_fault-f.result ≡ entry start.args.chain.profile start.args.point (wanted start)
-  found = c.entry_fault-f.ensures ∙ ap₂ (λ (y : ℤ) (r : Realization). entry y start.args.point r) (told c.struct_told-1.given.1.1.0.1) c.start_of_lem.ensures
+  found = c.entry_fault-f.ensures ∙ ap₂ (λ (y : ℤ) (r : Realization). entry y start.args.point r) (told c.struct_told-1.given.1.1.0.1) c.start_of.ensures
 
   sound : first (chain_tests start.args.chain) ≡ 0
   sound = sym c.chain_fault-c.ensures ∙ c.if-c-ne0.false
@@ -61,11 +61,11 @@ returns-then-f-ne0 c =
     ap Refused f ∙ by-point s.args.chain s.args.point (wanted s) (reached s) (walked s) (sound c.before) (λ e. c.if-f-ne0.true (f ∙ e))
 
 pub end_of-requires : goal.end_of-requires
-end_of-requires c = (chain-holds (start c.before).args.chain (sound c.before)).0
+end_of-requires c = (chain-holds (start c.before.before).args.chain (sound c.before.before)).0
 
 pub forward_walk-requires : goal.forward_walk-requires
 forward_walk-requires c =
-    let e = c.before.before in
+    let e = c.before.before.before in
     let s = start e in
     (sound e, entry-area s.args.chain.profile s.args.point (wanted s) (sym (found e) ∙ c.if-f-ne0.false))
 
@@ -74,5 +74,5 @@ unfolding forward_of
 returns c =
     let e = c.before.before.before in
     let s = start e in
-    c.forward_walk.ensures ∙ ap (λ (r : Realization). answer_of s.args.point r (walked s)) c.end_of_lem.ensures
+    c.forward_walk.ensures ∙ ap (λ (r : Realization). answer_of s.args.point r (walked s)) c.end_of.ensures
     ∙ by-walk s.args.chain s.args.point (wanted s) (reached s) (walked s) (sound e) (sym (found e) ∙ c.if-f-ne0.false)

@@ -25,23 +25,23 @@ use Rattle.chain.proofs.steps.convert.forward_walk.Reads as reads
 use Rattle.chain.proofs.steps.convert.forward_walk.Goals as goal
 
 abbrev TheAfterInArea : Type 0
-TheAfterInArea = lts.After-in_area tie.the-claims reads.Pre reads.Post
+TheAfterInArea = lts.After-in_area tie.the-claims reads.Pre reads.Post goal.the-invariant-loop-i goal.the-decreases-loop-i
 
 abbrev TheStart : Type 0
-TheStart = lts.Start tie.the-claims reads.Pre reads.Post
+TheStart = lts.Start tie.the-claims reads.Pre reads.Post goal.the-invariant-loop-i goal.the-decreases-loop-i
 
-long : (s : TheStart invariant-loop decreases-loop) → length s.args.chain.steps ≡ 8
+long : (s : TheStart) → length s.args.chain.steps ≡ 8
 long s = sym (length-map s.args.chain.steps _) ∙ s.well_formed.0.1.1.0.1.0.1
 
-module _ (s : TheStart invariant-loop decreases-loop) where
+module _ (s : TheStart) where
   abbrev steps : List Step
-  steps = s.args.t1.steps
+  steps = s.args.chain.steps
 
   abbrev count : ℕ
-  count = s.args.t1.length
+  count = s.args.chain.length
 
-  holds : (count ≤ 8) × Sound (steps_of s.args.t1)
-  holds = chain-holds s.args.t1 s.requires.0
+  holds : (count ≤ 8) × Sound (steps_of s.args.chain)
+  holds = chain-holds s.args.chain s.requires.0
 
   -- the answer for where a walk ends
   abbrev end : Walk → Answer
@@ -62,32 +62,32 @@ forward_step-p-requires c =
     (sound-at (steps s) (count s) c.loop-i.i c.loop-i-test.true (omega (arith, long s, (holds s).0, c.loop-i-test.true)) (holds s).1, c.loop-i.invariant.1)
 
 -- a turn: the step at index i, then the rest
-module _ (c : TheAfterInArea invariant-loop decreases-loop) where
-  abbrev s : TheStart invariant-loop decreases-loop
+module _ (c : TheAfterInArea) where
+  abbrev s : TheStart
   s = c.before.before.before.before.before.before
 
   abbrev i : ℕ
-  i = c.before.before.before.before.loop.i
+  i = c.loop-i.i
 
   abbrev next : Position
-  next = forward_step (get_or (steps s) i step_past_end) c.before.before.before.before.loop.p
+  next = forward_step (get_or (steps s) i step_past_end) c.loop-i.p
 
   turn : onward (arrive next) (walk forward_step (drop (i + 1) (take (count s) (steps s)))) ≡ walk forward_step (take (count s) (steps s)) s.args.point.position
   turn =
-      sym (walk_from (steps s) (count s) i c.before.before.before.loop-test.true (omega (arith, long s, (holds s).0, c.before.before.before.loop-test.true)) forward_step c.before.before.before.before.loop.p)
-      ∙ c.before.before.before.before.loop.invariant.2
+      sym (walk_from (steps s) (count s) i c.loop-i-test.true (omega (arith, long s, (holds s).0, c.loop-i-test.true)) forward_step c.loop-i.p)
+      ∙ c.loop-i.invariant.2
 
-  is-next : c.before.forward-step.result ≡ next
-  is-next = c.before.forward-step.ensures
+  is-next : c.forward_step-p.result ≡ next
+  is-next = c.forward_step-p.ensures
 
-  area : (b : Bool) → c.in-area.result ≡ b → in_area next ≡ b
-  area b e = ap in_area (sym is-next) ∙ sym c.in-area.ensures ∙ e
+  area : (b : Bool) → c.in_area.result ≡ b → in_area next ≡ b
+  area b e = ap in_area (sym is-next) ∙ sym c.in_area.ensures ∙ e
 
 pub returns-then-not-in_area : goal.returns-then-not-in_area
 unfolding answer_of
 returns-then-not-in_area c =
     let a = c.before in
-    ap (end (s a)) (sym (leaves (next a) _ (area a false (not-true _ c.if-not-in_area.true))) ∙ turn a)
+    ap (end (s a)) (sym (leaves (next a) _ (area a false (c.if-not-in_area.true))) ∙ turn a)
 
 pub overflow_add-i : goal.overflow_add-i
 overflow_add-i c = omega (arith, (holds c.before.before.before.before.before.before.before).0)
@@ -95,7 +95,7 @@ overflow_add-i c = omega (arith, (holds c.before.before.before.before.before.bef
 pub loop-i-preserved : goal.loop-i-preserved
 loop-i-preserved c =
     let a = c.before in
-    let h = area a true (not-false _ c.if-not-in_area.false) in (
+    let h = area a true (c.if-not-in_area.false) in (
       omega arith,
       ap in_area (is-next a) ∙ h,
       ap (walk forward_step (drop (i a + 1) (take (count (s a)) (steps (s a))))) (is-next a) ∙ sym (stays (next a) _ h) ∙ turn a,

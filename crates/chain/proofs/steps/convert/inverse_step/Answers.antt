@@ -77,4 +77,4 @@ pub returns-in-BursaWolf : goal.returns-in-BursaWolf
 returns-in-BursaWolf c = let s = c in c.turn_back.ensures ∙ inverse-same s.args.step _ (turned c.before) s.args.q
 
 pub returns-in-Frame : goal.returns-in-Frame
-returns-in-Frame c = let s = c in c.Scale-back.ensures ∙ inverse-same s.args.step _ (scaled c.before) s.args.q
+returns-in-Frame c = let s = c in c.scale_back.ensures ∙ inverse-same s.args.step _ (scaled c.before) s.args.q

@@ -26,23 +26,23 @@ use Rattle.chain.proofs.steps.convert.inverse_walk.Reads as reads
 use Rattle.chain.proofs.steps.convert.inverse_walk.Goals as goal
 
 abbrev TheAfterInArea : Type 0
-TheAfterInArea = lts.After-in_area tie.the-claims reads.Pre reads.Post
+TheAfterInArea = lts.After-in_area tie.the-claims reads.Pre reads.Post goal.the-invariant-loop-i goal.the-decreases-loop-i
 
 abbrev TheStart : Type 0
-TheStart = lts.Start tie.the-claims reads.Pre reads.Post
+TheStart = lts.Start tie.the-claims reads.Pre reads.Post goal.the-invariant-loop-i goal.the-decreases-loop-i
 
-long : (s : TheStart invariant-loop decreases-loop) → length s.args.chain.steps ≡ 8
+long : (s : TheStart) → length s.args.chain.steps ≡ 8
 long s = sym (length-map s.args.chain.steps _) ∙ s.well_formed.0.1.1.0.1.0.1
 
-module _ (s : TheStart invariant-loop decreases-loop) where
+module _ (s : TheStart) where
   abbrev steps : List Step
-  steps = s.args.t1.steps
+  steps = s.args.chain.steps
 
   abbrev count : ℕ
-  count = s.args.t1.length
+  count = s.args.chain.length
 
-  holds : (count ≤ 8) × Sound (steps_of s.args.t1)
-  holds = chain-holds s.args.t1 s.requires.0
+  holds : (count ≤ 8) × Sound (steps_of s.args.chain)
+  holds = chain-holds s.args.chain s.requires.0
 
   -- the answer for where a walk ends
   abbrev end : Walk → Answer
@@ -65,41 +65,41 @@ inverse_step-p-requires c =
     (sound-at (steps s) (count s) (at.i - 1) (omega arith) (omega (arith, long s, (holds s).0)) (holds s).1, at.invariant.1)
 
 -- a turn: the step at index i − 1, then those below it
-module _ (c : TheAfterInArea invariant-loop decreases-loop) where
-  abbrev s : TheStart invariant-loop decreases-loop
+module _ (c : TheAfterInArea) where
+  abbrev s : TheStart
   s = c.before.before.before.before.before.before
 
   abbrev i : ℕ
-  i = c.before.before.before.before.loop.i - 1
+  i = c.loop-i.i - 1
 
   abbrev next : Position
-  next = inverse_step (get_or (steps s) i step_past_end) c.before.before.before.before.loop.p
+  next = inverse_step (get_or (steps s) i step_past_end) c.loop-i.p
 
   turn : onward (arrive next) (walk inverse_step (reverse (take i (steps s)))) ≡ walk inverse_step (reverse (take (count s) (steps s))) s.args.point.position
   turn =
-      let test = c.before.before.before.loop-test.true in
-      let at = c.before.before.before.before.loop in
+      let test = c.loop-i-test.true in
+      let at = c.loop-i in
       let one : i + 1 ≡ at.i = omega arith in
       sym (walk-down (steps s) i inverse_step at.p (omega (arith, long s, (holds s).0)))
       ∙ ap (λ (k : ℕ). walk inverse_step (reverse (take k (steps s))) at.p) one
       ∙ at.invariant.2
 
-  is-next : c.before.inverse-step.result ≡ next
-  is-next = c.before.inverse-step.ensures
+  is-next : c.inverse_step-p.result ≡ next
+  is-next = c.inverse_step-p.ensures
 
-  area : (b : Bool) → c.in-area.result ≡ b → in_area next ≡ b
-  area b e = ap in_area (sym is-next) ∙ sym c.in-area.ensures ∙ e
+  area : (b : Bool) → c.in_area.result ≡ b → in_area next ≡ b
+  area b e = ap in_area (sym is-next) ∙ sym c.in_area.ensures ∙ e
 
 pub returns-then-not-in_area : goal.returns-then-not-in_area
 unfolding answer_of
 returns-then-not-in_area c =
     let a = c.before in
-    ap (end (s a)) (sym (leaves (next a) _ (area a false (not-true _ c.if-not-in_area.true))) ∙ turn a)
+    ap (end (s a)) (sym (leaves (next a) _ (area a false (c.if-not-in_area.true))) ∙ turn a)
 
 pub loop-i-preserved : goal.loop-i-preserved
 loop-i-preserved c =
     let a = c.before in
-    let h = area a true (not-false _ c.if-not-in_area.false) in (
+    let h = area a true (c.if-not-in_area.false) in (
       omega arith,
       ap in_area (is-next a) ∙ h,
       ap (walk inverse_step (reverse (take (i a) (steps (s a))))) (is-next a) ∙ sym (stays (next a) _ h) ∙ turn a,

@@ -38,13 +38,13 @@ TheElse1 = lts.Else1 tie.the-claims reads.Pre reads.Post
 -- what the chain so far says of the step
 module _ (c : TheAfterExtendFault) where
   abbrev l : List ℤ
-  l = c.before.before.before.before.args.numbers.now
+  l = c.before.before.before.args.numbers.now
 
   abbrev profile : ℤ
-  profile = c.before.before.before.before.args.profile
+  profile = c.before.before.before.args.profile
 
   abbrev step : Step
-  step = c.before.before.before.before.args.step
+  step = c.before.before.before.args.step
 
   length : to_z w64 (of_z w64 (get_or l 0 (pos 0))) ≡ length_in l
   length = told c.n.given
@@ -84,7 +84,7 @@ one : pos 1 ≡ pos 1
 one = refl
 
 pub prepare-requires : goal.prepare-requires
-prepare-requires c = let e = c.before.before.before.before in step_ok (profile (at e)) (step (at e)) (alone e)
+prepare-requires c = let e = c.before.before.before.before.before.before.before in step_ok (profile (at e)) (step (at e)) (alone e)
 
 pub count-requires : goal.count-requires
 count-requires c = let e = c.before.before.before.before.before.before in rw (length (at e)) (known e)

@@ -62,7 +62,7 @@ module _ (c : TheAfterSameRealization) where
 
 pub returns-then-not-equal-same_realization : goal.returns-then-not-equal-same_realization
 returns-then-not-equal-same_realization c =
-    let e = joins c.before false (not-true _ c.if-not-equal-same_realization.true) in
+    let e = joins c.before false (c.if-not-equal-same_realization.true) in
     (rw e) ∙ decided c.before
 
 few : (c : TheAfterWithin) (b : Bool) → c.within.result ≡ b → within (pos 0) (start c.before.before).args.n (pos 7) ≡ b
@@ -71,13 +71,13 @@ few c b e = told (pos 0) (start c.before.before).args.n (pos 7) (start c.before.
 pub returns-then-not-within : goal.returns-then-not-within
 returns-then-not-within c =
     let s = c.before.before.before in
-    let e = joins s true (not-false _ c.if-not-equal-same_realization.false) in
-    let f = few c.before false (not-true _ c.if-not-within.true) in
+    let e = joins s true (c.if-not-equal-same_realization.false) in
+    let f = few c.before false (c.if-not-within.true) in
     (rw (e, f)) ∙ decided s
 
 pub returns : goal.returns
 returns c =
     let s = c.before.before.before in
-    let e = joins s true (not-false _ c.if-not-equal-same_realization.false) in
-    let f = few c.before true (not-false _ c.if-not-within.false) in
+    let e = joins s true (c.if-not-equal-same_realization.false) in
+    let f = few c.before true (c.if-not-within.false) in
     (rw (e, f)) ∙ decided s

@@ -26,7 +26,7 @@ length : (c : TheAfterWithin) (b : Bool) → c.within.result ≡ b → within (p
 length c b e = told (pos 0) c.args.n (pos 8) c.ranges.n c.within.ensures e
 
 pub returns-then-not-within : goal.returns-then-not-within
-returns-then-not-within c = let a = length c.before false (not-true _ c.if-not-within.true) in rw a
+returns-then-not-within c = let a = length c.before false (c.if-not-within.true) in rw a
 
 -- whether the point is where the chain wants it
 module _ (c : TheAfterSameRealization) where
@@ -34,7 +34,7 @@ module _ (c : TheAfterSameRealization) where
   start = c.before.before.before.before.before
 
   many : within (pos 0) start.args.n (pos 8) ≡ true
-  many = length c.before.before.before.before true (not-false _ c.if-not-within.false)
+  many = length c.before.before.before.before true (c.if-not-within.false)
 
   here : (b : Bool) → (c.equal.result || c.same_realization.result) ≡ b → (equal (pos 0) start.args.n || same_realization start.args.point.realization start.args.wanted) ≡ b
   here b e = sym (ap₂ ◌||◌ (c.equal.ensures ∙ ap (equal (pos 0)) (rd start.ranges.n)) c.same_realization.ensures) ∙ e
@@ -42,21 +42,21 @@ module _ (c : TheAfterSameRealization) where
 pub returns-then-not-equal-same_realization : goal.returns-then-not-equal-same_realization
 returns-then-not-equal-same_realization c =
     let a = many c.before in
-    let e = here c.before false (not-true _ c.if-not-equal-same_realization.true) in
+    let e = here c.before false (c.if-not-equal-same_realization.true) in
     rw (a, e)
 
 pub returns-then-not-in_area : goal.returns-then-not-in_area
 returns-then-not-in_area c =
     let s = c.before.before.before.before in
     let a = many s in
-    let e = here s true (not-false _ c.if-not-equal-same_realization.false) in
-    let f = sym c.in_area.ensures ∙ not-true _ c.if-not-in_area.true in
+    let e = here s true (c.if-not-equal-same_realization.false) in
+    let f = sym c.in_area.ensures ∙ c.if-not-in_area.true in
     rw (a, e, f)
 
 pub returns : goal.returns
 returns c =
     let s = c.before.before.before.before in
     let a = many s in
-    let e = here s true (not-false _ c.if-not-equal-same_realization.false) in
-    let f = sym c.in_area.ensures ∙ not-false _ c.if-not-in_area.false in
+    let e = here s true (c.if-not-equal-same_realization.false) in
+    let f = sym c.in_area.ensures ∙ c.if-not-in_area.false in
     rw (a, e, f)

@@ -14,11 +14,11 @@ abbrev TheElse1 : Type 0
 TheElse1 = lts.Else1 tie.the-claims reads.Pre reads.Post
 
 pub returns-then-not-is_sound : goal.returns-then-not-is_sound
-returns-then-not-is_sound c = let a = c.args in unsound-answered a.standing a.text.now (sym c.is_sound.ensures ∙ not-true _ c.if-not-is_sound.true)
+returns-then-not-is_sound c = let a = c.args in unsound-answered a.standing a.text.now (sym c.is_sound.ensures ∙ c.if-not-is_sound.true)
 
 -- past the test
 sound : (c : TheElse1) → sound_standing c.args.standing ≡ true
-sound c = sym c.is_sound.ensures ∙ not-false _ c.if-not-is_sound.false
+sound c = sym c.is_sound.ensures ∙ c.if-not-is_sound.false
 
 pub returns-then-standing-gt-MOST_LINES : goal.returns-then-standing-gt-MOST_LINES
 returns-then-standing-gt-MOST_LINES c =

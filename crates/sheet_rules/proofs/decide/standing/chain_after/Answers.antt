@@ -34,15 +34,15 @@ inside : (s : TheStart) → s.args.chain.length ≤ length s.args.chain.steps
 inside s = omega (arith, long s, s.requires.0)
 
 pub returns-then-not-begins_with : goal.returns-then-not-begins_with
-returns-then-not-begins_with c = after-other c.args.chain (inside c.before.before.before) _ _ _ (sym c.begins_with.ensures ∙ not-true _ c.if-not-begins_with.true)
+returns-then-not-begins_with c = after-other c.args.chain (inside c.before.before.before) _ _ _ (sym c.begins_with.ensures ∙ c.if-not-begins_with.true)
 
 -- the line begins with S
 begins : (c : TheElse1) → eqb (get_or c.args.text.now 0 0) letter_s ≡ true
-begins c = sym c.begins_with.ensures ∙ not-false _ c.if-not-begins_with.false
+begins c = sym c.begins_with.ensures ∙ c.if-not-begins_with.false
 
 -- what it reads as
-reads : (c : TheAfterReadStep) → c.Read-step.result ≡ read_step c.args.chain.profile c.args.text.now
-reads c = let e : to_z w64 (of_z w64 c.args.chain.profile) ≡ c.args.chain.profile = search rules in rw e at c.Read-step.ensures
+reads : (c : TheAfterReadStep) → c.read_step.result ≡ read_step c.args.chain.profile c.args.text.now
+reads c = let e : to_z w64 (of_z w64 c.args.chain.profile) ≡ c.args.chain.profile = search rules in rw e at c.read_step.ensures
 
 pub with_step-requires : goal.with_step-requires
 with_step-requires c = (c.requires.0, c.requires.1 _ (begins c.before.before.before.before) c.in-Nothing.is (sym (reads c.before) ∙ c.in-Step.is))

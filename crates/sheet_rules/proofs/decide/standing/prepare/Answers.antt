@@ -21,28 +21,28 @@ use Rattle.sheet_rules.proofs.decide.standing.prepare.Reads as reads
 use Rattle.sheet_rules.proofs.decide.standing.prepare.Goals as goal
 
 abbrev TheAfterIsProfile : Type 0
-TheAfterIsProfile = lts.After-is_profile tie.the-claims reads.Pre reads.Post
+TheAfterIsProfile = lts.After-is_profile tie.the-claims reads.Pre reads.Post goal.the-invariant-loop-i goal.the-decreases-loop-i
 
 abbrev TheElse1 : Type 0
-TheElse1 = lts.Else1 tie.the-claims reads.Pre reads.Post
+TheElse1 = lts.Else1 tie.the-claims reads.Pre reads.Post goal.the-invariant-loop-i goal.the-decreases-loop-i
 
 abbrev TheStart : Type 0
-TheStart = lts.Start tie.the-claims reads.Pre reads.Post
+TheStart = lts.Start tie.the-claims reads.Pre reads.Post goal.the-invariant-loop-i goal.the-decreases-loop-i
 
 -- an array's length is what owning the struct tells
-long : (s : TheStart invariant-loop decreases-loop) → length s.args.chain.steps ≡ 8
+long : (s : TheStart) → length s.args.chain.steps ≡ 8
 long s = sym (length-map s.args.chain.steps _) ∙ s.well_formed.0.1.1.0.1.0.1
 
 -- the profile as it was handed over
-ranged : (c : TheAfterIsProfile invariant-loop decreases-loop) → c.is_profile.result ≡ profile_range c.args.chain.profile
+ranged : (c : TheAfterIsProfile) → c.is_profile.result ≡ profile_range c.args.chain.profile
 ranged c = let e : to_z w64 (of_z w64 c.args.chain.profile) ≡ c.args.chain.profile = search rules in rw e at c.is_profile.ensures
 
 pub returns-then-not-is_profile : goal.returns-then-not-is_profile
-returns-then-not-is_profile c = no-profile c.args.chain (sym (ranged c.before) ∙ not-true _ c.if-not-is_profile.true) _
+returns-then-not-is_profile c = no-profile c.args.chain (sym (ranged c.before) ∙ c.if-not-is_profile.true) _
 
 -- a profile
-known : (c : TheElse1 invariant-loop decreases-loop) → profile_range c.args.chain.profile ≡ true
-known c = sym (ranged c.before) ∙ not-false _ c.if-not-is_profile.false
+known : (c : TheElse1) → profile_range c.args.chain.profile ≡ true
+known c = sym (ranged c.before) ∙ c.if-not-is_profile.false
 
 pub returns-then-n-gt8 : goal.returns-then-n-gt8
 returns-then-n-gt8 c = long-chain c.args.chain (known c.before) c.if-n-gt8.true _

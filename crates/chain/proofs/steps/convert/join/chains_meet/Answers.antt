@@ -27,8 +27,8 @@ module _ (c : TheAfterStartOf2) where
   abbrev anywhere : Realization
   anywhere = record { datum = pos 0; epoch = pos 0 }
 
-  end : c.end_of_lem.result ≡ end_of (start_of anywhere (steps_of start.args.second)) (steps_of start.args.first)
-  end = c.end_of_lem.ensures ∙ ap (λ (r : Realization). end_of r (steps_of start.args.first)) c.start_of_lem.ensures
+  end : c.end_of-end.result ≡ end_of (start_of anywhere (steps_of start.args.second)) (steps_of start.args.first)
+  end = c.end_of-end.ensures ∙ ap (λ (r : Realization). end_of r (steps_of start.args.first)) c.start_of.ensures
 
   begins : c.start_of-start.result ≡ start_of (end_of (start_of anywhere (steps_of start.args.second)) (steps_of start.args.first)) (steps_of start.args.second)
   begins = c.start_of-start.ensures ∙ ap (λ (r : Realization). start_of r (steps_of start.args.second)) end

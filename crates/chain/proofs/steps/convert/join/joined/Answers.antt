@@ -41,5 +41,5 @@ returns c =
     let s = c7.before.before.before.before in
     let f = s.args.first in
     let g = s.args.second in
-    rw (c7.Joined-step.ensures, c6.joined_step-2.ensures, c5.joined_step-3.ensures, c4.joined_step-4.ensures, c3.joined_step-5.ensures, c2.joined_step-6.ensures, c.joined_step-7.ensures, c.joined_step-8.ensures, told c7.struct_told-1.given.1.1.0.1)
+    rw (c7.joined_step.ensures, c6.joined_step-2.ensures, c5.joined_step-3.ensures, c4.joined_step-4.ensures, c3.joined_step-5.ensures, c2.joined_step-6.ensures, c.joined_step-7.ensures, c.joined_step-8.ensures, told c7.struct_told-1.given.1.1.0.1)
     (ap₂ (λ (l : List Step) (n : ℕ). record { steps = l; length = n; profile = f.profile }) (each (joined_steps f g) (eight-steps f g (long-first s) (long-second s) s.requires)) (counted f g (long-first s) (long-second s) s.requires))

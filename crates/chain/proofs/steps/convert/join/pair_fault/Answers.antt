@@ -43,13 +43,13 @@ met : (c : TheAfterChainsMeet) (b : Bool) → c.chains_meet.result ≡ b → mee
 met c b e = sym c.chains_meet.ensures ∙ e
 
 pub returns-then-not-chains_meet : goal.returns-then-not-chains_meet
-returns-then-not-chains_meet c = let m = met c.before _ (not-true _ c.if-not-chains_meet.true) in rw m
+returns-then-not-chains_meet c = let m = met c.before _ (c.if-not-chains_meet.true) in rw m
 
 pub returns-then-first-second-gt8 : goal.returns-then-first-second-gt8
 returns-then-first-second-gt8 c =
     let a = c.before.before.before.before in
     let s = a.before in
-    let m = met a _ (not-false _ c.if-not-chains_meet.false) in
+    let m = met a _ (c.if-not-chains_meet.false) in
     let n = lt-ltb 8 (together s.args.first s.args.second) (omega (arith, count s, c.if-first-second-gt8.true)) in
     rw (m, n)
 
@@ -66,14 +66,14 @@ module _ (c : TheAfterEqual) where
   s = at.before
 
   meets : meet (steps_of s.args.first) (steps_of s.args.second) ≡ true
-  meets = met at _ (not-false _ c.if-not-chains_meet.false)
+  meets = met at _ (c.if-not-chains_meet.false)
 
 pub returns-then-not-equal : goal.returns-then-not-equal
 returns-then-not-equal c =
     let e = c.before in
     let b = s e in
     let n = le-ltb 8 (together b.args.first b.args.second) (omega (arith, count b, e.if-first-second-gt8.false)) in
-    let p = like e _ (not-true _ c.if-not-equal.true) in
+    let p = like e _ (c.if-not-equal.true) in
     rw (meets e, n, p)
 
 pub returns : goal.returns
@@ -81,5 +81,5 @@ returns c =
     let e = c.before in
     let b = s e in
     let n = le-ltb 8 (together b.args.first b.args.second) (omega (arith, count b, e.if-first-second-gt8.false)) in
-    let p = like e _ (not-false _ c.if-not-equal.false) in
+    let p = like e _ (c.if-not-equal.false) in
     rw (meets e, n, p)

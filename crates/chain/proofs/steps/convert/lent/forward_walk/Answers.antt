@@ -21,33 +21,33 @@ use Rattle.chain.proofs.steps.convert.lent.forward_walk.Reads as reads
 use Rattle.chain.proofs.steps.convert.lent.forward_walk.Goals as goal
 
 abbrev TheAfterInArea : Type 0
-TheAfterInArea = lts.After-in_area tie.the-claims reads.Pre reads.Post
+TheAfterInArea = lts.After-in_area tie.the-claims reads.Pre reads.Post goal.the-invariant-loop-i goal.the-decreases-loop-i
 
 abbrev TheAtLoop : Type 0
-TheAtLoop = lts.At-loop tie.the-claims reads.Pre reads.Post
+TheAtLoop = lts.At-loop tie.the-claims reads.Pre reads.Post goal.the-invariant-loop-i goal.the-decreases-loop-i
 
 abbrev TheInLoop : Type 0
-TheInLoop = lts.In-loop tie.the-claims reads.Pre reads.Post
+TheInLoop = lts.In-loop tie.the-claims reads.Pre reads.Post goal.the-invariant-loop-i goal.the-decreases-loop-i
 
 abbrev TheStart : Type 0
-TheStart = lts.Start tie.the-claims reads.Pre reads.Post
+TheStart = lts.Start tie.the-claims reads.Pre reads.Post goal.the-invariant-loop-i goal.the-decreases-loop-i
 
 pub loop-i-init : goal.loop-i-init
 loop-i-init c = (omega arith, c.requires.1, refl)
 
 -- the step at the index that the loop has come to
-module _ (c : TheInLoop invariant-loop decreases-loop) where
-  abbrev start : TheStart invariant-loop decreases-loop
+module _ (c : TheInLoop) where
+  abbrev start : TheStart
   start = c.before.before.before
 
-  abbrev at : TheAtLoop invariant-loop decreases-loop
+  abbrev at : TheAtLoop
   at = c.before
 
   abbrev ns : List ℤ
   ns = start.args.steps.now
 
   abbrev i : ℕ
-  i = at.loop.i
+  i = at.loop-i.i
 
   abbrev walked : Walk
   walked = walk forward_step (steps_in ns) start.args.point.position
@@ -56,7 +56,7 @@ module _ (c : TheInLoop invariant-loop decreases-loop) where
   holds = lent-holds start.args.profile ns start.requires.0
 
   below : i < length ns / 13
-  below = c.loop-test.true
+  below = c.loop-i-test.true
 
   inside : i < length (eight_from ns)
   inside = omega (arith, below, holds.0, eight-steps ns)
@@ -70,33 +70,33 @@ forward_step-p-requires c =
     (subst⁻¹ StepOk c.step_at.ensures (sound-step (ns l) (holds l).0 (i l) (below l) (holds l).1), (at l).loop.invariant.1)
 
 -- a turn: that step, then the rest
-module _ (c : TheAfterInArea invariant-loop decreases-loop) where
-  abbrev l : TheInLoop invariant-loop decreases-loop
+module _ (c : TheAfterInArea) where
+  abbrev l : TheInLoop
   l = c.before.before.before
 
-  is-next : c.before.forward-step.result ≡ forward_step (get_or (eight_from (ns l)) (i l) step_past_end) (at l).loop.p
-  is-next = c.before.forward-step.ensures ∙ ap (λ (s : Step). forward_step s (at l).loop.p) (c.before.before.step-at.ensures ∙ sym (step_is (ns l) (holds l).0 (i l) (below l)))
+  is-next : c.forward_step-p.result ≡ forward_step (get_or (eight_from (ns l)) (i l) step_past_end) (at l).loop.p
+  is-next = c.forward_step-p.ensures ∙ ap (λ (s : Step). forward_step s (at l).loop.p) (c.step_at.ensures ∙ sym (step_is (ns l) (holds l).0 (i l) (below l)))
 
-  area : (b : Bool) → c.in-area.result ≡ b → in_area c.before.forward-step.result ≡ b
-  area b e = sym c.in-area.ensures ∙ e
+  area : (b : Bool) → c.in_area.result ≡ b → in_area c.forward_step-p.result ≡ b
+  area b e = sym c.in_area.ensures ∙ e
 
-  gone : in_area c.before.forward-step.result ≡ false → left ≡ walked l
-  gone = left_there (eight_from (ns l)) (length (ns l) / 13) (i l) (below l) (inside l) forward_step (at l).loop.p c.before.forward-step.result (walked l) (at l).loop.inv.2 is-next
+  gone : in_area c.forward_step-p.result ≡ false → left ≡ walked l
+  gone = left_there (eight_from (ns l)) (length (ns l) / 13) (i l) (below l) (inside l) forward_step (at l).loop.p c.forward_step-p.result (walked l) (at l).loop.inv.2 is-next
 
-  onward : in_area c.before.forward-step.result ≡ true → walk forward_step (drop (i l + 1) (steps_in (ns l))) c.before.forward-step.result ≡ walked l
-  onward = on-from-there (eight_from (ns l)) (length (ns l) / 13) (i l) (below l) (inside l) forward_step (at l).loop.p c.before.forward-step.result (walked l) (at l).loop.inv.2 is-next
+  onward : in_area c.forward_step-p.result ≡ true → walk forward_step (drop (i l + 1) (steps_in (ns l))) c.forward_step-p.result ≡ walked l
+  onward = on-from-there (eight_from (ns l)) (length (ns l) / 13) (i l) (below l) (inside l) forward_step (at l).loop.p c.forward_step-p.result (walked l) (at l).loop.inv.2 is-next
 
 pub returns-then-not-in_area : goal.returns-then-not-in_area
 unfolding answer_of
 returns-then-not-in_area c =
     let a = c.before.before in
     let s = (start (l a)).args in
-    c.refused.ensures ∙ ap (arrival_of s.point) (ap (answer_of s.point s.reached) (gone a (area a false (not-true _ c.if-not-in_area.true))))
+    c.refused.ensures ∙ ap (arrival_of s.point) (ap (answer_of s.point s.reached) (gone a (area a false (c.if-not-in_area.true))))
 
 pub loop-i-preserved : goal.loop-i-preserved
 loop-i-preserved c =
     let a = c.before in
-    let h = area a true (not-false _ c.if-not-in_area.false) in
+    let h = area a true (c.if-not-in_area.false) in
     (omega arith, h, onward a h)
 
 pub returns : goal.returns

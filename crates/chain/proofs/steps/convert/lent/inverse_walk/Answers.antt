@@ -22,33 +22,33 @@ use Rattle.chain.proofs.steps.convert.lent.inverse_walk.Reads as reads
 use Rattle.chain.proofs.steps.convert.lent.inverse_walk.Goals as goal
 
 abbrev TheAfterInArea : Type 0
-TheAfterInArea = lts.After-in_area tie.the-claims reads.Pre reads.Post
+TheAfterInArea = lts.After-in_area tie.the-claims reads.Pre reads.Post goal.the-invariant-loop-i goal.the-decreases-loop-i
 
 abbrev TheAtLoop : Type 0
-TheAtLoop = lts.At-loop tie.the-claims reads.Pre reads.Post
+TheAtLoop = lts.At-loop tie.the-claims reads.Pre reads.Post goal.the-invariant-loop-i goal.the-decreases-loop-i
 
 abbrev TheInLoop : Type 0
-TheInLoop = lts.In-loop tie.the-claims reads.Pre reads.Post
+TheInLoop = lts.In-loop tie.the-claims reads.Pre reads.Post goal.the-invariant-loop-i goal.the-decreases-loop-i
 
 abbrev TheStart : Type 0
-TheStart = lts.Start tie.the-claims reads.Pre reads.Post
+TheStart = lts.Start tie.the-claims reads.Pre reads.Post goal.the-invariant-loop-i goal.the-decreases-loop-i
 
 pub loop-i-init : goal.loop-i-init
 loop-i-init c = (omega arith, c.requires.1, refl)
 
 -- the step at the index that the loop has come to
-module _ (c : TheInLoop invariant-loop decreases-loop) where
-  abbrev start : TheStart invariant-loop decreases-loop
+module _ (c : TheInLoop) where
+  abbrev start : TheStart
   start = c.before.before.before
 
-  abbrev at : TheAtLoop invariant-loop decreases-loop
+  abbrev at : TheAtLoop
   at = c.before
 
   abbrev ns : List ℤ
   ns = start.args.steps.now
 
   abbrev i : ℕ
-  i = at.loop.i - 1
+  i = at.loop-i.i - 1
 
   abbrev walked : Walk
   walked = walk inverse_step (reverse (steps_in ns)) start.args.point.position
@@ -57,17 +57,17 @@ module _ (c : TheInLoop invariant-loop decreases-loop) where
   holds = lent-holds start.args.profile ns start.requires.0
 
   below : i < length ns / 13
-  below = let test = c.loop-test.true in let h = at.loop.inv.0 in omega arith
+  below = let test = c.loop-i-test.true in let h = at.loop-i.inv.0 in omega arith
 
   inside : i < length (eight_from ns)
   inside = omega (arith, below, holds.0, eight-steps ns)
 
   -- what the steps up to this index lead to
-  rest : walk inverse_step (reverse (take (i + 1) (eight_from ns))) at.loop.p ≡ walked
+  rest : walk inverse_step (reverse (take (i + 1) (eight_from ns))) at.loop-i.p ≡ walked
   rest =
-      let test = c.loop-test.true in
-      let one : i + 1 ≡ at.loop.i = omega arith in
-      ap (λ (k : ℕ). walk inverse_step (reverse (take k (eight_from ns))) at.loop.p) one ∙ at.loop.inv.2
+      let test = c.loop-i-test.true in
+      let one : i + 1 ≡ at.loop-i.i = omega arith in
+      ap (λ (k : ℕ). walk inverse_step (reverse (take k (eight_from ns))) at.loop-i.p) one ∙ at.loop-i.inv.2
 
 pub step_at-requires : goal.step_at-requires
 step_at-requires c = whole (ns c) (holds c).0 (i c) (below c)
@@ -78,30 +78,30 @@ inverse_step-p-requires c =
     (subst⁻¹ StepOk c.step_at.ensures (sound-step (ns l) (holds l).0 (i l) (below l) (holds l).1), (at l).loop.invariant.1)
 
 -- a turn: that step, then the rest
-module _ (c : TheAfterInArea invariant-loop decreases-loop) where
-  abbrev l : TheInLoop invariant-loop decreases-loop
+module _ (c : TheAfterInArea) where
+  abbrev l : TheInLoop
   l = c.before.before.before
 
-  is-next : c.before.inverse-step.result ≡ inverse_step (get_or (eight_from (ns l)) (i l) step_past_end) (at l).loop.p
-  is-next = c.before.inverse-step.ensures ∙ ap (λ (s : Step). inverse_step s (at l).loop.p) (c.before.before.step-at.ensures ∙ sym (step_is (ns l) (holds l).0 (i l) (below l)))
+  is-next : c.inverse_step-p.result ≡ inverse_step (get_or (eight_from (ns l)) (i l) step_past_end) (at l).loop.p
+  is-next = c.inverse_step-p.ensures ∙ ap (λ (s : Step). inverse_step s (at l).loop.p) (c.step_at.ensures ∙ sym (step_is (ns l) (holds l).0 (i l) (below l)))
 
-  area : (b : Bool) → c.in-area.result ≡ b → in_area c.before.inverse-step.result ≡ b
-  area b e = sym c.in-area.ensures ∙ e
+  area : (b : Bool) → c.in_area.result ≡ b → in_area c.inverse_step-p.result ≡ b
+  area b e = sym c.in_area.ensures ∙ e
 
-  gone : in_area c.before.inverse-step.result ≡ false → left ≡ walked l
-  gone = left_below (eight_from (ns l)) (i l) (inside l) inverse_step (at l).loop.p c.before.inverse-step.result (walked l) (rest l) is-next
+  gone : in_area c.inverse_step-p.result ≡ false → left ≡ walked l
+  gone = left_below (eight_from (ns l)) (i l) (inside l) inverse_step (at l).loop.p c.inverse_step-p.result (walked l) (rest l) is-next
 
-  onward : in_area c.before.inverse-step.result ≡ true → walk inverse_step (reverse (take (i l) (eight_from (ns l)))) c.before.inverse-step.result ≡ walked l
-  onward = on_below (eight_from (ns l)) (i l) (inside l) inverse_step (at l).loop.p c.before.inverse-step.result (walked l) (rest l) is-next
+  onward : in_area c.inverse_step-p.result ≡ true → walk inverse_step (reverse (take (i l) (eight_from (ns l)))) c.inverse_step-p.result ≡ walked l
+  onward = on_below (eight_from (ns l)) (i l) (inside l) inverse_step (at l).loop.p c.inverse_step-p.result (walked l) (rest l) is-next
 
 pub returns-then-not-in_area : goal.returns-then-not-in_area
 unfolding answer_of
-returns-then-not-in_area c = let s = (start (l c.before)).args in ap (answer_of s.point s.reached) (gone c.before (area c.before false (not-true _ c.if-not-in_area.true)))
+returns-then-not-in_area c = let s = (start (l c.before)).args in ap (answer_of s.point s.reached) (gone c.before (area c.before false (c.if-not-in_area.true)))
 
 pub loop-i-preserved : goal.loop-i-preserved
 loop-i-preserved c =
     let a = c.before in
-    let h = area a true (not-false _ c.if-not-in_area.false) in
+    let h = area a true (c.if-not-in_area.false) in
     (omega (arith, below (l a)), h, onward a h)
 
 pub returns : goal.returns

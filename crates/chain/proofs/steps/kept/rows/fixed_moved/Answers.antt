@@ -17,12 +17,12 @@ TheElse1 = lts.Else1 tie.the-claims reads.Pre reads.Post
 
 pub returns-then-not-fixed_in_range : goal.returns-then-not-fixed_in_range
 returns-then-not-fixed_in_range c =
-    let bad = sym c.fixed_in_range.ensures ∙ not-true _ c.if-not-fixed_in_range.true in
+    let bad = sym c.fixed_in_range.ensures ∙ c.if-not-fixed_in_range.true in
     (c.nowhere.ensures ∙ sym bad, λ e. no_both bad e)
 
 -- the range, once it was tested
 good : (c : TheElse1) → ready_range (Fixed c.args.g) ≡ true
-good c = sym c.fixed_in_range.ensures ∙ not-false _ c.if-not-fixed_in_range.false
+good c = sym c.fixed_in_range.ensures ∙ c.if-not-fixed_in_range.false
 
 pub fixed_forward-requires : goal.fixed_forward-requires
 fixed_forward-requires c = (range-ok (Fixed c.args.g) (good c), c.requires)

@@ -32,7 +32,7 @@ formed c b e = sym (c.within.ensures ∙ ap (λ (z : ℤ). within (pos 0) z (pos
 pub returns-then-not-within : goal.returns-then-not-within
 returns-then-not-within c =
     let x = c.args in
-    no-form x.form x.a x.b x.c x.d x.e x.f x.g x.p c.nowhere.result (formed c.before.before false (not-true _ c.if-not-within.true)) c.nowhere.ensures
+    no-form x.form x.a x.b x.c x.d x.e x.f x.g x.p c.nowhere.result (formed c.before.before false (c.if-not-within.true)) c.nowhere.ensures
 
 -- the form, as each test reads it
 module _ (s : TheStart) where
@@ -50,9 +50,9 @@ pub returns-then-equal : goal.returns-then-equal
 returns-then-equal c =
     let s = c.before.before.before.before.before in
     let e = is s (pos 0) true _ c.equal.ensures c.if-equal.true in
-    lead s c.Fixed-moved.result (Fixed (position (read s s.args.a) (read s s.args.b) (read s s.args.c))) (rw (e, rd s.ranges.a, rd s.ranges.b, rd s.ranges.c))
-    (formed c.before.before.before.before true (not-false _ c.if-not-within.false))
-    c.Fixed-moved.ensures
+    lead s c.fixed_moved.result (Fixed (position (read s s.args.a) (read s s.args.b) (read s s.args.c))) (rw (e, rd s.ranges.a, rd s.ranges.b, rd s.ranges.c))
+    (formed c.before.before.before.before true (c.if-not-within.false))
+    c.fixed_moved.ensures
 
 pub returns-then-equal-2 : goal.returns-then-equal-2
 returns-then-equal-2 c =
@@ -71,7 +71,7 @@ returns-then-equal-2 c =
       s = read s s.args.g;
     }))
     (rw (e, h, rd s.ranges.a, rd s.ranges.b, rd s.ranges.c, rd s.ranges.d, rd s.ranges.e, rd s.ranges.f, rd s.ranges.g))
-    (formed c.before.before.before.before.before.before true (not-false _ c.if-not-within.false))
+    (formed c.before.before.before.before.before.before true (c.if-not-within.false))
     c.turn_moved.ensures
 
 pub returns : goal.returns
@@ -82,5 +82,5 @@ returns c =
     lead s c.scale_moved.result
     (Scaled (record { kx = read s s.args.a; ky = read s s.args.b; kz = read s s.args.c; slope = read s s.args.d }))
     (rw (e, h, rd s.ranges.a, rd s.ranges.b, rd s.ranges.c, rd s.ranges.d))
-    (formed c.before.before.before.before.before.before true (not-false _ c.if-not-within.false))
+    (formed c.before.before.before.before.before.before true (c.if-not-within.false))
     c.scale_moved.ensures

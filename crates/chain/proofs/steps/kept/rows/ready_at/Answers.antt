@@ -16,7 +16,7 @@ returns c =
     let c7 = c6.before in
     let c8 = c7.before in
     let c9 = c8 in
-    eight-say (first-number c9.args.numbers.now c9.args.index (told c8.ready_of-arg-1.given)) (told c7.ready_of-arg-2-1.given) (told c6.ready_of-arg-3-1.given) (told c5.ready_of-arg-4-1.given) (told c4.ready_of-arg-5-1.given) (told c3.ready_of-arg-6-1.given) (told c2.ready_of-arg-7-1.given) (told c.ready_of-arg-8-1.given) c.Ready-of.result c.Ready-of.ensures
+    eight-say (first-number c9.args.numbers.now c9.args.index (told c8.ready_of-arg-1.given)) (told c7.ready_of-arg-2-1.given) (told c6.ready_of-arg-3-1.given) (told c5.ready_of-arg-4-1.given) (told c4.ready_of-arg-5-1.given) (told c3.ready_of-arg-6-1.given) (told c2.ready_of-arg-7-1.given) (told c.ready_of-arg-8-1.given) c.ready_of.result c.ready_of.ensures
 
 pub overflow_mul-at : goal.overflow_mul-at
 overflow_mul-at c = row_fits c.requires

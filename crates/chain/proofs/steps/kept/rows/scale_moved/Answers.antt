@@ -17,12 +17,12 @@ TheElse1 = lts.Else1 tie.the-claims reads.Pre reads.Post
 
 pub returns-then-not-scale_in_range : goal.returns-then-not-scale_in_range
 returns-then-not-scale_in_range c =
-    let bad = sym c.scale_in_range.ensures ∙ not-true _ c.if-not-scale_in_range.true in
+    let bad = sym c.scale_in_range.ensures ∙ c.if-not-scale_in_range.true in
     (c.nowhere.ensures ∙ sym bad, λ e. no_both bad e)
 
 -- the range, once it was tested
 good : (c : TheElse1) → ready_range (Scaled c.args.t) ≡ true
-good c = sym c.scale_in_range.ensures ∙ not-false _ c.if-not-scale_in_range.false
+good c = sym c.scale_in_range.ensures ∙ c.if-not-scale_in_range.false
 
 pub scale_forward-requires : goal.scale_forward-requires
 scale_forward-requires c = (range-ok (Scaled c.args.t) (good c), c.requires)

@@ -17,12 +17,12 @@ TheElse1 = lts.Else1 tie.the-claims reads.Pre reads.Post
 
 pub returns-then-not-turn_in_range : goal.returns-then-not-turn_in_range
 returns-then-not-turn_in_range c =
-    let bad = sym c.turn_in_range.ensures ∙ not-true _ c.if-not-turn_in_range.true in
+    let bad = sym c.turn_in_range.ensures ∙ c.if-not-turn_in_range.true in
     (c.nowhere.ensures ∙ sym bad, λ e. no_both bad e)
 
 -- the range, once it was tested
 good : (c : TheElse1) → ready_range (Turned c.args.t) ≡ true
-good c = sym c.turn_in_range.ensures ∙ not-false _ c.if-not-turn_in_range.false
+good c = sym c.turn_in_range.ensures ∙ c.if-not-turn_in_range.false
 
 pub turn_forward-requires : goal.turn_forward-requires
 turn_forward-requires c = (range-ok (Turned c.args.t) (good c), c.requires)

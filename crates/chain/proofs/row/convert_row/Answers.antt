@@ -24,7 +24,8 @@ module _ (c : Chain) (d : Direction) (xs : List Point) (ys : List Answer) where
   turn : (i : ℕ) (now : List Answer) (x : Point) (r : Answer) (w : ReadyChain) → now ≡ cur i → w ≡ ready_chain_of c → r ≡ convert_ready w d (get_or xs i x)
       → i < length xs → length xs ≤ length ys → set now i r ≡ cur (i + 1)
   turn i now x r w e f g small le =
-      ap (λ (l : List Answer). set l i r) e ∙ ap (set (cur i) i) (g ∙ ap (λ (v : ReadyChain). convert_ready v d (get_or xs i x)) f ∙ ready-converts c d (get_or xs i x))
+      ap (λ (l : List Answer). set l i r) e
+      ∙ ap (set (cur i) i) (g ∙ ap (λ (v : ReadyChain). convert_ready v d (get_or xs i x)) f ∙ ready-converts c d (get_or xs i x))
       ∙ L.cur-set (convert_of c d) i xs ys x small le ∙ ap cur (sym (add-one i))
 
   -- where the loop ends, all are done
@@ -56,18 +57,20 @@ loop-i-smaller c = omega (arith, c.loop-i-test.true)
 
 pub loop-i-preserved : goal.loop-i-preserved
 loop-i-preserved c =
-    let e = sym c.row_fault-fault.ensures ∙ c.if-fault-eq0.true in (
+    let l = c.loop-i in
+    let e = sym c.row_fault-fault.ensures ∙ c.if-fault-eq0.true in
+    let k = L.row-long c.args.chain c.args.direction c.args.points.now c.args.answers.now e in (
       omega (arith, c.loop-i-test.true),
-      turn c.args.chain c.args.direction c.args.points.now c.args.answers.now c.loop-i.i c.loop-i.answers _ _ c.ready_chain-ready.result c.loop-i.invariant.1 c.ready_chain-ready.ensures
-          c.convert_ready.ensures c.loop-i-test.true (L.row-long c.args.chain c.args.direction c.args.points.now c.args.answers.now e),
+      turn c.args.chain c.args.direction c.args.points.now c.args.answers.now l.i l.answers _ _ c.ready_chain-ready.result l.invariant.1
+          c.ready_chain-ready.ensures c.convert_ready.ensures c.loop-i-test.true k,
     )
 
 pub returns-after-loop-i : goal.returns-after-loop-i
-returns-after-loop-i c = (
-  c.row_fault-fault.ensures,
-  all c.args.chain c.args.direction c.args.points.now c.args.answers.now c.loop-i.i c.loop-i.answers c.loop-i.invariant.1 (omega (arith, c.loop-i.invariant.0, c.loop-i-test.false))
-      (sym c.row_fault-fault.ensures ∙ c.if-fault-eq0.true),
-)
+returns-after-loop-i c =
+    let l = c.loop-i in
+    let f : l.i ≡ length c.args.points.now = omega (arith, l.invariant.0, c.loop-i-test.false) in
+    let e = sym c.row_fault-fault.ensures ∙ c.if-fault-eq0.true in
+    (c.row_fault-fault.ensures, all c.args.chain c.args.direction c.args.points.now c.args.answers.now l.i l.answers l.invariant.1 f e)
 
 pub returns-else-fault-eq0 : goal.returns-else-fault-eq0
 returns-else-fault-eq0 c = (

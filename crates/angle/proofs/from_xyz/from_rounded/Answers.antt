@@ -25,4 +25,5 @@ returns-in-Whole-height c =
     let p : SFits w64 c.in-Whole.a = search rules in
     let q : SFits w64 c.in-Whole-past.b = search rules in
     let r : SFits w64 c.in-Whole-height.c = search rules in
-    rw (c.in-Whole.is, c.in-Whole-past.is, c.in-Whole-height.is) (c.in_ranges.ensures ∙ rw (to_z-of_z w64 c.in-Whole.a p, to_z-of_z w64 c.in-Whole-past.b q, to_z-of_z w64 c.in-Whole-height.c r))
+    rw (c.in-Whole.is, c.in-Whole-past.is, c.in-Whole-height.is)
+    (c.in_ranges.ensures ∙ rw (to_z-of_z w64 c.in-Whole.a p, to_z-of_z w64 c.in-Whole-past.b q, to_z-of_z w64 c.in-Whole-height.c r))

@@ -24,4 +24,5 @@ returns-in-Whole-difference c =
     let a = c in
     let p : SFits w64 c.in-Whole.a = search rules in
     let q : SFits w64 c.in-Whole-difference.b = search rules in
-    rw (c.in-Whole.is, c.in-Whole-difference.is) (c.in_ranges.ensures ∙ rw (to_z-of_z w64 c.in-Whole.a p, to_z-of_z w64 c.in-Whole-difference.b q, to_z-of_z w64 a.args.centre a.ranges.centre))
+    rw (c.in-Whole.is, c.in-Whole-difference.is)
+    (c.in_ranges.ensures ∙ rw (to_z-of_z w64 c.in-Whole.a p, to_z-of_z w64 c.in-Whole-difference.b q, to_z-of_z w64 a.args.centre a.ranges.centre))

@@ -11,4 +11,4 @@ returns-then-v-gt0 c =
     let z = c.above_zero.result in
     let e : to_z w64 (of_z w64 z) ≡ z = search rules in
     rw (e, c.above_zero.ensures)
-    (K.counted _ _ _ a.1 a.0 (omega arith) (omega (arith, pow-le-pow_right (omega arith) c.few_alone-v.ensures.count_bound)) refl)
+    (K.counted _ _ _ a.1 a.0 (omega arith) (omega (arith, pow-le-pow_right {n = 10} (omega arith) c.few_alone-v.ensures.count_bound)) refl)

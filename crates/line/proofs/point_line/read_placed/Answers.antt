@@ -41,6 +41,9 @@ end_is s at = ap (λ (l : List ℕ). line_end l at) (take_all (length s) s (omeg
 pub slice_bounds-read_alone-count : goal.slice_bounds-read_alone-count
 slice_bounds-read_alone-count c = let l = line-inside _ _ _ (c.line_end-end.ensures ∙ end_is c.args.input.now c.args.from) (omega arith) in omega arith
 
+pub slice_bounds-read_alone-end-2 : goal.slice_bounds-read_alone-end-2
+slice_bounds-read_alone-end-2 c = let l = line-inside _ _ _ (c.line_end-end.ensures ∙ end_is c.args.input.now c.args.from) (omega arith) in omega arith
+
 pub slice_bounds-read_alone-start : goal.slice_bounds-read_alone-start
 slice_bounds-read_alone-start c = let l = line-inside _ _ _ (c.line_end-end.ensures ∙ end_is c.args.input.now c.args.from) (omega arith) in omega arith
 

@@ -11,7 +11,7 @@ pub loop-i-preserved : goal.loop-i-preserved
 loop-i-preserved c =
     let k = c.loop-i in
     elim c.if-s-i-eq-TAB.branch [
-      then-s-i-eq-TAB w ↦ rw w.count-is (T.counting-tab k.invariant (omega arith) w.if-s-i-eq-TAB.true)
+      | then-s-i-eq-TAB w ↦ rw w.count-is (T.counting-tab k.invariant (omega arith) w.if-s-i-eq-TAB.true)
       | else-s-i-eq-TAB w ↦ rw w.count-is (T.counting-byte k.invariant (omega arith) w.if-s-i-eq-TAB.false)
     ]
 

@@ -43,7 +43,7 @@ returns c =
     let careful = F.careful-step y in
     ap Malformed (c.fault_of-fault.ensures ∙ ap (fault_of step_shape) (take_all (length l) l (omega arith)))
     ∙ elim c.if-end-line.branch [
-      then-end-line+then-is_counted+else-r-end w ↦ A.bad-form (step_fault y) line.Step line.Refused careful _ _ _ _ framed (omega arith) w.step_fields-r.ensures w.if-r-end.false
+      | then-end-line+then-is_counted+else-r-end w ↦ A.bad-form (step_fault y) line.Step line.Refused careful _ _ _ _ framed (omega arith) w.step_fields-r.ensures w.if-r-end.false
       | then-end-line+else-is_counted w ↦ ap (read_as (step_fault y) line.Step line.Refused (Malformed (fault_of step_shape l))) (sym (step-uncounted l _ (L.body-some l _ framed (omega arith)) (eqb-false _ _ (sym w.is_counted.ensures ∙ w.if-is_counted.false))))
       | else-end-line w ↦ A.bad-frame (step_fault y) line.Step line.Refused careful _ _ _ _ framed (omega arith)
     ]

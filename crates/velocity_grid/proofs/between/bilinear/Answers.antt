@@ -58,7 +58,7 @@ module _ (s : TheStart) where
 
 pub blend-south-requires : goal.blend-south-requires
 blend-south-requires c =
-    let s = c.before.before in
+    let s = c.before.before.before in
     let t = c.struct_told-2-1.given in
     to₄ BlendOk (rd s.ranges.m) (rd s.ranges.x) (told {z = s.args.c.south_west} t.0.1) (told {z = s.args.c.south_east} t.1.0.1) (edge s s.args.c.south_west s.args.c.south_east s.requires.south-west s.requires.south-east)
 

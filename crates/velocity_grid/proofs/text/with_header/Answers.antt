@@ -67,7 +67,7 @@ module _ (c : TheAfterNodesFault) where
 pub returns-then-fault-ne0 : goal.returns-then-fault-ne0
 unfolding headed
 returns-then-fault-ne0 c =
-    let n = c.before.before in
+    let n = c.before.before.before in
     let g = (begun n).args.g in
     rw (in-range n) (refused n.nodes_fault-fault.result g c.if-fault-ne0.true ∙ ap (λ (f : GridFault). unless_grid_fault f g) (fault-is n))
 

@@ -46,7 +46,7 @@ module _ (c : TheStart) where
   same = to_z-of_z w64 c.args.longitude c.ranges.longitude
 
 pub int_to_float-latitude : goal.int_to_float-latitude
-int_to_float-latitude c = read_back c.args.latitude c.ranges.latitude (latitude c.before)
+int_to_float-latitude c = read_back c.args.latitude c.ranges.latitude (latitude c.before.before)
 
 pub overflow_sub-longitude : goal.overflow_sub-longitude
 overflow_sub-longitude c = rw (same c.before.before) (past_fits c.before.before)

@@ -62,7 +62,7 @@ along-north-requires c =
 
 pub along-east-requires : goal.along-east-requires
 along-east-requires c =
-    let m = c.before.before.before.before.before in
+    let m = c.before.before.before.before.before.before in
     let t = c.struct_told-5-1.given in
     to₄ Asked (told {z = (grid m).longitude} t.1.0.1) (told {z = (grid m).columns} t.1.1.1.0.1) (mesh-is m) (rd (start m).ranges.longitude) (columns-axis (grid m) (head m), (on m).1)
 

@@ -74,6 +74,6 @@ returns-then-fault-ne0 c =
 pub returns : goal.returns
 unfolding headed
 returns c =
-    let n = c.before.before in
+    let n = c.before.before.before in
     let g = (begun n).args.g in
     rw (in-range n) (given n.nodes_fault-fault.result g c.if-fault-ne0.false ∙ ap (λ (f : GridFault). unless_grid_fault f g) (fault-is n))

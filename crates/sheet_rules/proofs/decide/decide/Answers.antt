@@ -12,7 +12,7 @@ returns-then-letter-eq83 c = λ s h. rw (eq-eqb _ letter_s c.if-letter-eq83.true
 
 pub returns-then-letter-eq80 : goal.returns-then-letter-eq80
 unfolding reply_of next_of
-returns-then-letter-eq80 c = λ s h. rw (ne_eqb _ letter_s c.if1.false, eq-eqb _ letter_p c.if2.true) (c.decide_point.ensures s h)
+returns-then-letter-eq80 c = λ s h. rw (ne_eqb _ letter_s c.if-letter-eq83.false, eq-eqb _ letter_p c.if-letter-eq80.true) (c.decide_point.ensures s h)
 
 pub returns-then-letter-eq69 : goal.returns-then-letter-eq69
 unfolding reply_of next_of

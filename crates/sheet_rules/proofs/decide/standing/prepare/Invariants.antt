@@ -10,7 +10,7 @@ use lib.ListN.{length, length-map, take}
 use Rattle.ranges.specs.Ranges.{profile_range}
 use Rattle.chain.specs.declared.Step.{Step}
 use Rattle.chain.specs.Prepared as prepared
-use Rattle.chain.proofs.AtIndex.{no_step}
+use Rattle.chain.proofs.AtIndex.{step_past_end}
 use Rattle.sheet_rules.specs.OneLine.{PreparesChain}
 use Rattle.sheet_rules.proofs.Preparing.{no-profile, long-chain, none-prepared, refused-step, next-step, all-prepared}
 use borrow.Author.Rules.{rules}

@@ -26,7 +26,7 @@ use Rattle.sheet_rules.specs.State.{Holds}
 use Rattle.sheet_rules.proofs.Laws.{point-line-shown}
 use Rattle.sheet_rules.proofs.Room.{roomy}
 use Rattle.sheet_rules.proofs.BareLines.{bare, hold-feeds}
-use borrow.Author.Rules.{rules}
+use borrow.Author.Rules.{rules as std_rules}
 use Rattle.sheet_rules.proofs.decide.whole.sheet.Goals as goal
 
 -- where a line that was read ends
@@ -60,11 +60,17 @@ loop-from-preserved-then-input-from-eq-LINE_FEED c = goes-past rules _ fresh ref
 pub slice_bounds-print_point-count : goal.slice_bounds-print_point-count
 slice_bounds-print_point-count c = let l = piece _ _ _ (ended _ _ _ c.read_placed-read.ensures) (omega arith) in omega arith
 
+pub slice_bounds-print_point-start : goal.slice_bounds-print_point-start
+slice_bounds-print_point-start c = let l = piece _ _ _ (ended _ _ _ c.read_placed-read.ensures) (omega arith) in omega arith
+
+pub slice_bounds-print_point-end : goal.slice_bounds-print_point-end
+slice_bounds-print_point-end c = let l = piece _ _ _ (ended _ _ _ c.read_placed-read.ensures) (omega arith) in omega arith
+
 pub print_point-done-requires : goal.print_point-done-requires
 print_point-done-requires c =
     let k = c.loop-from.invariant in
     let r = placed-read _ _ _ c.read_placed-read.ensures in
-    let profile : to_z w64 (of_z w64 c.loop-from.state.profile) ≡ c.loop-from.state.profile = search rules in
+    let profile : to_z w64 (of_z w64 c.loop-from.state.profile) ≡ c.loop-from.state.profile = search std_rules in
     (omega (arith, k.counted, k.held.line, k.inside, c.if-input-gt-LONGEST_INPUT.false), rw profile at r.0, r.1)
 
 pub loop-from-smaller-then-input-from-eq80 : goal.loop-from-smaller-then-input-from-eq80
@@ -81,6 +87,12 @@ loop-from-preserved-then-input-from-eq80 c =
 
 pub slice_bounds-decide-count : goal.slice_bounds-decide-count
 slice_bounds-decide-count c = let l = piece _ _ _ c.line_end-end.ensures (omega arith) in omega arith
+
+pub slice_bounds-decide-start : goal.slice_bounds-decide-start
+slice_bounds-decide-start c = let l = piece _ _ _ c.line_end-end.ensures (omega arith) in omega arith
+
+pub slice_bounds-decide-end : goal.slice_bounds-decide-end
+slice_bounds-decide-end c = let l = piece _ _ _ c.line_end-end.ensures (omega arith) in omega arith
 
 pub decide-decided-requires : goal.decide-decided-requires
 decide-decided-requires c = let l = piece _ _ _ c.line_end-end.ensures (omega arith) in let k = c.loop-from.invariant in (omega (arith, k.counted, k.held.line, k.inside, c.if-input-gt-LONGEST_INPUT.false), omega (arith, l.some, l.size))

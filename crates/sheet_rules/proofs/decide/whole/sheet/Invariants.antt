@@ -25,7 +25,6 @@ use Rattle.sheet_rules.specs.State.{Holds}
 use Rattle.sheet_rules.proofs.Laws.{point-line-shown}
 use Rattle.sheet_rules.proofs.Room.{roomy}
 use Rattle.sheet_rules.proofs.BareLines.{bare, hold-feeds}
-use borrow.Author.Rules.{rules}
 use Rattle.sheet_rules.proofs.decide.whole.sheet.Given as goal
 
 abbrev pub invariant-loop-from : goal.invariant-loop-from

@@ -1,11 +1,9 @@
 -- `sheet_stream::finish` meets its contract. The three cases of `finish_of`. Assumes nothing.
-use mathlib.Core.Path.{◌≡◌, sym, ◌∙◌}
+use mathlib.Core.Path.{sym, ◌∙◌}
 use mathlib.Core.List.{[]}
 use native.Mathlib.Omega.{arith}
-use borrow.Author.Tests.{not-true, not-false}
 use Rattle.sheet_stream.proofs.Laws.{finish-state, finish-none}
 use Rattle.sheet_stream.proofs.Scanning as L
-use borrow.Author.Rules.{rules}
 use Rattle.sheet_stream.proofs.finish.Tie as tie
 use Rattle.sheet_stream.proofs.finish.Lts as lts
 use Rattle.sheet_stream.proofs.finish.Reads as reads

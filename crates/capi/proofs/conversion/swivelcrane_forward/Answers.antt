@@ -1,6 +1,4 @@
 -- `capi::conversion::swivelcrane_forward` meets its contract: the lengths, and then what the library answers. Assumes nothing.
-use borrow.Author.Tests.{not-true, not-false}
-use borrow.Author.Rules.{rules}
 use mathlib.Core.Path.{sym, ◌∙◌}
 use native.Mathlib.Omega.{arith}
 use Rattle.rounding.proofs.Machine.{told, rd}

@@ -1,6 +1,5 @@
 -- `capi::geodetic::swivelcrane_cartesian` meets its contract: the length, and then what the library answers. Assumes nothing.
 use borrow.Author.Tests.{eq-eqb, ne_eqb}
-use borrow.Author.Rules.{rules}
 use mathlib.Core.Path.{sym, ◌∙◌, ap}
 use Rattle.capi.specs.Calls.{of_cartesian, cartesian_call}
 use Rattle.capi.proofs.Laws.{by, wrong}

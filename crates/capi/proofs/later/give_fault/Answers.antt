@@ -1,5 +1,4 @@
 -- `capi::later::give_fault` meets its contract: what is given is stored from the first element on. Assumes nothing.
-use borrow.Author.Rules.{rules}
 use mathlib.Core.Path.{refl}
 use mathlib.Core.List.{[], ◌∷◌}
 use Rattle.capi.proofs.Laws.{numbers}

@@ -1,5 +1,5 @@
 -- `capi::point_line::put_passed` meets its contract: the seven numbers, one by one. Assumes nothing.
-use mathlib.Core.Path.{◌≡◌, ◌∙◌, ap}
+use mathlib.Core.Path.{◌∙◌, ap}
 use mathlib.Core.Bool.{Bool, ◌||◌}
 use mathlib.Core.List.{[]}
 use Prim.Native.Nat.{ℕ, ◌+◌}
@@ -11,12 +11,11 @@ use Rattle.rounding.proofs.Machine.{told}
 use Rattle.chain.specs.Numbers.{number}
 use Rattle.capi.specs.Fragments.{flag, bit}
 use Rattle.capi.proofs.PointCalls.{passed-head}
-use borrow.Author.Rules.{rules}
 use Rattle.capi.proofs.point_line.put_passed.Goals as goal
 
 pub returns : goal.returns
 returns c =
-    let bits = c.before.before.before.before.before.before.before.before in
+    let bits = c in
     let s = bits in
     let n = s.args.n.now in
     let l = bits in

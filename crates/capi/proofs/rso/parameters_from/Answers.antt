@@ -1,5 +1,4 @@
 -- `capi::rso::parameters_from` meets its contract: each number is read where it stands. Assumes nothing.
-use borrow.Author.Rules.{rules}
 use Rattle.rounding.proofs.Machine.{told}
 use Rattle.capi.specs.Rso.{parameters_from}
 use Rattle.capi.proofs.rso.parameters_from.Goals as goal

@@ -1,5 +1,5 @@
 -- `capi::state::is_answered` meets its contract. Assumes nothing.
-use mathlib.Core.Path.{◌≡◌, ◌∙◌, ap, ap₂}
+use mathlib.Core.Path.{◌∙◌, ap, ap₂}
 use mathlib.Core.Bool.{Bool, not, ◌&&◌}
 use Prim.Native.Nat.{ℕ, ◌+◌}
 use native.Mathlib.Omega.{arith}
@@ -7,7 +7,6 @@ use Rattle.rounding.proofs.Machine.{told}
 use Rattle.chain.specs.Numbers.{number}
 use Rattle.capi.specs.Fragments.{flag}
 use Rattle.capi.proofs.Streams.{sound-in, chain-read}
-use borrow.Author.Rules.{rules}
 use Rattle.capi.proofs.state.is_answered.Goals as goal
 
 pub overflow_add-line : goal.overflow_add-line

@@ -1,10 +1,9 @@
 -- `capi::state::put_bytes` meets its contract: the first i bytes are copied. Assumes nothing.
 use mathlib.Core.Path.{◌≡◌, refl, ◌∙◌}
-use Prim.Native.Nat.{◌-◌, ◌≤◌}
+use Prim.Native.Nat.{◌-◌}
 use native.Mathlib.Omega.{arith}
-use lib.ListN.{length, take, length-set}
+use lib.ListN.{length-set}
 use Rattle.capi.proofs.Streams.{one_more, all-copied}
-use borrow.Author.Rules.{rules}
 use Rattle.capi.proofs.state.put_bytes.Goals as goal
 
 pub loop-i-init : goal.loop-i-init

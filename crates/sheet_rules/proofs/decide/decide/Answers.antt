@@ -3,7 +3,6 @@ use borrow.Author.Tests.{eq-eqb, ne_eqb}
 use Rattle.line.specs.Bytes.{letter_s, letter_p, letter_e}
 use Rattle.sheet_rules.specs.Sheet.{reply_of, next_of}
 use Rattle.sheet_rules.proofs.Laws.{gave-malformed}
-use borrow.Author.Rules.{rules}
 use Rattle.sheet_rules.proofs.decide.decide.Goals as goal
 
 pub returns-then-letter-eq83 : goal.returns-then-letter-eq83

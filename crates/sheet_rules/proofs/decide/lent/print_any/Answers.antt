@@ -7,7 +7,6 @@ use lib.IntN.{ℤ}
 use mir.Syntax.{w64}
 use mir.Val.{to_z, of_z}
 use borrow.Author.Rules.{rules}
-use Rattle.chain.specs.declared.Chain.{Chain}
 use Rattle.chain.specs.Numbers.{chain_from}
 use Rattle.line.specs.declared.PointLine.{PointLine}
 use Rattle.line.specs.Readers.{read_point}
@@ -16,9 +15,6 @@ use Rattle.refusal.specs.Numbers.{earlier}
 use Rattle.sheet_rules.specs.declared.Reply.TheVariants as reply
 use Rattle.sheet_rules.specs.OneLine.{point_answered, where_good, PointPrinted}
 use Rattle.sheet_rules.proofs.Points.{malformed-answered, refused-answered, earlier-answered, printed-so, printed-size}
-use Rattle.sheet_rules.proofs.decide.lent.print_any.Tie as tie
-use Rattle.sheet_rules.proofs.decide.lent.print_any.Lts as lts
-use Rattle.sheet_rules.proofs.decide.lent.print_any.Reads as reads
 use Rattle.sheet_rules.proofs.decide.lent.print_any.Goals as goal
 
 -- what the line reads as

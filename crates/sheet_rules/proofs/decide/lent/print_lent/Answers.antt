@@ -11,16 +11,12 @@ use mir.Val.{to_z, of_z}
 use borrow.Author.Rules.{rules}
 use borrow.Author.Tests.{eqb-true, not-true}
 use Rattle.ranges.proofs.Ranges.{both}
-use Rattle.chain.specs.declared.Chain.{Chain}
 use Rattle.chain.specs.Numbers.{chain_from}
 use Rattle.line.specs.declared.PlacedLine.{PlacedLine}
 use Rattle.line.specs.Readers.{read_point, datum_place, placed_point}
 use Rattle.line.proofs.AsWritten.{one-read, one-whole, placed_end}
 use Rattle.sheet_rules.specs.OneLine.{point_answered}
 use Rattle.sheet_rules.proofs.Points.{printed-so}
-use Rattle.sheet_rules.proofs.decide.lent.print_lent.Tie as tie
-use Rattle.sheet_rules.proofs.decide.lent.print_lent.Lts as lts
-use Rattle.sheet_rules.proofs.decide.lent.print_lent.Reads as reads
 use Rattle.sheet_rules.proofs.decide.lent.print_lent.Goals as goal
 
 -- a text that is one line is read as that line

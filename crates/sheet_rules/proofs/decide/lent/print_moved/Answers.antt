@@ -1,20 +1,15 @@
 -- `sheet_rules::decide::lent::print_moved` meets its contract. Assumes nothing.
-use mathlib.Core.Path.{◌≡◌, refl, sym, ◌∙◌, ap, subst}
+use mathlib.Core.Path.{◌≡◌, refl, sym, subst}
 use mathlib.Core.Bool.{true, false}
 use lib.IntN.{ℤ}
 use mir.Syntax.{w64}
 use mir.Val.{to_z, of_z}
 use borrow.Author.Rules.{rules}
-use Rattle.chain.specs.declared.Chain.{Chain}
-use Rattle.chain.specs.Convert.{arrival_of, forward_of}
 use Rattle.chain.specs.Numbers.{chain_from}
 use Rattle.chain.proofs.Accepted.{arrival-refused, forward-arrived}
 use Rattle.sheet_rules.specs.declared.Reply.TheVariants as reply
 use Rattle.sheet_rules.specs.OneLine.{where_good, PointPrinted}
 use Rattle.sheet_rules.proofs.Points.{unconverted-answered, printed-so, printed-size, moved-printed}
-use Rattle.sheet_rules.proofs.decide.lent.print_moved.Tie as tie
-use Rattle.sheet_rules.proofs.decide.lent.print_moved.Lts as lts
-use Rattle.sheet_rules.proofs.decide.lent.print_moved.Reads as reads
 use Rattle.sheet_rules.proofs.decide.lent.print_moved.Goals as goal
 
 pub shape_of-out-then-number-ne0 : goal.shape_of-out-then-number-ne0

@@ -6,14 +6,10 @@ use mir.Val.{to_z, of_z}
 use borrow.Author.Rules.{rules}
 use borrow.Author.Tests.{eq-eqb, ne_eqb}
 use Rattle.refusal.specs.Order.{first}
-use Rattle.chain.specs.declared.Chain.{Chain}
 use Rattle.chain.specs.Faults.{chain_tests}
 use Rattle.chain.specs.Numbers.{chain_from}
 use Rattle.sheet_rules.specs.declared.Reply.TheVariants as reply
 use Rattle.sheet_rules.proofs.Points.{bad-printed, good-printed}
-use Rattle.sheet_rules.proofs.decide.lent.print_tested.Tie as tie
-use Rattle.sheet_rules.proofs.decide.lent.print_tested.Lts as lts
-use Rattle.sheet_rules.proofs.decide.lent.print_tested.Reads as reads
 use Rattle.sheet_rules.proofs.decide.lent.print_tested.Goals as goal
 
 pub returns-then-fault_in-ne0 : goal.returns-then-fault_in-ne0

@@ -1,13 +1,7 @@
 -- `sheet_rules::decide::standing::answer_line` meets its contract. Assumes nothing.
-use mathlib.Core.Path.{◌≡◌, sym, ◌∙◌}
+use mathlib.Core.Path.{sym, ◌∙◌}
 use mathlib.Core.Bool.{true}
-use borrow.Author.Tests.{not-true, not-false}
-use Rattle.sheet_rules.specs.OneLine.{sound_standing}
 use Rattle.sheet_rules.proofs.OneLine.{unsound-answered, past-answered, sound-answered}
-use borrow.Author.Rules.{rules}
-use Rattle.sheet_rules.proofs.decide.standing.answer_line.Tie as tie
-use Rattle.sheet_rules.proofs.decide.standing.answer_line.Lts as lts
-use Rattle.sheet_rules.proofs.decide.standing.answer_line.Reads as reads
 use Rattle.sheet_rules.proofs.decide.standing.answer_line.Goals as goal
 
 pub returns-then-not-is_sound : goal.returns-then-not-is_sound

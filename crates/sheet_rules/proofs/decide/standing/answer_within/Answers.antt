@@ -1,5 +1,5 @@
 -- `sheet_rules::decide::standing::answer_within` meets its contract. Assumes nothing.
-use mathlib.Core.Path.{◌≡◌, refl, sym, ◌∙◌}
+use mathlib.Core.Path.{◌≡◌, sym, ◌∙◌}
 use mir.Syntax.{w64}
 use mir.Val.{to_z, of_z}
 use Rattle.sheet_rules.specs.OneLine.{sheet_at}

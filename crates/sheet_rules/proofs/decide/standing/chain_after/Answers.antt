@@ -1,21 +1,15 @@
 -- `sheet_rules::decide::standing::chain_after` meets its contract. Assumes nothing.
-use mathlib.Core.Path.{◌≡◌, refl, sym, ◌∙◌}
-use mathlib.Core.Bool.{Bool, true, false}
+use mathlib.Core.Path.{◌≡◌, sym, ◌∙◌}
+use mathlib.Core.Bool.{true, false}
 use Prim.Native.Nat.{◌≤◌}
 use native.Mathlib.Omega.{arith}
-use borrow.Author.Tests.{not-true, not-false}
 use mir.Syntax.{w64}
 use mir.Val.{to_z, of_z}
-use lib.Dec.{eqb}
-use lib.ListN.{length, get_or, length-map}
+use lib.ListN.{length}
 use Rattle.chain.specs.declared.Chain.{Chain}
-use Rattle.line.specs.Bytes.{letter_s}
 use Rattle.line.specs.Readers.{read_step}
 use Rattle.sheet_rules.proofs.OneLine.{after-other, after-accepted, after-malformed, after-refused, after-point, after-refusal}
 use borrow.Author.Rules.{rules}
-use Rattle.sheet_rules.proofs.decide.standing.chain_after.Tie as tie
-use Rattle.sheet_rules.proofs.decide.standing.chain_after.Lts as lts
-use Rattle.sheet_rules.proofs.decide.standing.chain_after.Reads as reads
 use Rattle.sheet_rules.proofs.decide.standing.chain_after.Goals as goal
 
 -- an array's length is what owning the struct tells

@@ -1,18 +1,14 @@
 -- `sheet_rules::decide::standing::prepare` meets its contract. The loop's invariant: the numbers hold the first i steps. Assumes nothing.
-use mathlib.Core.Path.{◌≡◌, sym, ◌∙◌, ap}
-use mathlib.Core.Bool.{Bool, true, false}
-use mathlib.Core.List.{List}
-use Prim.Native.Nat.{ℕ, ◌-◌, ◌≤◌}
+use mathlib.Core.Path.{◌≡◌, sym, ◌∙◌}
+use mathlib.Core.Bool.{true, false}
+use Prim.Native.Nat.{◌-◌}
 use native.Mathlib.Omega.{arith}
-use borrow.Author.Tests.{not-true, not-false}
 use mir.Syntax.{w64}
 use mir.Val.{to_z, of_z}
-use lib.ListN.{length, length-map, take}
+use lib.ListN.{length}
 use Rattle.ranges.specs.Ranges.{profile_range}
-use Rattle.chain.specs.declared.Step.{Step}
 use Rattle.chain.specs.Prepared as prepared
 use Rattle.chain.proofs.AtIndex.{step_past_end}
-use Rattle.sheet_rules.specs.OneLine.{PreparesChain}
 use Rattle.sheet_rules.proofs.Preparing.{no-profile, long-chain, none-prepared, refused-step, next-step, all-prepared}
 use borrow.Author.Rules.{rules}
 use Rattle.sheet_rules.proofs.decide.standing.prepare.Tie as tie

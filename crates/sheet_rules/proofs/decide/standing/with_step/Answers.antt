@@ -1,5 +1,5 @@
 -- `sheet_rules::decide::standing::with_step` meets its contract. Assumes nothing.
-use mathlib.Core.Path.{◌≡◌, sym, ◌∙◌}
+use mathlib.Core.Path.{◌≡◌}
 use mathlib.Core.List.{List}
 use Prim.Native.Nat.{ℕ, ◌<◌, ◌≤◌}
 use Rattle.chain.specs.declared.Step.{Step}
@@ -9,9 +9,6 @@ use mir.Val.{to_z, of_z}
 use lib.ListN.{length, take, length-take}
 use Rattle.sheet_rules.proofs.OneLine.{chain_more}
 use borrow.Author.Rules.{rules}
-use Rattle.sheet_rules.proofs.decide.standing.with_step.Tie as tie
-use Rattle.sheet_rules.proofs.decide.standing.with_step.Lts as lts
-use Rattle.sheet_rules.proofs.decide.standing.with_step.Reads as reads
 use Rattle.sheet_rules.proofs.decide.standing.with_step.Goals as goal
 
 -- an array's length is what owning the struct tells

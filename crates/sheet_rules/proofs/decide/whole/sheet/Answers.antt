@@ -1,11 +1,11 @@
 -- `sheet_rules::decide::whole::sheet` meets its contract. Assumes nothing.
 use Prim.Native.Nat.{ℕ, ◌-◌, ◌<◌}
-use mathlib.Core.Path.{◌≡◌, refl, sym, ap, ◌∙◌}
+use mathlib.Core.Path.{◌≡◌, refl, ap, ◌∙◌}
 use mathlib.Core.List.{List}
 use lib.IntN.{ℤ}
 use native.Mathlib.Omega.{arith}
 use lib.Dec.{eqb}
-use lib.ListN.{length, get_or, take, drop}
+use lib.ListN.{get_or, take, drop}
 use lib.Seq.{get_or-take, get_or-drop}
 use mathlib.Core.Bool.{true}
 use mir.Syntax.{w64}
@@ -20,9 +20,8 @@ use Rattle.line.proofs.Lines.{piece}
 use Rattle.line.proofs.BareLines.{row_inside}
 use Rattle.listing.proofs.Fold.{printed-long}
 use Rattle.listing.proofs.Room.{prints}
-use Rattle.listing.proofs.Loop.{Midway, starts, goes-printed, goes_on, goes-past, ends}
-use Rattle.sheet_rules.specs.Sheet.{Sheet, fresh, rules, sheet_of}
-use Rattle.sheet_rules.specs.State.{Holds}
+use Rattle.listing.proofs.Loop.{starts, goes-printed, goes_on, goes-past, ends}
+use Rattle.sheet_rules.specs.Sheet.{fresh, rules, sheet_of}
 use Rattle.sheet_rules.proofs.Laws.{point-line-shown}
 use Rattle.sheet_rules.proofs.Room.{roomy}
 use Rattle.sheet_rules.proofs.BareLines.{bare, hold-feeds}

@@ -18,7 +18,6 @@ use Rattle.line.proofs.Moved.{moved-line}
 use Rattle.line.proofs.Readers.{point-sound}
 use Rattle.sheet_rules.specs.declared.Reply.TheVariants as reply
 use Rattle.sheet_rules.proofs.Laws.{answered, gave-refusal, gave-point, shown}
-use borrow.Author.Rules.{rules}
 use Rattle.sheet_rules.proofs.decide.whole.printed.print_converted.Goals as goal
 
 pub returns-then-state : goal.returns-then-state

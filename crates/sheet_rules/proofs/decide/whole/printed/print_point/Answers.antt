@@ -1,5 +1,5 @@
 -- `sheet_rules::decide::whole::printed::print_point` meets its contract. Assumes nothing.
-use mathlib.Core.Path.{◌≡◌, refl, sym, ap, ◌∙◌}
+use mathlib.Core.Path.{◌≡◌, refl, sym, ◌∙◌}
 use mathlib.Core.Bool.{or-true, or-false}
 use mathlib.Core.List.{List}
 use Prim.Native.Nat.{ℕ}
@@ -7,10 +7,6 @@ use lib.IntN.{ℤ}
 use Rattle.line.specs.declared.PointLine.{PointLine}
 use Rattle.line.specs.Readers.{read_point}
 use Rattle.sheet_rules.proofs.Laws.{gave-refusal, shown}
-use borrow.Author.Rules.{rules}
-use Rattle.sheet_rules.proofs.decide.whole.printed.print_point.Tie as tie
-use Rattle.sheet_rules.proofs.decide.whole.printed.print_point.Lts as lts
-use Rattle.sheet_rules.proofs.decide.whole.printed.print_point.Reads as reads
 use Rattle.sheet_rules.proofs.decide.whole.printed.print_point.Goals as goal
 
 -- what a line was read as, which the state's profile decides

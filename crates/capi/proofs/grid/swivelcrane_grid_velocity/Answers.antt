@@ -25,10 +25,9 @@ returns-then-out-ne16 c = wrong (rw (ne_eqb _ _ c.if-out-ne16.true))
 pub returns : goal.returns
 unfolding grid_velocity_call
 returns c =
-    let m = c.before.before.before in
-    let e = m.motion_at-answer.ensures ∙ same m.args.grid.now (rd m.ranges.latitude) (rd m.ranges.longitude) (rd m.ranges.datum) (rd m.ranges.before) (rd m.ranges.after) in
+    let e = c.motion_at-answer.ensures ∙ same c.args.grid.now (rd c.ranges.latitude) (rd c.ranges.longitude) (rd c.ranges.datum) (rd c.ranges.before) (rd c.ranges.after) in
     by c.give_motion.ensures
-    (rw (eq-eqb _ _ m.if-out-ne16.false)
-    (sym (alike m.motion_at-answer.result (rd m.ranges.datum) (rd m.ranges.before) (rd m.ranges.after)
-    ∙ ap (λ (w : MotionAnswer). of_motion w m.args.datum m.args.before m.args.after) e)))
+    (rw (eq-eqb _ _ c.if-out-ne16.false)
+    (sym (alike c.motion_at-answer.result (rd c.ranges.datum) (rd c.ranges.before) (rd c.ranges.after)
+    ∙ ap (λ (w : MotionAnswer). of_motion w c.args.datum c.args.before c.args.after) e)))
     (told c.give_motion.type_inv)

@@ -6,7 +6,7 @@ use Prim.Native.Nat.{ℕ, ◌+◌, ◌-◌, ◌<◌, ◌≤◌}
 use native.Mathlib.Omega.{arith}
 use lib.Dec.{eqb}
 use lib.ListN.{length, get_or, set, length-set}
-use lib.Seq.{length-sets, length-take-le, get_or-take}
+use lib.Seq.{sets, length-sets, length-take-le, get_or-take}
 use Rattle.rounding.proofs.Machine.{told}
 use Rattle.ranges.proofs.Ranges.{both}
 use Rattle.sheet_stream.proofs.Scanning.{within-line, fed-some}

@@ -27,8 +27,8 @@ slice_bounds-kept-end c =
     let s = c.args in
     let long : length s.stream.kept ≡ 200 = c.well_formed.0.1.1.1.1.0.1.0.1 in
     let room = ap length c.keep_bytes-n.ensures.0
-        ∙ length-sets s.stream.kept s.stream.count (take (length s.stream.kept - s.stream.count) (take (c.line_end-end.result - 1) s.fragment.now))
-        ∙ long in
+    ∙ length-sets s.stream.kept s.stream.count (take (length s.stream.kept - s.stream.count) (take (c.line_end-end.result - 1) s.fragment.now))
+    ∙ long in
     simp length-set (omega (arith, room, c.if-n-lt-ROOM.true))
 
 pub slice_bounds-end_line-end : goal.slice_bounds-end_line-end
@@ -36,8 +36,8 @@ slice_bounds-end_line-end c =
     let s = c.args in
     let long : length s.stream.kept ≡ 200 = c.well_formed.0.1.1.1.1.0.1.0.1 in
     let room = ap length c.keep_bytes-n.ensures.0
-        ∙ length-sets s.stream.kept s.stream.count (take (length s.stream.kept - s.stream.count) (take (c.line_end-end.result - 1) s.fragment.now))
-        ∙ long in
+    ∙ length-sets s.stream.kept s.stream.count (take (length s.stream.kept - s.stream.count) (take (c.line_end-end.result - 1) s.fragment.now))
+    ∙ long in
     simp (length-take, length-set) (omega (arith, room, c.if-n-lt-ROOM.true))
 
 pub returns-then-n-lt-ROOM : goal.returns-then-n-lt-ROOM
@@ -46,8 +46,8 @@ returns-then-n-lt-ROOM c =
     let k = c.keep_bytes-n in
     let long : length s.stream.kept ≡ 200 = c.well_formed.0.1.1.1.1.0.1.0.1 in
     let room = ap length c.keep_bytes-n.ensures.0
-        ∙ length-sets s.stream.kept s.stream.count (take (length s.stream.kept - s.stream.count) (take (c.line_end-end.result - 1) s.fragment.now))
-        ∙ long in
+    ∙ length-sets s.stream.kept s.stream.count (take (length s.stream.kept - s.stream.count) (take (c.line_end-end.result - 1) s.fragment.now))
+    ∙ long in
     L.fed-line s.stream (L.goes_on s.stream c.if-stream-count.false) s.fragment.now _ c.line_end-end.ensures long _ k.result k.new.room k.ensures.1 k.ensures.0 (sym c.is_fed.ensures ∙ c.if-is_fed.true) refl _
     (c.end_line.ensures ∙ ap (λ (l : List ℕ). ends_with s.stream l c.line_end-end.result false) (sym (L.closing-room s.stream.standing k.result k.new.room false c.if-n-lt-ROOM.true room)))
 

@@ -48,8 +48,10 @@ returns-then-n-lt-ROOM c =
     let room = ap length c.keep_bytes-n.ensures.0
     ∙ length-sets s.stream.kept s.stream.count (take (length s.stream.kept - s.stream.count) (take (c.line_end-end.result - 1) s.fragment.now))
     ∙ long in
-    L.fed-line s.stream (L.goes_on s.stream c.if-stream-count.false) s.fragment.now _ c.line_end-end.ensures long _ k.result k.new.room k.ensures.1 k.ensures.0 (sym c.is_fed.ensures ∙ c.if-is_fed.true) refl _
-    (c.end_line.ensures ∙ ap (λ (l : List ℕ). ends_with s.stream l c.line_end-end.result false) (sym (L.closing-room s.stream.standing k.result k.new.room false c.if-n-lt-ROOM.true room)))
+    L.fed-line s.stream (L.goes_on s.stream c.if-stream-count.false) s.fragment.now _ c.line_end-end.ensures long _ k.result k.new.room k.ensures.1 k.ensures.0
+    (sym c.is_fed.ensures ∙ c.if-is_fed.true) refl _
+    (c.end_line.ensures ∙ ap (λ (l : List ℕ). ends_with s.stream l c.line_end-end.result false)
+    (sym (L.closing-room s.stream.standing k.result k.new.room false c.if-n-lt-ROOM.true room)))
 
 pub end_open-requires : goal.end_open-requires
 end_open-requires c =
@@ -62,13 +64,16 @@ returns-then-is_fed c =
     let s = c.args in
     let k = c.keep_bytes-n in
     let long : length s.stream.kept ≡ 200 = c.well_formed.0.1.1.1.1.0.1.0.1 in
-    L.fed-line s.stream (L.goes_on s.stream c.if-stream-count.false) s.fragment.now _ c.line_end-end.ensures long _ k.result k.new.room k.ensures.1 k.ensures.0 (sym c.is_fed.ensures ∙ c.if-is_fed.true) refl _
-    (c.end_open.ensures ∙ ap (λ (l : List ℕ). ends_with s.stream l c.line_end-end.result false) (sym (L.closing-full s.stream.standing k.result k.new.room false c.if-n-lt-ROOM.false)))
+    L.fed-line s.stream (L.goes_on s.stream c.if-stream-count.false) s.fragment.now _ c.line_end-end.ensures long _ k.result k.new.room k.ensures.1 k.ensures.0
+    (sym c.is_fed.ensures ∙ c.if-is_fed.true) refl _
+    (c.end_open.ensures ∙ ap (λ (l : List ℕ). ends_with s.stream l c.line_end-end.result false)
+    (sym (L.closing-full s.stream.standing k.result k.new.room false c.if-n-lt-ROOM.false)))
 
 pub returns-then-not-is_sound : goal.returns-then-not-is_sound
 returns-then-not-is_sound c =
     let s = c.args in
-    c.refused-then-not-is_sound.ensures ∙ sym (feed-state s.stream s.fragment.now (L.sound-as s.stream (L.goes_on s.stream c.if-stream-count.false) _ c.is_sound.ensures ∙ c.if-not-is_sound.true))
+    c.refused-then-not-is_sound.ensures ∙ sym (feed-state s.stream s.fragment.now
+    (L.sound-as s.stream (L.goes_on s.stream c.if-stream-count.false) _ c.is_sound.ensures ∙ c.if-not-is_sound.true))
 
 pub returns : goal.returns
 returns c =

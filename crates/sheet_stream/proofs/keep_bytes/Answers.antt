@@ -58,5 +58,8 @@ returns c =
     let k = c.loop-i in
     let a = c.args in
     let n = c.least-n.ensures in
-    let l = c.if-size-count.false in
-    (k.invariant.2 ∙ ap (sets a.room.now a.count) (take_min a.bytes.now k.i (length a.room.now - a.count) (omega (arith, n, k.invariant.0, c.loop-i-test.false))), omega (arith, n, l))
+    let l = c.if-size-count.false in (
+      k.invariant.2 ∙ ap (sets a.room.now a.count) (take_min a.bytes.now k.i (length a.room.now - a.count)
+          (omega (arith, n, k.invariant.0, c.loop-i-test.false))),
+      omega (arith, n, l),
+    )

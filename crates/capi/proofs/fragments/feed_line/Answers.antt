@@ -5,7 +5,7 @@ use mathlib.Core.List.{List}
 use Prim.Native.Nat.{ℕ, ◌+◌, ◌-◌, ◌<◌, ◌≤◌}
 use native.Mathlib.Omega.{arith}
 use lib.Dec.{eqb}
-use lib.ListN.{length, get_or, set, length-set}
+use lib.ListN.{length, get_or, take, set, length-set}
 use lib.Seq.{sets, length-sets, length-take-le, get_or-take}
 use Rattle.rounding.proofs.Machine.{told}
 use Rattle.ranges.proofs.Ranges.{both}
@@ -23,15 +23,25 @@ slice_bounds-keep_bytes-end-2 c =
     let s = c in
     sym (length-take-le (s.args.end - 1) s.args.fragment.now (omega (arith, within-line s.args.fragment.now s.args.end s.requires.5)))
 
+-- the bytes that are kept of the line
+abbrev kept_of : List ℕ → ℕ → ℕ → List ℕ → List ℕ
+kept_of room k end f = take (length room - k) (take (end - 1) f)
+
 -- the room is as long as it was, and a line feed fits
 has_room : {room bytes new : List ℕ} (k n : ℕ) (f : List ℕ) → new ≡ sets room k f → room ≡ bytes → length bytes ≡ 200 → n < 200 → n + 1 ≤ length (set new n 10)
 has_room {new = new} k n f e r l h = let z = ap length e ∙ length-sets _ k f ∙ ap length r ∙ l in omega (arith, length-set new n 10, z, h)
 
 pub slice_bounds-room-end : goal.slice_bounds-room-end
-slice_bounds-room-end c = has_room c.kept_in.result c.keep_bytes-n.result _ c.keep_bytes-n.ensures.0 c.bytes_from-room.ensures c.requires.2 c.if-n-lt200.true
+slice_bounds-room-end c =
+    has_room c.kept_in.result c.keep_bytes-n.result
+    (kept_of c.bytes_from-room.result c.kept_in.result c.args.end c.args.fragment.now)
+    c.keep_bytes-n.ensures.0 c.bytes_from-room.ensures c.requires.2 c.if-n-lt200.true
 
 pub slice_bounds-feed_point-end : goal.slice_bounds-feed_point-end
-slice_bounds-feed_point-end c = sym (length-take-le _ _ (has_room c.kept_in.result c.keep_bytes-n.result _ c.keep_bytes-n.ensures.0 c.bytes_from-room.ensures c.requires.2 c.if-n-lt200.true))
+slice_bounds-feed_point-end c =
+    sym (length-take-le _ _ (has_room c.kept_in.result c.keep_bytes-n.result
+    (kept_of c.bytes_from-room.result c.kept_in.result c.args.end c.args.fragment.now)
+    c.keep_bytes-n.ensures.0 c.bytes_from-room.ensures c.requires.2 c.if-n-lt200.true))
 
 pub feed_point-requires : goal.feed_point-requires
 feed_point-requires c =
@@ -54,5 +64,7 @@ returns-then-room-can_come c =
     let n = c.args in
     let r = c.requires in
     let p = both (eqb (get_or (set c.keep_bytes-n.new.room c.keep_bytes-n.result 10) 0 0) 80) c.can_come.result c.if-room-can_come.true in
-    let fed = line-fed n.numbers.now n.bytes.now r.0 r.1 (sym c.can_come.ensures ∙ p.1) r.2 n.fragment.now n.end r.5 r.6 {k = c.kept_in.result} {c = c.keep_bytes-n.result} {room = c.bytes_from-room.result} {kept = c.keep_bytes-n.new.room} c.kept_in.ensures c.bytes_from-room.ensures c.keep_bytes-n.ensures.1 c.keep_bytes-n.ensures.0 c.if-n-lt200.true in
+    let fed = line-fed n.numbers.now n.bytes.now r.0 r.1 (sym c.can_come.ensures ∙ p.1) r.2 n.fragment.now n.end r.5 r.6 {k = c.kept_in.result}
+    {c = c.keep_bytes-n.result} {room = c.bytes_from-room.result}
+    {kept = c.keep_bytes-n.new.room} c.kept_in.ensures c.bytes_from-room.ensures c.keep_bytes-n.ensures.1 c.keep_bytes-n.ensures.0 c.if-n-lt200.true in
     rw (told c.feed_point.type_inv, ← fed) c.feed_point.ensures

@@ -42,8 +42,15 @@ feed_open-requires c =
     let s = c.args in
     let sized = sym (ap (λ (b : Bool). b && eqb (length s.told.now) 2) c.are_sized.ensures) ∙ c.if-not-are_sized-told.false in
     let p = sized-parts (length s.numbers.now) (length s.bytes.now) (length s.out.now) (both _ _ sized).0 in
-    let good = sym c.in_range.ensures ∙ c.if-not-in_range.false in
-    (p.state, good, p.line, eqb-true (length s.told.now) 2 (both (sized_state (length s.numbers.now) (length s.bytes.now) (length s.out.now)) (eqb (length s.told.now) 2) sized).1, c.first_end-end.ensures, sym c.is_fed.ensures ∙ c.if-not-is_fed.true)
+    let good = sym c.in_range.ensures ∙ c.if-not-in_range.false in (
+      p.state,
+      good,
+      p.line,
+      eqb-true (length s.told.now) 2 (both (sized_state (length s.numbers.now) (length s.bytes.now) (length s.out.now))
+          (eqb (length s.told.now) 2) sized).1,
+      c.first_end-end.ensures,
+      sym c.is_fed.ensures ∙ c.if-not-is_fed.true,
+    )
 
 pub returns-then-not-is_fed : goal.returns-then-not-is_fed
 returns-then-not-is_fed c =
@@ -63,8 +70,17 @@ feed_line-requires c =
     let s = c.args in
     let sized = sym (ap (λ (b : Bool). b && eqb (length s.told.now) 2) c.are_sized.ensures) ∙ c.if-not-are_sized-told.false in
     let p = sized-parts (length s.numbers.now) (length s.bytes.now) (length s.out.now) (both _ _ sized).0 in
-    let good = sym c.in_range.ensures ∙ c.if-not-in_range.false in
-    (p.state, good, p.line, p.room, eqb-true (length s.told.now) 2 (both (sized_state (length s.numbers.now) (length s.bytes.now) (length s.out.now)) (eqb (length s.told.now) 2) sized).1, c.first_end-end.ensures, sym c.is_fed.ensures ∙ c.if-not-is_fed.false)
+    let good = sym c.in_range.ensures ∙ c.if-not-in_range.false in (
+      p.state,
+      good,
+      p.line,
+      p.room,
+      eqb-true (length s.told.now) 2
+          (both (sized_state (length s.numbers.now) (length s.bytes.now) (length s.out.now))
+          (eqb (length s.told.now) 2) sized).1,
+      c.first_end-end.ensures,
+      sym c.is_fed.ensures ∙ c.if-not-is_fed.false,
+    )
 
 pub returns : goal.returns
 returns c =

@@ -17,5 +17,6 @@ returns c =
     let c3 = c.before.before.before in
     let c4 = c3 in
     let s = c in
-    by c.give_geodetic.ensures (rw (eq-eqb _ _ c4.if-out-ne3.false) (ap of_geodetic (sym (c3.geodetic_units.ensures ∙ of₄ geodetic_units_of (rd s.ranges.ellipsoid) (rd s.ranges.x) (rd s.ranges.y) (rd s.ranges.z)))))
+    by c.give_geodetic.ensures (rw (eq-eqb _ _ c4.if-out-ne3.false)
+    (ap of_geodetic (sym (c3.geodetic_units.ensures ∙ of₄ geodetic_units_of (rd s.ranges.ellipsoid) (rd s.ranges.x) (rd s.ranges.y) (rd s.ranges.z)))))
     (told c.give_geodetic.type_inv)

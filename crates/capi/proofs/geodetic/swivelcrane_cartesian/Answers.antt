@@ -18,5 +18,7 @@ returns c =
     let c4 = c2.before.before in
     let c5 = c4 in
     let s = c in
-    by c2.give_metres.ensures (rw (eq-eqb _ _ c5.if-out-ne3.false) (ap of_cartesian (sym (c4.cartesian_metres.ensures ∙ of₄ cartesian_of (rd s.ranges.ellipsoid) (rd s.ranges.latitude) (rd s.ranges.longitude) (rd s.ranges.height)))))
+    by c2.give_metres.ensures (rw (eq-eqb _ _ c5.if-out-ne3.false)
+    (ap of_cartesian (sym (c4.cartesian_metres.ensures ∙ of₄ cartesian_of (rd s.ranges.ellipsoid) (rd s.ranges.latitude) (rd s.ranges.longitude)
+    (rd s.ranges.height)))))
     (told c2.give_metres.type_inv)

@@ -17,5 +17,7 @@ returns c =
     let c3 = c.before.before.before in
     let c4 = c3 in
     let s = c in
-    by c.give_units.ensures (rw (eq-eqb _ _ c4.if-out-ne3.false) (ap of_units (sym (c3.cartesian_units.ensures ∙ of₄ cartesian_units_of (rd s.ranges.ellipsoid) (rd s.ranges.latitude) (rd s.ranges.longitude) (rd s.ranges.height)))))
+    by c.give_units.ensures (rw (eq-eqb _ _ c4.if-out-ne3.false)
+    (ap of_units (sym (c3.cartesian_units.ensures ∙ of₄ cartesian_units_of (rd s.ranges.ellipsoid) (rd s.ranges.latitude) (rd s.ranges.longitude)
+    (rd s.ranges.height)))))
     (told c.give_units.type_inv)

@@ -25,7 +25,8 @@ returns-then-out-ne16 c = wrong (rw (ne_eqb _ _ c.if-out-ne16.true))
 pub returns : goal.returns
 unfolding grid_velocity_call
 returns c =
-    let e = c.motion_at-answer.ensures ∙ same c.args.grid.now (rd c.ranges.latitude) (rd c.ranges.longitude) (rd c.ranges.datum) (rd c.ranges.before) (rd c.ranges.after) in
+    let e = c.motion_at-answer.ensures ∙ same c.args.grid.now (rd c.ranges.latitude) (rd c.ranges.longitude) (rd c.ranges.datum) (rd c.ranges.before)
+    (rd c.ranges.after) in
     by c.give_motion.ensures
     (rw (eq-eqb _ _ c.if-out-ne16.false)
     (sym (alike c.motion_at-answer.result (rd c.ranges.datum) (rd c.ranges.before) (rd c.ranges.after)

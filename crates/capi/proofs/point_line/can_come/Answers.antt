@@ -13,5 +13,6 @@ unfolding point_time
 returns c =
     let n = c.args.n.now in
     ap₂ ◌&&◌
-    (ap₂ (λ (a : Bool) (k : ℕ). not a && ltb k 1000000) (c.flag-finished.ensures ∙ ap flag (told {z = number n 4} c.flag-arg-1.given)) c.lines_in-lines.ensures.0)
+    (ap₂ (λ (a : Bool) (k : ℕ). not a && ltb k 1000000) (c.flag-finished.ensures ∙ ap flag
+    (told {z = number n 4} c.flag-arg-1.given)) c.lines_in-lines.ensures.0)
     (ap₂ leb c.steps_in-steps.ensures c.lines_in-lines.ensures.0)

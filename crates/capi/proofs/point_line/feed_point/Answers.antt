@@ -23,7 +23,8 @@ returns-then-not-printed c =
     let p = c in
     let s = p in
     let n = s.args in
-    point-state n.numbers.now n.bytes.now s.requires.0 s.requires.1 s.requires.6 n.text.now s.requires.7 n.end n.out.now n.told.now p.print_in-printed.ensures (not-true _ c.if-not-printed.true)
+    point-state n.numbers.now n.bytes.now s.requires.0 s.requires.1 s.requires.6 n.text.now s.requires.7 n.end n.out.now n.told.now p.print_in-printed.ensures
+    (not-true _ c.if-not-printed.true)
     (told c.minus.type_inv ∙ c.minus.ensures)
 
 pub slice_set_of-told : goal.slice_set_of-told
@@ -48,5 +49,7 @@ returns c =
     let p = c in
     let s = p in
     let n = s.args in
-    point-told n.numbers.now n.bytes.now s.requires.0 s.requires.1 s.requires.6 n.text.now s.requires.7 n.end n.out.now n.told.now p.print_in-printed.ensures (not-false _ c.if-not-printed.false) s.requires.3 s.requires.4
-    c.put_passed.ensures (c.put_bytes.ensures ∙ no-bytes-is) (two n.told.now (to_z w64 n.end) (pos 1) s.requires.4 ∙ ap (λ (z : ℤ). z ∷ pos 1 ∷ []) (to_z_pos w64 n.end s.requires.5))
+    point-told n.numbers.now n.bytes.now s.requires.0 s.requires.1 s.requires.6 n.text.now s.requires.7 n.end n.out.now n.told.now p.print_in-printed.ensures
+    (not-false _ c.if-not-printed.false) s.requires.3 s.requires.4
+    c.put_passed.ensures (c.put_bytes.ensures ∙ no-bytes-is)
+    (two n.told.now (to_z w64 n.end) (pos 1) s.requires.4 ∙ ap (λ (z : ℤ). z ∷ pos 1 ∷ []) (to_z_pos w64 n.end s.requires.5))

@@ -25,5 +25,6 @@ returns c =
     let l = f in
     let s = l.args in
     let n = s.n.now in
-    asked-so s.text.now c.print_lent.ensures (chain-read n (told {z = number n 5} c.profile-1.given) c.steps_end-end.ensures.0) (ap (λ (k : ℕ). k + 1) l.lines_in.ensures.0)
+    asked-so s.text.now c.print_lent.ensures (chain-read n (told {z = number n 5} c.profile-1.given) c.steps_end-end.ensures.0)
+    (ap (λ (k : ℕ). k + 1) l.lines_in.ensures.0)
     (f.flag-refused.ensures ∙ ap flag (told {z = number n 2} f.flag-arg-1.given))

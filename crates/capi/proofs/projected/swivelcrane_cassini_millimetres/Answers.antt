@@ -19,5 +19,6 @@ returns c =
     let a = c in
     let s = a.ranges in
     by g.ensures (rw (eq-eqb _ _ a.if-out-ne2.false) (ap of_millimetres (sym (a.cassini_millimetres.ensures
-    ∙ same-origin cassini_millimetres_of a.origin_from-origin.ensures (rd s.ellipsoid) (rd s.origin_latitude) (rd s.origin_longitude) (rd s.false_easting) (rd s.false_northing) (rd s.latitude) (rd s.longitude)))))
+    ∙ same-origin cassini_millimetres_of a.origin_from-origin.ensures (rd s.ellipsoid) (rd s.origin_latitude) (rd s.origin_longitude) (rd s.false_easting)
+    (rd s.false_northing) (rd s.latitude) (rd s.longitude)))))
     (told g.type_inv)

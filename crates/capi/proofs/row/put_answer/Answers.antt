@@ -15,7 +15,8 @@ pub returns-in-Refused : goal.returns-in-Refused
 returns-in-Refused c =
     let s = c.args in
     c.put.ensures
-    ∙ ap (sets s.out.now s.at) (ap (λ (z : ℤ). z ∷ pos 0 ∷ pos 0 ∷ pos 0 ∷ pos 0 ∷ pos 0 ∷ pos 0 ∷ pos 0 ∷ []) (told c.status.type_inv ∙ c.status.ensures) ∙ ap answer_numbers (sym c.in-Refused.is))
+    ∙ ap (sets s.out.now s.at) (ap (λ (z : ℤ). z ∷ pos 0 ∷ pos 0 ∷ pos 0 ∷ pos 0 ∷ pos 0 ∷ pos 0 ∷ pos 0 ∷ []) (told c.status.type_inv ∙ c.status.ensures)
+    ∙ ap answer_numbers (sym c.in-Refused.is))
 
 -- 0 and a point's numbers, each as it is read
 point : {a b c d e f g a' b' c' d' e' f' g' : ℤ} → a ≡ a' → b ≡ b' → c ≡ c' → d ≡ d' → e ≡ e' → f ≡ f' → g ≡ g'

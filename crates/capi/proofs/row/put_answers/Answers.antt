@@ -46,7 +46,8 @@ loop-i-preserved c =
       omega (arith, l.loop-i-test.true),
       ap length e ∙ length-sets k.out (8 * k.i) (answer_numbers a.result) ∙ k.invariant.1,
       ap (λ (o : List ℤ). sets o (8 * (k.i + 1)) rest) e
-          ∙ turn (convert_ready s.ready s.direction) s.points.now k.out (length s.points.now / 7) k.i l.loop-i-test.true (a.ensures ∙ ap (convert_ready s.ready s.direction) p)
+          ∙ turn (convert_ready s.ready s.direction) s.points.now k.out (length s.points.now / 7) k.i l.loop-i-test.true
+          (a.ensures ∙ ap (convert_ready s.ready s.direction) p)
           ∙ k.invariant.2,
     )
 
@@ -59,4 +60,5 @@ returns c =
     let s = c.args in
     let f = convert_ready s.ready s.direction in
     let z : length s.points.now / 7 - k.i ≡ 0 = omega (arith, c.loop-i-test.false) in
-    ap (sets k.out (8 * k.i)) (no-answers f (drop (7 * k.i) s.points.now) ∙ ap (λ (n : ℕ). answers_of f n (drop (7 * k.i) s.points.now)) (sym z)) ∙ k.invariant.2
+    ap (sets k.out (8 * k.i)) (no-answers f (drop (7 * k.i) s.points.now) ∙ ap (λ (n : ℕ). answers_of f n (drop (7 * k.i) s.points.now)) (sym z))
+    ∙ k.invariant.2

@@ -23,7 +23,8 @@ returns-then-lent-ne0 c =
     let s = c.args in
     let sized = sym c.are_whole.ensures ∙ c.if-not-are_whole.false in
     let found = c.lent_fault-lent.ensures ∙ ap (λ (d : ℤ). first (lent_tests d (length s.points.now / 7) (length s.answers.now / 8))) (rd c.ranges.direction) in
-    refused-lent s.profile s.direction s.chain.now s.points.now s.answers.now sized (λ e. c.if-lent-ne0.true (found ∙ e)) (told c.status.type_inv ∙ c.status.ensures ∙ ap pos found)
+    refused-lent s.profile s.direction s.chain.now s.points.now s.answers.now sized (λ e. c.if-lent-ne0.true (found ∙ e))
+    (told c.status.type_inv ∙ c.status.ensures ∙ ap pos found)
 
 pub returns-then-fault-ne0 : goal.returns-then-fault-ne0
 returns-then-fault-ne0 c =
@@ -32,7 +33,8 @@ returns-then-fault-ne0 c =
     let found = c.lent_fault-lent.ensures ∙ ap (λ (d : ℤ). first (lent_tests d (length s.points.now / 7) (length s.answers.now / 8))) (rd c.ranges.direction) in
     let good = sym found ∙ c.if-lent-ne0.false in
     let ready = c.ready_chain-ready.ensures ∙ ap ready_chain_of (c.chain_from.ensures ∙ ap (λ (y : ℤ). chain_from y s.chain.now) (rd c.ranges.profile)) in
-    refused-chain s.profile s.direction s.chain.now s.points.now s.answers.now sized good (ready-fault (chain_from s.profile s.chain.now) ready) c.if-fault-ne0.true
+    refused-chain s.profile s.direction s.chain.now s.points.now s.answers.now sized good
+    (ready-fault (chain_from s.profile s.chain.now) ready) c.if-fault-ne0.true
     (told c.status-then-fault-ne0.type_inv ∙ c.status-then-fault-ne0.ensures)
 
 pub put_answers-requires : goal.put_answers-requires
@@ -50,5 +52,6 @@ returns c =
     let found = c.lent_fault-lent.ensures ∙ ap (λ (d : ℤ). first (lent_tests d (length s.points.now / 7) (length s.answers.now / 8))) (rd c.ranges.direction) in
     let good = sym found ∙ c.if-lent-ne0.false in
     let ready = c.ready_chain-ready.ensures ∙ ap ready_chain_of (c.chain_from.ensures ∙ ap (λ (y : ℤ). chain_from y s.chain.now) (rd c.ranges.profile)) in
-    answered s.profile s.direction s.chain.now s.points.now s.answers.now sized good (sym (ready-fault (chain_from s.profile s.chain.now) ready) ∙ c.if-fault-ne0.false)
+    answered s.profile s.direction s.chain.now s.points.now s.answers.now sized good
+    (sym (ready-fault (chain_from s.profile s.chain.now) ready) ∙ c.if-fault-ne0.false)
     ready (c.direction_from.ensures ∙ ap direction_from (rd c.ranges.direction)) c.put_answers.ensures

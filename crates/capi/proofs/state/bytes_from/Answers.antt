@@ -13,8 +13,12 @@ loop-i-init c = (omega arith, search rules, refl)
 pub loop-i-preserved : goal.loop-i-preserved
 loop-i-preserved c =
     let k = c.loop-i in
-    let h = c.loop-i-test.true in
-    (omega (arith, h), length-set k.kept _ _ ∙ k.invariant.1, one_more k.kept c.args.bytes.now k.i (omega (arith, h, k.invariant.1)) (omega (arith, h, c.requires)) k.invariant.2)
+    let h = c.loop-i-test.true in (
+      omega (arith, h),
+      length-set k.kept _ _ ∙ k.invariant.1,
+      one_more k.kept c.args.bytes.now k.i (omega (arith, h, k.invariant.1))
+          (omega (arith, h, c.requires)) k.invariant.2,
+    )
 
 pub returns : goal.returns
 returns c =

@@ -20,4 +20,5 @@ returns c =
     let n = c.args.n.now in
     ap₂ (λ (a b : Bool). not a && b)
     (c.flag-finished.ensures ∙ ap flag (told {z = number n 4} c.flag-arg-1.given))
-    (sound-in n c.is_sound_at.ensures (ap (λ (k : ℕ). k + 1) c.lines_in.ensures.0) (chain-read n (told {z = number n 5} c.profile-1.given) c.steps_end-end.ensures.0))
+    (sound-in n c.is_sound_at.ensures (ap (λ (k : ℕ). k + 1) c.lines_in.ensures.0)
+    (chain-read n (told {z = number n 5} c.profile-1.given) c.steps_end-end.ensures.0))

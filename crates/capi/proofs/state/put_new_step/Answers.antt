@@ -49,4 +49,5 @@ pub returns : goal.returns
 returns c =
     c.copy.ensures
     ∙ ap (λ (l : List ℤ). sets c.args.n.now (7 + 13 * c.count-steps.result) l) c.row_of-row.ensures
-    ∙ new-step c.args.n.now c.args.chain (steps c.before.before.before.before.before.before) (omega (arith, steps c.before.before.before.before.before.before, c.requires.3))
+    ∙ new-step c.args.n.now c.args.chain (steps c.before.before.before.before.before.before)
+    (omega (arith, steps c.before.before.before.before.before.before, c.requires.3))

@@ -15,4 +15,5 @@ pub returns : goal.returns
 unfolding numbers_with
 returns c =
     let s = c.args in
-    c.copy-2.ensures ∙ ap₂ (λ (l h : List ℤ). sets l 0 h) (no-new-step s.n.now s.stream.standing.chain c.steps_in.ensures c.if-steps_in-chain.false) c.head_of-head.ensures
+    c.copy-2.ensures ∙ ap₂ (λ
+    (l h : List ℤ). sets l 0 h) (no-new-step s.n.now s.stream.standing.chain c.steps_in.ensures c.if-steps_in-chain.false) c.head_of-head.ensures

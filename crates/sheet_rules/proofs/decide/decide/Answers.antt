@@ -15,8 +15,12 @@ returns-then-letter-eq80 c = λ s h. rw (ne_eqb _ letter_s c.if-letter-eq83.fals
 
 pub returns-then-letter-eq69 : goal.returns-then-letter-eq69
 unfolding reply_of next_of
-returns-then-letter-eq69 c = λ s h. rw (ne_eqb _ letter_s c.if-letter-eq83.false, ne_eqb _ letter_p c.if-letter-eq80.false, eq-eqb _ letter_e c.if-letter-eq69.true) (c.decide_edition.ensures s _ h)
+returns-then-letter-eq69 c =
+    λ s h. rw (ne_eqb _ letter_s c.if-letter-eq83.false, ne_eqb _ letter_p c.if-letter-eq80.false, eq-eqb _ letter_e c.if-letter-eq69.true)
+    (c.decide_edition.ensures s _ h)
 
 pub returns : goal.returns
 unfolding reply_of next_of
-returns c = λ s h. rw (ne_eqb _ letter_s c.if-letter-eq83.false, ne_eqb _ letter_p c.if-letter-eq80.false, ne_eqb _ letter_e c.if-letter-eq69.false) (gave-malformed h _ _ _ _ h.refused h.closed c.strange-fault.ensures _ c.malformed.ensures)
+returns c =
+    λ s h. rw (ne_eqb _ letter_s c.if-letter-eq83.false, ne_eqb _ letter_p c.if-letter-eq80.false, ne_eqb _ letter_e c.if-letter-eq69.false)
+    (gave-malformed h _ _ _ _ h.refused h.closed c.strange-fault.ensures _ c.malformed.ensures)

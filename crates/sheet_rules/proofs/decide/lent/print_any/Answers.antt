@@ -12,10 +12,17 @@ use Rattle.line.specs.declared.PointLine.{PointLine}
 use Rattle.line.specs.Readers.{read_point}
 use Rattle.line.proofs.AsWritten.{one-read}
 use Rattle.refusal.specs.Numbers.{earlier}
+use Rattle.sheet_rules.specs.declared.LentPoint.{LentPoint}
+use Rattle.sheet_rules.specs.declared.Reply.{Reply}
 use Rattle.sheet_rules.specs.declared.Reply.TheVariants as reply
 use Rattle.sheet_rules.specs.OneLine.{point_answered, where_good, PointPrinted}
 use Rattle.sheet_rules.proofs.Points.{malformed-answered, refused-answered, earlier-answered, printed-so, printed-size}
 use Rattle.sheet_rules.proofs.decide.lent.print_any.Goals as goal
+
+-- the profile is read as it was handed over
+tested : (y : ℤ) (steps : List ℤ) (r : Reply) (b : Bool) {z : ℤ} {out new : List ℕ} {at : ℕ} {p : LentPoint}
+    → z ≡ y → PointPrinted (where_good (chain_from z steps) r b) out at new p → PointPrinted (where_good (chain_from y steps) r b) out at new p
+tested y steps r b {out = out} {new = new} {at = at} {p = p} e h = subst (λ (z : ℤ). PointPrinted (where_good (chain_from z steps) r b) out at new p) e h
 
 -- what the line reads as
 read_as : (y : ℤ) (text : List ℕ) {z : ℤ} {m l : PointLine} → z ≡ y → m ≡ read_point z text → m ≡ l → read_point y text ≡ l
@@ -29,7 +36,9 @@ returns-then-refused c =
     let a = c.args in
     let y : to_z w64 (of_z w64 a.profile) ≡ a.profile = search rules in
     let r = (one-read _ _ c.read_one-read.ensures).0 in
-    printed-so (earlier-answered (chain_from a.profile a.steps.now) a.line a.refused a.text.now _ (read_as a.profile a.text.now y r c.in-Point.is) c.if-refused.true refl) (subst (λ (z : ℤ). PointPrinted (where_good (chain_from z a.steps.now) (reply.Refused a.line earlier 0) true) a.out.now a.at c.print_tested-then-refused.new.out c.print_tested-then-refused.result) y c.print_tested-then-refused.ensures)
+    printed-so (earlier-answered (chain_from a.profile a.steps.now) a.line a.refused a.text.now _
+    (read_as a.profile a.text.now y r c.in-Point.is) c.if-refused.true refl)
+    (tested a.profile a.steps.now (reply.Refused a.line earlier 0) true y c.print_tested-then-refused.ensures)
 
 pub print_moved-requires : goal.print_moved-requires
 print_moved-requires c =
@@ -45,7 +54,8 @@ returns-in-Malformed c =
     let a = c.args in
     let y : to_z w64 (of_z w64 a.profile) ≡ a.profile = search rules in
     let r = (one-read _ _ c.read_one-read.ensures).0 in
-    printed-so (malformed-answered (chain_from a.profile a.steps.now) a.line a.refused a.text.now _ (read_as a.profile a.text.now y r c.in-Malformed.is) refl) (subst (λ (z : ℤ). PointPrinted (where_good (chain_from z a.steps.now) (reply.Refused a.line c.in-Malformed.fault.number c.in-Malformed.fault.place) false) a.out.now a.at c.print_tested.new.out c.print_tested.result) y c.print_tested.ensures)
+    printed-so (malformed-answered (chain_from a.profile a.steps.now) a.line a.refused a.text.now _ (read_as a.profile a.text.now y r c.in-Malformed.is) refl)
+    (tested a.profile a.steps.now (reply.Refused a.line c.in-Malformed.fault.number c.in-Malformed.fault.place) false y c.print_tested.ensures)
 
 pub shape_of-out-in-Refused : goal.shape_of-out-in-Refused
 shape_of-out-in-Refused c = printed-size c.print_tested-in-Refused.ensures
@@ -55,7 +65,8 @@ returns-in-Refused c =
     let a = c.args in
     let y : to_z w64 (of_z w64 a.profile) ≡ a.profile = search rules in
     let r = (one-read _ _ c.read_one-read.ensures).0 in
-    printed-so (refused-answered (chain_from a.profile a.steps.now) a.line a.refused a.text.now _ (read_as a.profile a.text.now y r c.in-Refused.is) refl) (subst (λ (z : ℤ). PointPrinted (where_good (chain_from z a.steps.now) (reply.Refused a.line c.in-Refused.number 0) true) a.out.now a.at c.print_tested-in-Refused.new.out c.print_tested-in-Refused.result) y c.print_tested-in-Refused.ensures)
+    printed-so (refused-answered (chain_from a.profile a.steps.now) a.line a.refused a.text.now _ (read_as a.profile a.text.now y r c.in-Refused.is) refl)
+    (tested a.profile a.steps.now (reply.Refused a.line c.in-Refused.number 0) true y c.print_tested-in-Refused.ensures)
 
 pub shape_of-out-else-refused : goal.shape_of-out-else-refused
 shape_of-out-else-refused c = printed-size c.print_moved.ensures
@@ -64,4 +75,5 @@ pub returns-else-refused : goal.returns-else-refused
 returns-else-refused c =
     let a = c.args in
     let y : to_z w64 (of_z w64 a.profile) ≡ a.profile = search rules in
-    printed-so (ap (λ (b : Bool). point_answered (chain_from a.profile a.steps.now) a.line b a.text.now) (sym c.if-refused.false)) (rw y at c.print_moved.ensures)
+    printed-so (ap (λ (b : Bool). point_answered (chain_from a.profile a.steps.now) a.line b a.text.now) (sym c.if-refused.false))
+    (rw y at c.print_moved.ensures)

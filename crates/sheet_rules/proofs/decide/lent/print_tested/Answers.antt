@@ -17,11 +17,13 @@ returns-then-fault_in-ne0 c =
     let a = c.args in
     let y : to_z w64 (of_z w64 a.profile) ≡ a.profile = search rules in
     let found = c.fault_in.ensures ∙ ap (λ (z : ℤ). first (chain_tests (chain_from z a.steps.now))) y in
-    bad-printed (chain_from a.profile a.steps.now) (reply.Refused a.line a.number a.place) a.closes a.out.now a.at (ne_eqb _ 0 (λ e. c.if-fault_in-ne0.true (found ∙ e)))
+    bad-printed (chain_from a.profile a.steps.now) (reply.Refused a.line a.number a.place) a.closes a.out.now a.at
+    (ne_eqb _ 0 (λ e. c.if-fault_in-ne0.true (found ∙ e)))
 
 pub returns : goal.returns
 returns c =
     let a = c.args in
     let y : to_z w64 (of_z w64 a.profile) ≡ a.profile = search rules in
     let found = c.fault_in.ensures ∙ ap (λ (z : ℤ). first (chain_tests (chain_from z a.steps.now))) y in
-    good-printed (chain_from a.profile a.steps.now) (reply.Refused a.line a.number a.place) a.closes (eq-eqb _ 0 (sym found ∙ c.if-fault_in-ne0.false)) c.write_refusal.ensures
+    good-printed (chain_from a.profile a.steps.now) (reply.Refused a.line a.number a.place) a.closes
+    (eq-eqb _ 0 (sym found ∙ c.if-fault_in-ne0.false)) c.write_refusal.ensures

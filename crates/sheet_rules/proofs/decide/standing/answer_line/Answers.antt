@@ -10,7 +10,8 @@ returns-then-not-is_sound c = let a = c.args in unsound-answered a.standing a.te
 pub returns-then-standing-gt-MOST_LINES : goal.returns-then-standing-gt-MOST_LINES
 returns-then-standing-gt-MOST_LINES c =
     let a = c.args in
-    past-answered a.standing a.text.now c.if-standing-gt-MOST_LINES.true ∙ sound-answered a.standing a.text.now (sym c.is_sound.ensures ∙ c.if-not-is_sound.false)
+    past-answered a.standing a.text.now c.if-standing-gt-MOST_LINES.true ∙ sound-answered a.standing a.text.now
+    (sym c.is_sound.ensures ∙ c.if-not-is_sound.false)
 
 pub answer_prepared-requires : goal.answer_prepared-requires
 answer_prepared-requires c = (c.if-standing-gt-MOST_LINES.false, sym c.is_sound.ensures ∙ c.if-not-is_sound.false)

@@ -17,7 +17,8 @@ inside : (c : Chain) → length c.steps ≡ 8 → c.length ≤ 8 → c.length �
 inside c long short = omega arith
 
 pub returns-then-not-begins_with : goal.returns-then-not-begins_with
-returns-then-not-begins_with c = after-other c.args.chain (inside c.args.chain c.well_formed.0.1.1.0.1.0.1 c.requires.0) _ _ _ (sym c.begins_with.ensures ∙ c.if-not-begins_with.true)
+returns-then-not-begins_with c =
+    after-other c.args.chain (inside c.args.chain c.well_formed.0.1.1.0.1.0.1 c.requires.0) _ _ _ (sym c.begins_with.ensures ∙ c.if-not-begins_with.true)
 
 pub with_step-requires : goal.with_step-requires
 with_step-requires c =
@@ -29,22 +30,29 @@ pub returns-in-Step : goal.returns-in-Step
 returns-in-Step c =
     let y : to_z w64 (of_z w64 c.args.chain.profile) ≡ c.args.chain.profile = search rules in
     let read = rw y at c.read_step.ensures in
-    c.with_step.ensures ∙ after-accepted c.args.chain (inside c.args.chain c.well_formed.0.1.1.0.1.0.1 c.requires.0) _ _ _ _ (sym c.begins_with.ensures ∙ c.if-not-begins_with.false) c.in-Nothing.is (sym read ∙ c.in-Step.is)
+    c.with_step.ensures ∙ after-accepted c.args.chain (inside c.args.chain c.well_formed.0.1.1.0.1.0.1 c.requires.0) _ _ _ _
+    (sym c.begins_with.ensures ∙ c.if-not-begins_with.false) c.in-Nothing.is (sym read ∙ c.in-Step.is)
 
 pub returns-in-Malformed : goal.returns-in-Malformed
 returns-in-Malformed c =
     let y : to_z w64 (of_z w64 c.args.chain.profile) ≡ c.args.chain.profile = search rules in
     let read = rw y at c.read_step.ensures in
-    after-malformed c.args.chain (inside c.args.chain c.well_formed.0.1.1.0.1.0.1 c.requires.0) _ _ _ _ (sym c.begins_with.ensures ∙ c.if-not-begins_with.false) c.in-Nothing.is (sym read ∙ c.in-Malformed.is)
+    after-malformed c.args.chain (inside c.args.chain c.well_formed.0.1.1.0.1.0.1 c.requires.0) _ _ _ _
+    (sym c.begins_with.ensures ∙ c.if-not-begins_with.false) c.in-Nothing.is (sym read ∙ c.in-Malformed.is)
 
 pub returns-in-Refused-read_step : goal.returns-in-Refused-read_step
 returns-in-Refused-read_step c =
     let y : to_z w64 (of_z w64 c.args.chain.profile) ≡ c.args.chain.profile = search rules in
     let read = rw y at c.read_step.ensures in
-    after-refused c.args.chain (inside c.args.chain c.well_formed.0.1.1.0.1.0.1 c.requires.0) _ _ _ _ (sym c.begins_with.ensures ∙ c.if-not-begins_with.false) c.in-Nothing.is (sym read ∙ c.in-Refused-read_step.is)
+    after-refused c.args.chain (inside c.args.chain c.well_formed.0.1.1.0.1.0.1 c.requires.0) _ _ _ _
+    (sym c.begins_with.ensures ∙ c.if-not-begins_with.false) c.in-Nothing.is (sym read ∙ c.in-Refused-read_step.is)
 
 pub returns-in-Point : goal.returns-in-Point
-returns-in-Point c = after-point c.args.chain (inside c.args.chain c.well_formed.0.1.1.0.1.0.1 c.requires.0) _ _ _ _ (sym c.begins_with.ensures ∙ c.if-not-begins_with.false) c.in-Point.is
+returns-in-Point c =
+    after-point c.args.chain (inside c.args.chain c.well_formed.0.1.1.0.1.0.1 c.requires.0) _ _ _ _
+    (sym c.begins_with.ensures ∙ c.if-not-begins_with.false) c.in-Point.is
 
 pub returns-in-Refused : goal.returns-in-Refused
-returns-in-Refused c = after-refusal c.args.chain (inside c.args.chain c.well_formed.0.1.1.0.1.0.1 c.requires.0) _ _ _ _ _ _ (sym c.begins_with.ensures ∙ c.if-not-begins_with.false) c.in-Refused.is
+returns-in-Refused c =
+    after-refusal c.args.chain (inside c.args.chain c.well_formed.0.1.1.0.1.0.1 c.requires.0) _ _ _ _ _ _
+    (sym c.begins_with.ensures ∙ c.if-not-begins_with.false) c.in-Refused.is

@@ -51,7 +51,8 @@ returns-then-number-ne0 c =
     let long : length c.args.chain.steps ≡ 8 = c.well_formed.0.1.1.0.1.0.1 in
     let k = c.loop-i in
     let e : to_z w64 (of_z w64 s.args.chain.profile) ≡ s.args.chain.profile = search rules in
-    refused-step s.args.chain c.if-n-gt8.false long k.numbers k.i step_past_end c.loop-i-test.true k.invariant.1 _ (rw e at c.extend-number.ensures.0) c.if-number-ne0.true _
+    refused-step s.args.chain c.if-n-gt8.false long k.numbers k.i step_past_end c.loop-i-test.true k.invariant.1 _
+    (rw e at c.extend-number.ensures.0) c.if-number-ne0.true _
 
 pub overflow_add-i : goal.overflow_add-i
 overflow_add-i c = omega (arith, c.if-n-gt8.false, c.loop-i-test.true)
@@ -66,7 +67,8 @@ loop-i-preserved c =
     let k = c.loop-i in
     let e : to_z w64 (of_z w64 s.args.chain.profile) ≡ s.args.chain.profile = search rules in (
       omega (arith, c.loop-i-test.true),
-      next-step s.args.chain c.if-n-gt8.false long k.numbers k.i step_past_end c.loop-i-test.true k.invariant.1 (sym (rw e at c.extend-number.ensures.0) ∙ c.if-number-ne0.false) _ (rw e at c.extend-number.ensures.1),
+      next-step s.args.chain c.if-n-gt8.false long k.numbers k.i step_past_end c.loop-i-test.true k.invariant.1
+          (sym (rw e at c.extend-number.ensures.0) ∙ c.if-number-ne0.false) _ (rw e at c.extend-number.ensures.1),
     )
 
 pub returns : goal.returns

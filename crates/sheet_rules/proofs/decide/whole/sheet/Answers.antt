@@ -39,22 +39,30 @@ first_byte input from e h q =
 
 pub returns-then-input-gt-LONGEST_INPUT : goal.returns-then-input-gt-LONGEST_INPUT
 unfolding sheet_of
-returns-then-input-gt-LONGEST_INPUT c = prints roomy refl (rw (printed-long rules fresh c.args.input.now (omega (arith, c.if-input-gt-LONGEST_INPUT.true))) c.write_refusal.ensures)
+returns-then-input-gt-LONGEST_INPUT c =
+    prints roomy refl (rw (printed-long rules fresh c.args.input.now (omega (arith, c.if-input-gt-LONGEST_INPUT.true))) c.write_refusal.ensures)
 
 pub loop-from-init : goal.loop-from-init
 loop-from-init c = starts rules _ fresh refl _ _ c.fresh-state.ensures
 
 pub passed-state-requires : goal.passed-state-requires
-passed-state-requires c = let k = c.loop-from.invariant in let l = row_inside c.write_feeds-feeds.result.lines _ c.loop-from.from c.loop-from.invariant.inside c.write_feeds-feeds.ensures.each in omega (arith, l, k.counted, k.held.line, c.if-input-gt-LONGEST_INPUT.false)
+passed-state-requires c =
+    let k = c.loop-from.invariant in
+    let l = row_inside c.write_feeds-feeds.result.lines _ c.loop-from.from c.loop-from.invariant.inside c.write_feeds-feeds.ensures.each in
+    omega (arith, l, k.counted, k.held.line, c.if-input-gt-LONGEST_INPUT.false)
 
 pub overflow_add-from : goal.overflow_add-from
-overflow_add-from c = let l = row_inside c.write_feeds-feeds.result.lines _ c.loop-from.from c.loop-from.invariant.inside c.write_feeds-feeds.ensures.each in record { fits = omega (arith, l, c.if-input-gt-LONGEST_INPUT.false) }
+overflow_add-from c =
+    let l = row_inside c.write_feeds-feeds.result.lines _ c.loop-from.from c.loop-from.invariant.inside c.write_feeds-feeds.ensures.each in
+    record { fits = omega (arith, l, c.if-input-gt-LONGEST_INPUT.false) }
 
 pub loop-from-smaller-then-input-from-eq-LINE_FEED : goal.loop-from-smaller-then-input-from-eq-LINE_FEED
-loop-from-smaller-then-input-from-eq-LINE_FEED c = let h = c.write_feeds-feeds.ensures.some (record { inside = omega arith; byte = c.if-input-from-eq-LINE_FEED.true }) in omega arith
+loop-from-smaller-then-input-from-eq-LINE_FEED c =
+    let h = c.write_feeds-feeds.ensures.some (record { inside = omega arith; byte = c.if-input-from-eq-LINE_FEED.true }) in omega arith
 
 pub loop-from-preserved-then-input-from-eq-LINE_FEED : goal.loop-from-preserved-then-input-from-eq-LINE_FEED
-loop-from-preserved-then-input-from-eq-LINE_FEED c = goes-past rules _ fresh refl _ _ bare _ (λ s h. (h.line, rw c.passed-state.ensures (hold-feeds _ h))) c.write_feeds-feeds.ensures c.loop-from.invariant
+loop-from-preserved-then-input-from-eq-LINE_FEED c =
+    goes-past rules _ fresh refl _ _ bare _ (λ s h. (h.line, rw c.passed-state.ensures (hold-feeds _ h))) c.write_feeds-feeds.ensures c.loop-from.invariant
 
 pub slice_bounds-print_point-count : goal.slice_bounds-print_point-count
 slice_bounds-print_point-count c = let l = piece _ _ _ (ended _ _ _ c.read_placed-read.ensures) (omega arith) in omega arith
@@ -94,13 +102,17 @@ pub slice_bounds-decide-end : goal.slice_bounds-decide-end
 slice_bounds-decide-end c = let l = piece _ _ _ c.line_end-end.ensures (omega arith) in omega arith
 
 pub decide-decided-requires : goal.decide-decided-requires
-decide-decided-requires c = let l = piece _ _ _ c.line_end-end.ensures (omega arith) in let k = c.loop-from.invariant in (omega (arith, k.counted, k.held.line, k.inside, c.if-input-gt-LONGEST_INPUT.false), omega (arith, l.some, l.size))
+decide-decided-requires c =
+    let l = piece _ _ _ c.line_end-end.ensures (omega arith) in let k = c.loop-from.invariant in
+    (omega (arith, k.counted, k.held.line, k.inside, c.if-input-gt-LONGEST_INPUT.false), omega (arith, l.some, l.size))
 
 pub loop-from-smaller : goal.loop-from-smaller
 loop-from-smaller c = let l = piece _ _ _ c.line_end-end.ensures (omega arith) in omega arith
 
 pub loop-from-preserved : goal.loop-from-preserved
-loop-from-preserved c = goes_on rules _ fresh refl _ _ roomy _ _ c.line_end-end.ensures (omega (arith, c.loop-from-test.true)) (λ s h. let g = c.decide-decided.ensures s h in (g.reply, g.holds)) c.write_reply-at.ensures c.loop-from.invariant
+loop-from-preserved c =
+    goes_on rules _ fresh refl _ _ roomy _ _ c.line_end-end.ensures (omega (arith, c.loop-from-test.true))
+    (λ s h. let g = c.decide-decided.ensures s h in (g.reply, g.holds)) c.write_reply-at.ensures c.loop-from.invariant
 
 pub shape_of-out : goal.shape_of-out
 shape_of-out c = c.loop-from.invariant.size

@@ -34,19 +34,19 @@ unfolding shape round of_bits
 zero_is = refl
 
 pub returns-in-1 : goal.returns-in-1
-returns-in-1 c = grs80 ∙ ap (λ (y : ℤ). (ellipsoid_of y).f) (code_is c.args.code 1 c.ranges.code c.in-1.keys1)
+returns-in-1 c = grs80 ∙ ap (λ (y : ℤ). (ellipsoid_of y).f) (code_is c.args.code 1 c.ranges.code c.in-1.in-1-own.keys1)
 
 pub returns-in-2 : goal.returns-in-2
-returns-in-2 c = wgs84 ∙ ap (λ (y : ℤ). (ellipsoid_of y).f) (code_is c.args.code 2 c.ranges.code c.in-2.keys2)
+returns-in-2 c = wgs84 ∙ ap (λ (y : ℤ). (ellipsoid_of y).f) (code_is c.args.code 2 c.ranges.code c.in-2.in-2-own.keys2)
 
 pub returns-in-3 : goal.returns-in-3
-returns-in-3 c = everest-modified ∙ ap (λ (y : ℤ). (ellipsoid_of y).f) (code_is c.args.code 3 c.ranges.code c.in-3.keys3)
+returns-in-3 c = everest-modified ∙ ap (λ (y : ℤ). (ellipsoid_of y).f) (code_is c.args.code 3 c.ranges.code c.in-3.in-3-own.keys3)
 
 pub returns-in-4 : goal.returns-in-4
-returns-in-4 c = everest-1967 ∙ ap (λ (y : ℤ). (ellipsoid_of y).f) (code_is c.args.code 4 c.ranges.code c.in-4.keys4)
+returns-in-4 c = everest-1967 ∙ ap (λ (y : ℤ). (ellipsoid_of y).f) (code_is c.args.code 4 c.ranges.code c.in-4.in-4-own.keys4)
 
 pub returns-in_default : goal.returns-in_default
 unfolding ellipsoid_of
 returns-in_default c =
-    let r = c.in_default.rest in
+    let r = c.in_default.in_default-own.rest in
     zero_is ∙ ap (λ (r : Figure). (shape r).f) (no_row c.args.code r.0.0.0.1 r.0.0.1 r.0.1 r.1)

@@ -41,13 +41,13 @@ module _ (c : TheStart) where
   z-float = exact c.args.z (pos 0) (pos 90000000000) c.ranges.z (lit≤ tt) (lit≤ tt) p.2
 
 pub int_to_float-across : goal.int_to_float-across
-int_to_float-across c = x-float c.before
+int_to_float-across c = x-float c.before.before
 
 pub int_to_float-along : goal.int_to_float-along
-int_to_float-along c = y-float c.before.before
+int_to_float-along c = y-float c.before.before.before
 
 pub int_to_float-up : goal.int_to_float-up
-int_to_float-up c = z-float c.before.before.before
+int_to_float-up c = z-float c.before.before.before.before
 
 pub returns : goal.returns
 unfolding found_at seconds round of_bits

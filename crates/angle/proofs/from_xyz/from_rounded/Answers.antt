@@ -22,10 +22,8 @@ returns-in-Refused-height c = rw (c.in-Whole.is, c.in-Whole-past.is, c.in-Refuse
 pub returns-in-Whole-height : goal.returns-in-Whole-height
 unfolding from_rounded
 returns-in-Whole-height c =
-    let x = c.in-Whole.given in
-    let y = c.in-Whole-past.given in
-    let z = c.in-Whole-height.given in
-    let p : SFits w64 x.0.0 = search rules in
-    let q : SFits w64 y.0.0 = search rules in
-    let r : SFits w64 z.0.0 = search rules in
-    rw (x.1, y.1, z.1) (c.in_ranges.ensures ∙ rw (to_z-of_z w64 x.0.0 p, to_z-of_z w64 y.0.0 q, to_z-of_z w64 z.0.0 r))
+    let p : SFits w64 c.in-Whole.a = search rules in
+    let q : SFits w64 c.in-Whole-past.b = search rules in
+    let r : SFits w64 c.in-Whole-height.c = search rules in
+    rw (c.in-Whole.is, c.in-Whole-past.is, c.in-Whole-height.is)
+    (c.in_ranges.ensures ∙ rw (to_z-of_z w64 c.in-Whole.a p, to_z-of_z w64 c.in-Whole-past.b q, to_z-of_z w64 c.in-Whole-height.c r))

@@ -50,27 +50,24 @@ whole-requires-2 c = let a = c.before.before in rw (lon a, w a) (past.past-small
 
 pub int_to_float-h : goal.int_to_float-h
 int_to_float-h c =
-    let a = c.before.before.before.before.before.before.before in
+    let a = c.before.before.before.before.before.before.before.before in
     read_back a.args.height a.ranges.height (height a)
 
 pub returns : goal.returns
 unfolding cartesian_at radians round of_bits
 returns c =
-    let with-nu = c.before in
-    let with-w = with-nu.before.before.before.before.before.before in
-    let with-phi = with-w.before.before in
-    let a = with-phi.before.before in
+    let a = c.before.before.before.before.before.before.before.before.before.before.before in
     let h : to_z w64 (of_z w64 a.args.height) ≡ a.args.height = to_z-of_z w64 a.args.height a.ranges.height in
     rw (
-      with-nu.prime-vertical.ensures,
-      with-nu.before.cosine2.ensures,
-      with-nu.before.before.sine2.ensures,
-      with-nu.before.before.before.before.cosine.ensures,
-      with-nu.before.before.before.before.before.sine.ensures,
-      with-w.radians2.ensures,
-      with-w.before.whole2.ensures,
-      with-phi.radians.ensures,
-      with-phi.before.whole.ensures,
+      c.prime_vertical-nu.ensures,
+      c.cosine-cos_phi.ensures,
+      c.sine-sin_phi.ensures,
+      c.cosine-sin_l.ensures,
+      c.sine-cos_l.ensures,
+      c.radians-w.ensures,
+      c.whole-2.ensures,
+      c.radians-phi.ensures,
+      c.whole.ensures,
       lat a,
       lon a,
       w a,

@@ -13,8 +13,6 @@ returns-in-Refused-y c = rw (c.in-Whole.is, c.in-Refused-y.is)
 
 pub returns-in-Whole-y : goal.returns-in-Whole-y
 returns-in-Whole-y c =
-    let x = c.in-Whole.given in
-    let y = c.in-Whole-y.given in
-    let p : SFits w64 x.0.0 = search rules in
-    let q : SFits w64 y.0.0 = search rules in
-    rw (x.1, y.1, to_z-of_z w64 x.0.0 p, to_z-of_z w64 y.0.0 q)
+    let p : SFits w64 c.in-Whole.a = search rules in
+    let q : SFits w64 c.in-Whole-y.b = search rules in
+    rw (c.in-Whole.is, c.in-Whole-y.is, to_z-of_z w64 c.in-Whole.a p, to_z-of_z w64 c.in-Whole-y.b q)

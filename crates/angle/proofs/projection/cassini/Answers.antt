@@ -87,9 +87,9 @@ none c = sym (point-is c.before) ∙ c.if-point-ne0.false
 pub project_once-requires : goal.project_once-requires
 unfolding point
 project_once-requires c =
-    let d = c.before.before.before in
+    let d = c.before.before.before.before in
     let s = d in
-    let p = point-near s.args.o.longitude s.args.latitude s.args.longitude (none c) in
+    let p = point-near s.args.o.longitude s.args.latitude s.args.longitude (none c.before) in
     rw (to_z-of_z w64 s.args.latitude s.ranges.latitude, to_z-of_z w64 s.args.longitude s.ranges.longitude) (sound d, p.0, p.1)
 
 pub returns : goal.returns

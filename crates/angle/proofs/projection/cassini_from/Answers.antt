@@ -50,7 +50,7 @@ pub project-requires : goal.project-requires
 project-requires c =
     let d = c in
     rw (to_z-of_z w64 d.args.latitude d.ranges.latitude, to_z-of_z w64 d.args.longitude d.ranges.longitude)
-    (point-near d.args.origin.longitude d.args.latitude d.args.longitude (none c))
+    (point-near d.args.origin.longitude d.args.latitude d.args.longitude (none c.before))
 
 pub returns : goal.returns
 unfolding cassini_from_of

@@ -21,13 +21,13 @@ tests c = passed (origin_tests c.args.o) tt c.requires.0
 
 pub metres-east-requires : goal.metres-east-requires
 metres-east-requires c =
-    let d = c.before.before.before in
+    let d = c.before.before.before.before in
     let f : SFits w64 d.args.o.false_easting = search rules in
     rw (to_z-of_z w64 d.args.o.false_easting f) (not-false _ (tests d).1.0)
 
 pub metres-north-requires : goal.metres-north-requires
 metres-north-requires c =
-    let d = c.before.before.before.before.before in
+    let d = c.before.before.before.before.before.before in
     let f : SFits w64 d.args.o.false_northing = search rules in
     rw (to_z-of_z w64 d.args.o.false_northing f) (not-false _ (tests d).1.1.0)
 

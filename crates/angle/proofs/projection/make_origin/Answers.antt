@@ -33,14 +33,14 @@ sound c = sym c.origin_fault-fault.ensures ∙ c.if-fault-ne0.false
 
 pub origin_arc-m0-requires : goal.origin_arc-m0-requires
 origin_arc-m0-requires c =
-    let d = c.before.before in
+    let d = c.before.before.before in
     let o = d.args.o in
     let f : SFits w64 o.latitude = search rules in
     rw (to_z-of_z w64 o.latitude f) (origin-latitude o (sound d))
 
 pub made-requires : goal.made-requires
 made-requires c =
-    let d = c.before.before.before in
+    let d = c.before.before.before.before in
     let o = d.args.o in
     let f : SFits w64 o.ellipsoid = search rules in
     let g : SFits w64 o.latitude = search rules in

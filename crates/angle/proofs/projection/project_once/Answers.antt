@@ -58,11 +58,11 @@ terms-are c =
     ∙ sym (ap (λ (y : Origin). terms_of y.ellipsoid) m.made-origin.ensures)
 
 pub meridian_arc-m-requires : goal.meridian_arc-m-requires
-meridian_arc-m-requires c = terms-are c.before
+meridian_arc-m-requires c = terms-are c.before.before
 
 pub apart_radians-difference-requires : goal.apart_radians-difference-requires
 apart_radians-difference-requires c =
-    let a = c.before.before.before.before.before.before.before.before.before.before in
+    let a = c.before.before.before.before.before.before.before.before.before.before.before in
     rw (to_z-of_z w64 a.args.longitude a.ranges.longitude, to_z-of_z w64 a.args.o.longitude (held a)) a.requires.2
 
 pub lay-requires : goal.lay-requires

@@ -32,7 +32,7 @@ abbrev TheStart : Type 0
 TheStart = lts.Start tie.the-claims reads.Pre reads.Post goal.the-invariant-loop-i goal.the-decreases-loop-i
 
 long : (s : TheStart) → length s.args.chain.steps ≡ 8
-long s = sym (length-map s.args.chain.steps _) ∙ s.well_formed.0.1.1.0.1.0.1
+long s = s.well_formed.0.1.1.0.1.0.1
 
 pub returns-then-n-eq0 : goal.returns-then-n-eq0
 returns-then-n-eq0 c = let s = c in ap (λ (n : ℕ). first (steps_tests s.args.chain.profile (take n s.args.chain.steps))) (sym c.if-n-eq0.true)
@@ -74,9 +74,9 @@ returns-then-f-ne0 c =
 
 pub loop-i-init : goal.loop-i-init
 loop-i-init c =
-    let s = start c.before in
-    let f = own c.before in
-    (omega (arith, c.if-n-eq0.false), sym (begun c.before ∙ or_else-right (step_fault (profile s) (get_or (steps s) 0 step_past_end)) (rest s) (sym f ∙ c.if-f-ne0.false)))
+    let s = start c.before.before in
+    let f = own c.before.before in
+    (omega (arith, c.if-n-eq0.false), sym (begun c.before.before ∙ or_else-right (step_fault (profile s) (get_or (steps s) 0 step_past_end)) (rest s) (sym f ∙ c.if-f-ne0.false)))
 
 -- a turn: the step at index i, then the rest
 module _ (c : TheAfterLaterFault) where
@@ -101,7 +101,7 @@ module _ (c : TheAfterLaterFault) where
   turn : or_else one after ≡ first (steps_tests (profile s) (take (count s) (steps s)))
   turn =
       let l = c.loop-i-test.true in
-      sym (later-from (steps s) (count s) i l (omega (arith, long s, l)) (profile s) at.loop-i.previous) ∙ at.loop-i.inv.1
+      sym (later-from (steps s) (count s) i l (omega (arith, long s, l)) (profile s) at.loop-i.previous) ∙ at.loop-i.invariant.1
 
   found : c.later_fault-f.result ≡ one
   found = c.later_fault-f.ensures ∙ ap (λ (y : ℤ). first (step_tests y here ++ (join_test at.loop-i.previous here ∷ []))) (told c.struct_told-in-loop-i-1.given.1.1.0.1)
@@ -113,8 +113,8 @@ returns-then-f-ne0-2 c =
 
 pub loop-i-preserved : goal.loop-i-preserved
 loop-i-preserved c =
-    let f = found c.before in
-    (omega arith, sym (or_else-right (one c.before) (after c.before) (sym f ∙ c.if-f-ne0-2.false)) ∙ turn c.before)
+    let f = found c.before.before in
+    (omega arith, sym (or_else-right (one c.before.before) (after c.before.before) (sym f ∙ c.if-f-ne0-2.false)) ∙ turn c.before.before)
 
 pub returns : goal.returns
 returns c =

@@ -86,7 +86,7 @@ pub returns-then-not-does_follow : goal.returns-then-not-does_follow
 returns-then-not-does_follow c =
     let a = c.before in
     let e = from a in
-    ends_there (year e) (ns e) (start e).pre (at a).loop.i a.loop-i-test.true (at a).loop.end (all a) (at a).loop.invariant.1 (found a false (c.if-not-does_follow.true))
+    ends_there (year e) (ns e) (start e).requires (at a).loop-i.i a.loop-i-test.true (at a).loop-i.end (all a) (at a).loop-i.invariant.1 (found a false (c.if-not-does_follow.true))
     ∙ sym (decided e)
 
 pub loop-i-preserved : goal.loop-i-preserved
@@ -94,8 +94,8 @@ loop-i-preserved c =
     let a = c.before.before in
     let e = from a in (
       omega arith,
-      ap (λ (r : Realization). all_follow (year e) r (drop ((at a).loop.i + 1) (steps_in (ns e)))) c.after_at-end.ensures
-          ∙ goes_on (year e) (ns e) (start e).pre (at a).loop.i a.loop-i-test.true (at a).loop.end (all a) (at a).loop.invariant.1 (found a true (c.if-not-does_follow.false)),
+      ap (λ (r : Realization). all_follow (year e) r (drop ((at a).loop-i.i + 1) (steps_in (ns e)))) c.after_at-end.ensures
+          ∙ goes_on (year e) (ns e) (start e).requires (at a).loop-i.i a.loop-i-test.true (at a).loop-i.end (all a) (at a).loop-i.invariant.1 (found a true (c.if-not-does_follow.false)),
     )
 
 pub returns : goal.returns

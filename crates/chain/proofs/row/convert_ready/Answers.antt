@@ -16,7 +16,7 @@ abbrev TheAfterPointFault : Type 0
 TheAfterPointFault = lts.After-point_fault tie.the-claims reads.Pre reads.Post
 
 pub returns-then-bad-ne0 : goal.returns-then-bad-ne0
-returns-then-bad-ne0 c = let s = c.args in ready-bad s.t1 s.direction s.point c.if-bad-ne0.true
+returns-then-bad-ne0 c = let s = c.args in ready-bad s.ready s.direction s.point c.if-bad-ne0.true
 
 -- the point's own fault, under the profile that is ready
 found : (c : TheAfterPointFault) → c.point_fault-fault.result ≡ point_fault c.args.ready.profile c.args.point
@@ -25,18 +25,18 @@ found c = c.point_fault-fault.ensures ∙ ap (λ (y : ℤ). point_fault y c.args
 pub returns-then-fault-ne0 : goal.returns-then-fault-ne0
 returns-then-fault-ne0 c =
     let s = c.args in
-    ready-point s.t1 s.direction s.point c.if-bad-ne0.false (found c.before) c.if-fault-ne0.true
+    ready-point s.ready s.direction s.point c.if-bad-ne0.false (found c.before) c.if-fault-ne0.true
 
 pub returns-in-Forward : goal.returns-in-Forward
 returns-in-Forward c =
-    let e = c.before.before.before.before.before in
-    let s = e.before.before.args in
-    c.forward_prepared.ensures ∙ ap (λ (d : Direction). convert_prepared d s.t1.numbers s.point) (sym c.enum_told.given.1)
-    ∙ ready-goes s.t1 s.direction s.point e.if1.false (sym (found e) ∙ c.if2.false)
+    let e = c.before.before.before.before in
+    let s = c.args in
+    c.forward_prepared.ensures ∙ ap (λ (d : Direction). convert_prepared d s.ready.numbers s.point) (sym c.in-Forward.is)
+    ∙ ready-goes s.ready s.direction s.point c.if-bad-ne0.false (sym (found e) ∙ c.if-fault-ne0.false)
 
 pub returns-in-Inverse : goal.returns-in-Inverse
 returns-in-Inverse c =
-    let e = c.before.before.before.before.before in
-    let s = e.before.before.args in
-    c.inverse_prepared.ensures ∙ ap (λ (d : Direction). convert_prepared d s.t1.numbers s.point) (sym c.enum-told2.given.1)
-    ∙ ready-goes s.t1 s.direction s.point e.if1.false (sym (found e) ∙ c.if2.false)
+    let e = c.before.before.before.before in
+    let s = c.args in
+    c.inverse_prepared.ensures ∙ ap (λ (d : Direction). convert_prepared d s.ready.numbers s.point) (sym c.in-Inverse.is)
+    ∙ ready-goes s.ready s.direction s.point c.if-bad-ne0.false (sym (found e) ∙ c.if-fault-ne0.false)

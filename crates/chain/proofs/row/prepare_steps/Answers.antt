@@ -31,7 +31,7 @@ module _ (s : TheStart) where
   profile = s.args.chain.profile
 
   long : length steps ≡ 8
-  long = sym (length-map steps _) ∙ s.good.0.1.1.0.1.0.1
+  long = s.well_formed.0.1.1.0.1.0.1
 
   few : count ≤ 8
   few = (chain-passed s.args.chain s.requires).0
@@ -40,13 +40,13 @@ pub loop-i-init : goal.loop-i-init
 loop-i-init c = (omega arith, refl)
 
 pub offset_bounds-chain-i : goal.offset_bounds-chain-i
-offset_bounds-chain-i c = omega (arith, few c.before.before.before)
+offset_bounds-chain-i c = omega (arith, few c.before.before.before.before)
 
 pub bounds-chain-i : goal.bounds-chain-i
-bounds-chain-i c = omega (arith, few c.before.before.before)
+bounds-chain-i c = omega (arith, few c.before.before.before.before)
 
 pub overflow_add-i : goal.overflow_add-i
-overflow_add-i c = omega (arith, few c.before.before.before.before.before.before)
+overflow_add-i c = omega (arith, few c.before.before.before.before.before.before.before)
 
 -- a turn: the step at index i is put to the numbers
 turn : (y : ℤ) (l m : List ℤ) (ss rest : List Step) (s : Step) → ss ≡ s ∷ rest → m ≡ extended_by y l s → extended_all y m rest ≡ extended_all y l ss
@@ -55,7 +55,7 @@ turn y l m ss rest s e f = rw (e, f)
 
 pub loop-i-preserved : goal.loop-i-preserved
 loop-i-preserved c =
-    let s = c.before.before.before.before.before.before in
+    let s = c.before.before.before.before.before.before.before in
     let k = c.loop-i in
     let h = c.loop-i-test.true in (
       omega arith,

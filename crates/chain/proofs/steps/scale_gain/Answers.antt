@@ -59,7 +59,7 @@ returns c =
     let x = c.scale_part-x in
     let y = c.scale_part-y in
     let z = c.scale_part-z in
-    of₃ position (rd (record { sfits = x.type-inv }) ∙ x.ensures ∙ of₃ given (start s.args.t.kx s.requires.0.kx) (slope s) (at s on_x))
-    (rd (record { sfits = y.type-inv }) ∙ y.ensures ∙ of₃ given (start s.args.t.ky s.requires.0.ky) (slope s) (at s on_y))
-    (rd (record { sfits = z.type-inv }) ∙ z.ensures ∙ of₃ given (start s.args.t.kz s.requires.0.kz) (slope s) (at s on_z))
+    of₃ position (rd (record { sfits = x.type_inv }) ∙ x.ensures ∙ of₃ given (start s.args.t.kx s.requires.0.kx) (slope s) (at s on_x))
+    (rd (record { sfits = y.type_inv }) ∙ y.ensures ∙ of₃ given (start s.args.t.ky s.requires.0.ky) (slope s) (at s on_y))
+    (rd (record { sfits = z.type_inv }) ∙ z.ensures ∙ of₃ given (start s.args.t.kz s.requires.0.kz) (slope s) (at s on_z))
     ∙ slope-gain s.args.t.kx s.args.t.ky s.args.t.kz s.args.t.slope s.args.p

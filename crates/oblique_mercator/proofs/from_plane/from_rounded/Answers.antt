@@ -22,8 +22,7 @@ pub returns-in-Whole-difference : goal.returns-in-Whole-difference
 unfolding from_rounded
 returns-in-Whole-difference c =
     let a = c in
-    let x = c.in-Whole.given in
-    let y = c.in-Whole-difference.given in
-    let p : SFits w64 x.0.0 = search rules in
-    let q : SFits w64 y.0.0 = search rules in
-    rw (x.1, y.1) (c.in_ranges.ensures ∙ rw (to_z-of_z w64 x.0.0 p, to_z-of_z w64 y.0.0 q, to_z-of_z w64 a.args.centre a.ranges.centre))
+    let p : SFits w64 c.in-Whole.a = search rules in
+    let q : SFits w64 c.in-Whole-difference.b = search rules in
+    rw (c.in-Whole.is, c.in-Whole-difference.is)
+    (c.in_ranges.ensures ∙ rw (to_z-of_z w64 c.in-Whole.a p, to_z-of_z w64 c.in-Whole-difference.b q, to_z-of_z w64 a.args.centre a.ranges.centre))

@@ -29,7 +29,7 @@ returns-then-not-in_plane c =
     rw (centre c.before.before.before.before true (c.if-not-is_longitude.false), e)
 
 pub unproject-requires : goal.unproject-requires
-unproject-requires c = centre c.before.before.before.before true (c.if-not-is_longitude.false)
+unproject-requires c = centre c.before.before.before.before.before true (c.if-not-is_longitude.false)
 
 pub returns : goal.returns
 unfolding reverse_from_of

@@ -47,39 +47,39 @@ module _ (c : TheStart) where
 
 pub int_to_float-p : goal.int_to_float-p
 int_to_float-p c =
-    let a = c.before.before.before.before in
+    let a = c.before.before.before.before.before in
     let f : SFits w64 a.args.p.latitude = search rules in
     read_back a.args.p.latitude f (latitude a)
 
 pub int_to_float-p-2 : goal.int_to_float-p-2
 int_to_float-p-2 c =
-    let a = c.before.before.before.before.before.before.before in
+    let a = c.before.before.before.before.before.before.before.before in
     let f : SFits w64 a.args.p.scale = search rules in
     read_back a.args.p.scale f (scale a)
 
 pub int_to_float-reduced : goal.int_to_float-reduced
 int_to_float-reduced c =
-    let a = c.before.before.before.before.before.before.before.before.before.before.before in
+    let a = c.before.before.before.before.before.before.before.before.before.before.before.before in
     let f : SFits w64 a.args.p.azimuth = search rules in
     let e = c.reduced.ensures ∙ ap reduced (to_z-of_z w64 a.args.p.azimuth f) in
     subst⁻¹ (λ (z : ℤ). T (in_float binary64 (to_z w64 (of_z w64 z)))) e (read_back (reduced a.args.p.azimuth) (reduced-fits a.args.p.azimuth (all a).azimuth) (azimuth a))
 
 pub int_to_float-reduced-2 : goal.int_to_float-reduced-2
 int_to_float-reduced-2 c =
-    let a = c.before.before.before.before.before.before.before.before.before.before.before.before.before.before.before.before in
+    let a = c.before.before.before.before.before.before.before.before.before.before.before.before.before.before.before.before.before in
     let f : SFits w64 a.args.p.rectified = search rules in
     let e = c.reduced-2.ensures ∙ ap reduced (to_z-of_z w64 a.args.p.rectified f) in
     subst⁻¹ (λ (z : ℤ). T (in_float binary64 (to_z w64 (of_z w64 z)))) e (read_back (reduced a.args.p.rectified) (reduced-fits a.args.p.rectified (all a).rectified) (rectified a))
 
 pub int_to_float-result : goal.int_to_float-result
 int_to_float-result c =
-    let a = c.before.before.before.before.before.before.before.before.before.before.before.before.before.before.before.before.before.before.before.before.before.before.before.before in
+    let a = c.before.before.before.before.before.before.before.before.before.before.before.before.before.before.before.before.before.before.before.before.before.before.before.before.before in
     let f : SFits w64 a.args.p.false_easting = search rules in
     read_back a.args.p.false_easting f (easting a)
 
 pub int_to_float-result-2 : goal.int_to_float-result-2
 int_to_float-result-2 c =
-    let a = c.before.before.before.before.before.before.before.before.before.before.before.before.before.before.before.before.before.before.before.before.before.before.before.before.before.before in
+    let a = c.before.before.before.before.before.before.before.before.before.before.before.before.before.before.before.before.before.before.before.before.before.before.before.before.before.before.before in
     let f : SFits w64 a.args.p.false_northing = search rules in
     read_back a.args.p.false_northing f (northing a)
 

@@ -58,7 +58,7 @@ all c = (centre c.before.before.before.before.before true (c.if-not-is_longitude
 pub project-requires : goal.project-requires
 project-requires c =
     let a = c in
-    let p = all c in
+    let p = all c.before in
     rw (to_z-of_z w64 a.args.latitude a.ranges.latitude, to_z-of_z w64 a.args.longitude a.ranges.longitude) (p.1, p.2, p.0)
 
 pub returns : goal.returns

@@ -39,17 +39,17 @@ module _ (c : TheStart) where
   same f = ap₂ ◌-ℤ◌ (to_z-of_z w64 c.args.longitude c.ranges.longitude) (to_z-of_z w64 c.args.p.centre f)
 
 pub int_to_float-latitude : goal.int_to_float-latitude
-int_to_float-latitude c = let a = c.before in read_back a.args.latitude a.ranges.latitude (latitude a)
+int_to_float-latitude c = let a = c.before.before in read_back a.args.latitude a.ranges.latitude (latitude a)
 
 pub overflow_sub-longitude : goal.overflow_sub-longitude
 overflow_sub-longitude c =
-    let a = c.before.before.before.before in
+    let a = c.before.before.before.before.before in
     let f : SFits w64 a.args.p.centre = search rules in
     subst (λ (z : ℤ). SFits w64 z) (sym (same a f)) (difference-fits a)
 
 pub int_to_float-longitude : goal.int_to_float-longitude
 int_to_float-longitude c =
-    let a = c.before.before.before.before.before in
+    let a = c.before.before.before.before.before.before in
     let f : SFits w64 a.args.p.centre = search rules in
     subst (λ (z : ℤ). T (in_float binary64 (to_z w64 (of_z w64 z)))) (sym (same a f)) (read_back (difference a) (difference-fits a) (difference-float a))
 

@@ -32,7 +32,7 @@ abbrev TheStart : Type 0
 TheStart = lts.Start tie.the-claims reads.Pre reads.Post goal.the-invariant-loop-i goal.the-decreases-loop-i
 
 long : (s : TheStart) → length s.args.chain.steps ≡ 8
-long s = sym (length-map s.args.chain.steps _) ∙ s.well_formed.0.1.1.0.1.0.1
+long s = s.well_formed.0.1.1.0.1.0.1
 
 module _ (s : TheStart) where
   abbrev steps : List Step

@@ -16,7 +16,7 @@ abbrev TheStart : Type 0
 TheStart = lts.Start reads.Pre reads.Post
 
 long : (s : TheStart) → length s.args.chain.steps ≡ 8
-long s = sym (length-map s.args.chain.steps _) ∙ s.well_formed.0.1.1.0.1.0.1
+long s = s.well_formed.0.1.1.0.1.0.1
 
 pub returns-then-chain-eq0 : goal.returns-then-chain-eq0
 unfolding start_of

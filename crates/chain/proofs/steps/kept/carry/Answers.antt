@@ -68,7 +68,7 @@ returns-then-not-moved c =
     c.refused.ensures
     ∙ ap (arrival_of (s a).args.point)
     (sym
-    (turn-range forward_by (s a).args.point (s a).args.end _ (after a) (row_at (l a) (i a)) (is a) (q a) (good a false (c.if-not-moved.true)))
+    (turn-range forward_by (s a).args.point (s a).args.end _ (after a) (row_at (l a) (i a)) (is a) (q a) (good a false (not-true _ c.if-not-moved.true)))
     ∙ whole a)
 
 -- where the row leads
@@ -80,7 +80,7 @@ module _ (c : TheAfterInArea) where
   next = forward_by (ready_parts (row_at (l a) (i a)).ready) (q a)
 
   sound : (row_at (l a) (i a)).good ≡ true
-  sound = good a true (c.if-not-moved.false)
+  sound = good a true (not-false _ c.if-not-moved.false)
 
   is-next : a.forward_row-moved.result.position ≡ next
   is-next = a.forward_row-moved.ensures.1 sound

@@ -63,12 +63,12 @@ module _ (c : TheAfterRowAt) where
 pub returns-then-not-row : goal.returns-then-not-row
 returns-then-not-row c =
     let a = c.before.before in
-    sym (sym (whole a) ∙ turn-range inverse_by (s a).args.point (s a).args.end _ (after a) (row_at (l a) (i a)) (is a) (q a) (good a false (c.if-not-row.true)))
+    sym (sym (whole a) ∙ turn-range inverse_by (s a).args.point (s a).args.end _ (after a) (row_at (l a) (i a)) (is a) (q a) (good a false (not-true _ c.if-not-row.true)))
 
 pub inverse_ready-p-requires : goal.inverse_ready-p-requires
 inverse_ready-p-requires c =
     let a = c.before.before in
-    (subst⁻¹ (λ (r : Row). ReadyOk r.ready) a.row_at-row.ensures (row_ok (l a) (i a) (good a true (c.if-not-row.false))), area_small (q a) a.loop-i.invariant.1)
+    (subst⁻¹ (λ (r : Row). ReadyOk r.ready) a.row_at-row.ensures (row_ok (l a) (i a) (good a true (not-false _ c.if-not-row.false))), area_small (q a) a.loop-i.invariant.1)
 
 -- where the row leads
 module _ (c : TheAfterInArea) where
@@ -79,7 +79,7 @@ module _ (c : TheAfterInArea) where
   next = inverse_by (ready_parts (row_at (l a) (i a)).ready) (q a)
 
   sound : (row_at (l a) (i a)).good ≡ true
-  sound = good a true (c.if-not-row.false)
+  sound = good a true (not-false _ c.if-not-row.false)
 
   is-next : c.inverse_ready-p.result ≡ next
   is-next = c.inverse_ready-p.ensures ∙ ap (λ (r : Row). inverse_by (ready_parts r.ready) (q a)) a.row_at-row.ensures

@@ -38,21 +38,21 @@ TheElse1 = lts.Else1 tie.the-claims reads.Pre reads.Post
 -- what the chain so far says of the step
 module _ (c : TheAfterExtendFault) where
   abbrev l : List ℤ
-  l = c.before.before.before.args.numbers.now
+  l = c.args.numbers.now
 
   abbrev profile : ℤ
-  profile = c.before.before.before.args.profile
+  profile = c.args.profile
 
   abbrev step : Step
-  step = c.before.before.before.args.step
+  step = c.args.step
 
   length : to_z w64 (of_z w64 (get_or l 0 (pos 0))) ≡ length_in l
-  length = told c.n.given
+  length = told c.n-1.given
 
   fault : c.extend_fault-f.result ≡ extend_fault profile l step
   unfolding extend_fault
   fault = c.extend_fault-f.ensures ∙ ap₂ (λ (n : ℤ) (r : Realization). first (extend_tests (to_z w64 (of_z w64 profile)) n r step)) length c.end_in.ensures
-      ∙ ap (λ (y : ℤ). first (extend_tests y (length_in l) (end_in l) step)) (rd c.before.before.before.before.ranges.profile)
+      ∙ ap (λ (y : ℤ). first (extend_tests y (length_in l) (end_in l) step)) (rd c.ranges.profile)
 
 pub returns-then-f-ne0 : goal.returns-then-f-ne0
 returns-then-f-ne0 c = let a = c.before in (fault a, sym (refused-is (profile a) (l a) (step a) (λ e. c.if-f-ne0.true (fault a ∙ e))))
@@ -84,27 +84,27 @@ one : pos 1 ≡ pos 1
 one = refl
 
 pub prepare-requires : goal.prepare-requires
-prepare-requires c = let e = c.before.before.before.before.before.before.before in step_ok (profile (at e)) (step (at e)) (alone e)
+prepare-requires c = let e = c.before.before.before in step_ok (profile (at e)) (step (at e)) (alone e)
 
 pub count-requires : goal.count-requires
-count-requires c = let e = c.before.before.before.before.before.before in rw (length (at e)) (known e)
+count-requires c = let e = c.before.before.before.before.before in rw (length (at e)) (known e)
 
 -- how many rows there are
-counted : (c : TheAfterCount) → c.count.result ≡ nat_abs (length_in (l (at c.before.before.before.before.before.before.before)))
-counted c = c.count.ensures ∙ ap nat_abs (length (at c.before.before.before.before.before.before.before))
+counted : (c : TheAfterCount) → c.count.result ≡ nat_abs (length_in (l (at c.before.before.before.before.before.before)))
+counted c = c.count.ensures ∙ ap nat_abs (length (at c.before.before.before.before.before.before))
 
 pub overflow_add-count : goal.overflow_add-count
-overflow_add-count c = record { fits = omega (arith, counted c, small c.before.before.before.before.before.before.before) }
+overflow_add-count c = record { fits = omega (arith, counted c, small c.before.before.before.before.before.before) }
 
 pub put_ready-requires : goal.put_ready-requires
-put_ready-requires c = omega (arith, counted c, small c.before.before.before.before.before.before.before)
+put_ready-requires c = omega (arith, counted c, small c.before.before.before.before.before.before)
 
 pub overflow_add-n : goal.overflow_add-n
-overflow_add-n c = let e = c.before.before.before.before.before.before.before.before.before in fit+ (length (at e)) one (more e)
+overflow_add-n c = let e = c.before.before.before.before.before.before.before.before in fit+ (length (at e)) one (more e)
 
 pub returns : goal.returns
 returns c =
-    let e = c.before.before.before.before.before.before.before.before.before.before in
+    let e = c.before.before.before.before.before.before.before.before.before in
     let n = c.before.before.before in
     let p = c in
     let w = c in (

@@ -15,10 +15,10 @@ abbrev TheStart : Type 0
 TheStart = lts.Start reads.Pre reads.Post
 
 long-first : (s : TheStart) → length s.args.first.steps ≡ 8
-long-first s = sym (length-map s.args.first.steps _) ∙ s.well_formed.0.1.1.0.1.0.1
+long-first s = s.well_formed.0.1.1.0.1.0.1
 
 long-second : (s : TheStart) → length s.args.second.steps ≡ 8
-long-second s = sym (length-map s.args.second.steps _) ∙ s.well_formed.1.0.1.1.0.1.0.1
+long-second s = s.well_formed.1.0.1.1.0.1.0.1
 
 nearer : (s : TheStart) → s.args.index - s.args.first.length < 8
 nearer s = omega (arith, s.requires.1)

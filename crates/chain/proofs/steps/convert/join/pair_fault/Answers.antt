@@ -26,10 +26,10 @@ abbrev TheStart : Type 0
 TheStart = lts.Start tie.the-claims reads.Pre reads.Post
 
 long-first : (s : TheStart) → length s.args.first.steps ≡ 8
-long-first s = sym (length-map s.args.first.steps _) ∙ s.good.0.1.1.0.1.0.1
+long-first s = s.well_formed.0.1.1.0.1.0.1
 
 long-second : (s : TheStart) → length s.args.second.steps ≡ 8
-long-second s = sym (length-map s.args.second.steps _) ∙ s.good.1.0.1.1.0.1.0.1
+long-second s = s.well_formed.1.0.1.1.0.1.0.1
 
 -- how many steps there are, as the code counts them
 count : (s : TheStart) → together s.args.first s.args.second ≡ s.args.first.length + s.args.second.length

@@ -67,24 +67,24 @@ step_at-requires c = whole (ns c) (holds c).0 (i c) (below c)
 pub forward_step-p-requires : goal.forward_step-p-requires
 forward_step-p-requires c =
     let l = c.before in
-    (subst⁻¹ StepOk c.step_at.ensures (sound-step (ns l) (holds l).0 (i l) (below l) (holds l).1), (at l).loop.invariant.1)
+    (subst⁻¹ StepOk c.step_at.ensures (sound-step (ns l) (holds l).0 (i l) (below l) (holds l).1), (at l).loop-i.invariant.1)
 
 -- a turn: that step, then the rest
 module _ (c : TheAfterInArea) where
   abbrev l : TheInLoop
   l = c.before.before.before
 
-  is-next : c.forward_step-p.result ≡ forward_step (get_or (eight_from (ns l)) (i l) step_past_end) (at l).loop.p
-  is-next = c.forward_step-p.ensures ∙ ap (λ (s : Step). forward_step s (at l).loop.p) (c.step_at.ensures ∙ sym (step_is (ns l) (holds l).0 (i l) (below l)))
+  is-next : c.forward_step-p.result ≡ forward_step (get_or (eight_from (ns l)) (i l) step_past_end) (at l).loop-i.p
+  is-next = c.forward_step-p.ensures ∙ ap (λ (s : Step). forward_step s (at l).loop-i.p) (c.step_at.ensures ∙ sym (step_is (ns l) (holds l).0 (i l) (below l)))
 
   area : (b : Bool) → c.in_area.result ≡ b → in_area c.forward_step-p.result ≡ b
   area b e = sym c.in_area.ensures ∙ e
 
   gone : in_area c.forward_step-p.result ≡ false → left ≡ walked l
-  gone = left_there (eight_from (ns l)) (length (ns l) / 13) (i l) (below l) (inside l) forward_step (at l).loop.p c.forward_step-p.result (walked l) (at l).loop.inv.2 is-next
+  gone = left_there (eight_from (ns l)) (length (ns l) / 13) (i l) (below l) (inside l) forward_step (at l).loop-i.p c.forward_step-p.result (walked l) (at l).loop-i.invariant.2 is-next
 
   onward : in_area c.forward_step-p.result ≡ true → walk forward_step (drop (i l + 1) (steps_in (ns l))) c.forward_step-p.result ≡ walked l
-  onward = on-from-there (eight_from (ns l)) (length (ns l) / 13) (i l) (below l) (inside l) forward_step (at l).loop.p c.forward_step-p.result (walked l) (at l).loop.inv.2 is-next
+  onward = on-from-there (eight_from (ns l)) (length (ns l) / 13) (i l) (below l) (inside l) forward_step (at l).loop-i.p c.forward_step-p.result (walked l) (at l).loop-i.invariant.2 is-next
 
 pub returns-then-not-in_area : goal.returns-then-not-in_area
 unfolding answer_of

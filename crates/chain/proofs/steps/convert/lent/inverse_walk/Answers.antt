@@ -57,7 +57,7 @@ module _ (c : TheInLoop) where
   holds = lent-holds start.args.profile ns start.requires.0
 
   below : i < length ns / 13
-  below = let test = c.loop-i-test.true in let h = at.loop-i.inv.0 in omega arith
+  below = let test = c.loop-i-test.true in let h = at.loop-i.invariant.0 in omega arith
 
   inside : i < length (eight_from ns)
   inside = omega (arith, below, holds.0, eight-steps ns)
@@ -67,7 +67,7 @@ module _ (c : TheInLoop) where
   rest =
       let test = c.loop-i-test.true in
       let one : i + 1 ≡ at.loop-i.i = omega arith in
-      ap (λ (k : ℕ). walk inverse_step (reverse (take k (eight_from ns))) at.loop-i.p) one ∙ at.loop-i.inv.2
+      ap (λ (k : ℕ). walk inverse_step (reverse (take k (eight_from ns))) at.loop-i.p) one ∙ at.loop-i.invariant.2
 
 pub step_at-requires : goal.step_at-requires
 step_at-requires c = whole (ns c) (holds c).0 (i c) (below c)
@@ -75,24 +75,24 @@ step_at-requires c = whole (ns c) (holds c).0 (i c) (below c)
 pub inverse_step-p-requires : goal.inverse_step-p-requires
 inverse_step-p-requires c =
     let l = c.before in
-    (subst⁻¹ StepOk c.step_at.ensures (sound-step (ns l) (holds l).0 (i l) (below l) (holds l).1), (at l).loop.invariant.1)
+    (subst⁻¹ StepOk c.step_at.ensures (sound-step (ns l) (holds l).0 (i l) (below l) (holds l).1), (at l).loop-i.invariant.1)
 
 -- a turn: that step, then the rest
 module _ (c : TheAfterInArea) where
   abbrev l : TheInLoop
   l = c.before.before.before
 
-  is-next : c.inverse_step-p.result ≡ inverse_step (get_or (eight_from (ns l)) (i l) step_past_end) (at l).loop.p
-  is-next = c.inverse_step-p.ensures ∙ ap (λ (s : Step). inverse_step s (at l).loop.p) (c.step_at.ensures ∙ sym (step_is (ns l) (holds l).0 (i l) (below l)))
+  is-next : c.inverse_step-p.result ≡ inverse_step (get_or (eight_from (ns l)) (i l) step_past_end) (at l).loop-i.p
+  is-next = c.inverse_step-p.ensures ∙ ap (λ (s : Step). inverse_step s (at l).loop-i.p) (c.step_at.ensures ∙ sym (step_is (ns l) (holds l).0 (i l) (below l)))
 
   area : (b : Bool) → c.in_area.result ≡ b → in_area c.inverse_step-p.result ≡ b
   area b e = sym c.in_area.ensures ∙ e
 
   gone : in_area c.inverse_step-p.result ≡ false → left ≡ walked l
-  gone = left_below (eight_from (ns l)) (i l) (inside l) inverse_step (at l).loop.p c.inverse_step-p.result (walked l) (rest l) is-next
+  gone = left_below (eight_from (ns l)) (i l) (inside l) inverse_step (at l).loop-i.p c.inverse_step-p.result (walked l) (rest l) is-next
 
   onward : in_area c.inverse_step-p.result ≡ true → walk inverse_step (reverse (take (i l) (eight_from (ns l)))) c.inverse_step-p.result ≡ walked l
-  onward = on_below (eight_from (ns l)) (i l) (inside l) inverse_step (at l).loop.p c.inverse_step-p.result (walked l) (rest l) is-next
+  onward = on_below (eight_from (ns l)) (i l) (inside l) inverse_step (at l).loop-i.p c.inverse_step-p.result (walked l) (rest l) is-next
 
 pub returns-then-not-in_area : goal.returns-then-not-in_area
 unfolding answer_of

@@ -25,7 +25,8 @@ fn print_short(rt: &impl Print, text: &[u8]) -> io::Result<()>
     rt.write_all(whole)
 }
 
-// Writes what any plan prints. Called from two places, it is compiled as a function of its own: as a part of `main` its room would be touched for every plan.
+// Writes what any plan prints. It is compiled as a function of its own: as a part of `main` its room would be touched for every plan.
+#[inline(never)]
 fn print_any(rt: &impl Print, text: &[u8]) -> io::Result<()> {
     let mut printed = listing::output_space();
     let whole = answer(text, &mut printed);

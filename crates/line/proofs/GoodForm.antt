@@ -7,7 +7,7 @@ use Rattle.refusal.specs.Numbers as refusal
 use Rattle.refusal.specs.Order.{pick}
 use Rattle.chain.specs.declared.Step.{Step}
 use Rattle.line.specs.declared.Fault.{Fault}
-use Rattle.line.specs.Bytes.{letter_t, letter_v, letter_b, letter_f, letter_p, letter_c}
+use Rattle.line.specs.Bytes.{letter_t, letter_v, letter_b, letter_f, letter_p, letter_c, letter_o, letter_g, letter_e, letter_s}
 use Rattle.line.specs.Fields.{body, fields, Form, ends, field, either, into, taken, onward, filled, in_body, said, single, one_of, letter_of}
 use Rattle.line.specs.Name.{name_of}
 use Rattle.line.specs.Number.{number_of}
@@ -171,23 +171,23 @@ a-number f = read-good refusal.plain (number_of f) (omega arith)
 
 point-like : (fs : List (List ℕ)) → Like point_form (point_shape fs)
 unfolding Like point_form
-point-like fs = (a-letter _, λ _. (an-id, λ _. (a-number, λ _. (a-number, λ _. (a-number, λ _. (a-number, λ _. (a-number, λ _. (a-number, λ _. (a-number, λ _. tt)))))))))
+point-like fs = (a-letter (letter_p ∷ []), λ _. (an-id, λ _. (a-number, λ _. (a-number, λ _. (a-number, λ _. (a-number, λ _. (a-number, λ _. (a-number, λ _. (a-number, λ _. tt)))))))))
 
 origin-like : (fs : List (List ℕ)) → Like origin_form (origin_shape fs)
 unfolding Like origin_form
-origin-like fs = (a-letter _, λ _. (a-number, λ _. (a-number, λ _. (a-number, λ _. (a-number, λ _. (a-number, λ _. tt))))))
+origin-like fs = (a-letter (letter_o ∷ []), λ _. (a-number, λ _. (a-number, λ _. (a-number, λ _. (a-number, λ _. (a-number, λ _. tt))))))
 
 geodetic-like : (fs : List (List ℕ)) → Like geodetic_form (geodetic_shape fs)
 unfolding Like geodetic_form
-geodetic-like fs = (a-letter _, λ _. (an-id, λ _. (a-number, λ _. (a-number, λ _. tt))))
+geodetic-like fs = (a-letter (letter_g ∷ []), λ _. (an-id, λ _. (a-number, λ _. (a-number, λ _. tt))))
 
 edition-like : (fs : List (List ℕ)) → Like edition_form (edition_shape fs)
 unfolding Like edition_form
-edition-like fs = (a-letter _, λ _. (a-number, λ _. tt))
+edition-like fs = (a-letter (letter_e ∷ []), λ _. (a-number, λ _. tt))
 
 grid-like : (fs : List (List ℕ)) → Like grid_form (grid_shape fs)
 unfolding Like grid_form
-grid-like fs = (a-letter _, λ _. (a-number, λ _. (a-number, λ _. (a-number, λ _. (a-number, λ _. (a-number, λ _. tt))))))
+grid-like fs = (a-letter (letter_g ∷ []), λ _. (a-number, λ _. (a-number, λ _. (a-number, λ _. (a-number, λ _. (a-number, λ _. tt))))))
 
 node-like : (fs : List (List ℕ)) → Like node_form (node_shape fs)
 unfolding Like node_form
@@ -199,7 +199,7 @@ unfolding Like three_form bursa_wolf_form frame_form
 kind-like true v b = (a-number, λ _. (a-number, λ _. (a-number, λ _. tt)))
 kind-like false true b = (a-number, λ _. (a-number, λ _. (a-number, λ _. tt)))
 kind-like false false true =
-    (a-letter _, λ _. (a-number, λ _. (a-number, λ _. (a-number, λ _. (a-number, λ _. (a-number, λ _. (a-number, λ _. (a-number, λ _. tt))))))))
+    (a-letter (letter_p ∷ letter_c ∷ []), λ _. (a-number, λ _. (a-number, λ _. (a-number, λ _. (a-number, λ _. (a-number, λ _. (a-number, λ _. (a-number, λ _. tt))))))))
 kind-like false false false = tt
 
 one-of : (ls : List ℕ) (o : Option ℕ) (b : ℕ) → one_of ls o ≡ some b → o ≡ some b
@@ -242,8 +242,8 @@ after-like g k e =
 step-like : (fs : List (List ℕ)) → LikeOn step_form (step_shape fs) fs
 unfolding LikeOn step_form
 step-like [] = tt
-step-like (f ∷ []) = (a-letter _ f, λ _ _. tt)
-step-like (f ∷ g ∷ fs) = (a-letter _ f, λ _ _. (a-letter _ g, λ k e. like-on (after_kind k) (numbers 4 ++ kind_shape (byte_of (single g))) fs (after-like g k e)))
+step-like (f ∷ []) = (a-letter (letter_s ∷ []) f, λ _ _. tt)
+step-like (f ∷ g ∷ fs) = (a-letter (letter_s ∷ []) f, λ _ _. (a-letter (letter_t ∷ letter_v ∷ letter_b ∷ letter_f ∷ []) g, λ k e. like-on (after_kind k) (numbers 4 ++ kind_shape (byte_of (single g))) fs (after-like g k e)))
 
 -- ---- the law: nothing is said exactly where a fault has a number
 abbrev pub Exactly : {A : Type 0} → Option A → Fault → Type 0

@@ -91,7 +91,7 @@ label-place b f g h i l a e m n dp dq dr dt =
 
 -- ---- a number, as the machine reads it
 pub told : {z : ℤ} → mag z < 9223372036854775808 → to_z w64 (of_z w64 z) ≡ z
-told h = to_z-of_z (record { sfits = h })
+told h = to_z-of_z {w = w64} (record { sfits = h })
 
 -- ---- the fields of a point line, one after the other: the point that they tell, and where its datum begins
 pub point-told : {s : List ℕ} {id : Id} {issue order datum epoch x y z : ℤ} {n1 n2 n3 place n5 n6 n7 n8 last : ℕ}

@@ -1,10 +1,9 @@
 -- `chain::row::convert_row` meets its contract: a turn answers one point, by the ready chain, as the chain itself would. Assumes nothing.
-use mathlib.Core.Path.{◌≡◌, refl, sym, ◌∙◌, ap}
+use mathlib.Core.Path.{◌≡◌, sym, ◌∙◌, ap}
 use mathlib.Core.List.{List}
-use Prim.Native.Nat.{ℕ, suc, ◌+◌, ◌*◌, ◌<◌, ◌≤◌}
+use Prim.Native.Nat.{ℕ, ◌+◌, ◌<◌, ◌≤◌}
 use native.Mathlib.Numerals.{add-one}
 use native.Mathlib.Omega.{arith}
-use borrow.Author.Rules.{rules}
 use lib.ListN.{length, get_or, set}
 use Rattle.chain.specs.declared.Point.{Point}
 use Rattle.chain.specs.declared.Chain.{Chain}
@@ -32,28 +31,10 @@ module _ (c : Chain) (d : Direction) (xs : List Point) (ys : List Answer) where
   all : (i : ℕ) (now : List Answer) → now ≡ cur i → i ≡ length xs → row_fault_of c xs ys ≡ 0 → now ≡ row_answers c d xs ys
   all i now e f g = e ∙ ap cur f ∙ L.row_done c d xs ys g
 
-pub loop-i-init : goal.loop-i-init
-loop-i-init c = (omega arith, refl)
-
-pub offset_bounds-points-i : goal.offset_bounds-points-i
-offset_bounds-points-i c = search rules
-
-pub bounds-points-i : goal.bounds-points-i
-bounds-points-i c = c.loop-i-test.true
-
-pub offset_bounds-answers-i : goal.offset_bounds-answers-i
-offset_bounds-answers-i c = search rules
-
 pub bounds-answers-i : goal.bounds-answers-i
 bounds-answers-i c =
     let k = L.row-long c.args.chain c.args.direction c.args.points.now c.args.answers.now (sym c.row_fault-fault.ensures ∙ c.if-fault-eq0.true) in
     omega (arith, c.loop-i-test.true, c.loop-i.auto.answers, k)
-
-pub overflow_add-i : goal.overflow_add-i
-overflow_add-i c = search rules
-
-pub loop-i-smaller : goal.loop-i-smaller
-loop-i-smaller c = omega (arith, c.loop-i-test.true)
 
 pub loop-i-preserved : goal.loop-i-preserved
 loop-i-preserved c =

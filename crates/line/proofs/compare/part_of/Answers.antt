@@ -9,4 +9,4 @@ pub returns-in-Second : goal.returns-in-Second
 returns-in-Second c = let e = sym c.later_verdict.ensures ∙ c.in-Second.is in rw e refl
 
 pub returns-in-Refused : goal.returns-in-Refused
-returns-in-Refused c = let e = sym c.later-verdict.ensures ∙ c.enum-told3.given.1 in rw e (refl, refl)
+returns-in-Refused c = let e = sym c.later_verdict.ensures ∙ c.in-Refused.is in rw e (refl, refl)

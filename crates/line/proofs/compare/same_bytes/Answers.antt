@@ -15,10 +15,8 @@ returns-then-a-i c =
 
 pub loop-i-preserved : goal.loop-i-preserved
 loop-i-preserved c =
-    let c4 = c.before.before.before.before in
-    let c6 = c4 in
-    let k = c4.loop-i in
-    let g = c6.args in
+    let k = c.loop-i in
+    let g = c.args in
     (omega arith, k.invariant.1, K.same-on g.a.now g.b.now k.i (omega arith) (omega arith) (omega arith) ∙ k.invariant.2)
 
 pub returns : goal.returns

@@ -1,6 +1,5 @@
 -- `line::geodetic_line::geodetic_fields` meets its contract. Assumes nothing.
-use Rattle.std.proofs.Common.{◌≡◌, ◌∙◌, arith, w64, to_z, of_z}
-use Rattle.line.proofs.Places.{told}
+use Rattle.std.proofs.Common.{◌≡◌, ◌∙◌, arith, w64, to_z, of_z, rules}
 use Rattle.line.proofs.Walk as W
 use Rattle.line.specs.Forms.{geodetic_form}
 use Rattle.line.proofs.geodetic_line.geodetic_fields.Goals as goal
@@ -11,8 +10,8 @@ returns c =
     let n1 = c.name-named in
     let n2 = c.number-latitude in
     let n3 = c.of_last_eleven-longitude in
-    let e2 : to_z w64 (of_z w64 n2.result.value) ≡ n2.result.value = told n2.type-inv.1.1.0.1 in
-    let e3 : to_z w64 (of_z w64 n3.result.value) ≡ n3.result.value = told n3.type-inv.1.1.0.1 in
+    let e2 : to_z w64 (of_z w64 n2.result.value) ≡ n2.result.value = search rules in
+    let e3 : to_z w64 (of_z w64 n3.result.value) ≡ n3.result.value = search rules in
     let l2 = W.lost n3.ensures in
     let l1 = W.lost-on n2.ensures l2 in
     let l0 = W.lost-on n1.ensures l1 in

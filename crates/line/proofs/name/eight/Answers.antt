@@ -1,7 +1,5 @@
 -- `line::name::eight` meets its contract. Assumes nothing.
 use Rattle.std.proofs.Common.{◌≡◌, sym, refl, ◌∙◌, arith}
-use borrow.Author.Tests.{not-true, not-false}
-use Rattle.line.specs.Reading.{Run, scale_of}
 use Rattle.line.proofs.Names as N
 use Rattle.line.proofs.name.eight.Goals as goal
 
@@ -10,23 +8,18 @@ loop-left-init c = (N.run_none _ _, refl)
 
 pub overflow_mul-value : goal.overflow_mul-value
 overflow_mul-value c =
-    let c3 = c.before.before.before in
-    let c6 = c3 in
-    let k = c6.loop-left in record { fits = N.product-fits k.invariant.0 (omega arith) c.wide.result k.scale (omega (arith, c3.shared_slice_known-in-loop-left-1.given k.i)) k.invariant.1 }
+    let k = c.loop-left in
+    record { fits = N.product-fits k.invariant.0 (omega arith) c.wide.result k.scale (omega (arith, c.type_inv.s k.i)) k.invariant.1 }
 
 pub overflow_add-value : goal.overflow_add-value
 overflow_add-value c =
-    let c3 = c.before.before.before in
-    let c6 = c3 in
-    let k = c6.loop-left in record { fits = N.sum_fits k.invariant.0 (omega arith) c.wide.result k.scale (omega (arith, c3.shared_slice_known-in-loop-left-1.given k.i)) k.invariant.1 }
+    let k = c.loop-left in
+    record { fits = N.sum_fits k.invariant.0 (omega arith) c.wide.result k.scale (omega (arith, c.type_inv.s k.i)) k.invariant.1 }
 
 pub loop-left-preserved : goal.loop-left-preserved
 loop-left-preserved c =
-    let c2 = c.before.before in
-    let c3 = c2.before in
-    let c6 = c3 in
-    let k = c6.loop-left in
-    (N.run_more k.invariant.0 (omega arith) c.wide.result k.scale (omega arith) (sym c2.is_name_byte.ensures ∙ c.if-not-is_name_byte.false) c.wide.ensures (omega (arith, c3.shared_slice_known-in-loop-left-1.given k.i)) k.invariant.1, N.scale-next k.invariant.0 (omega arith) k.scale k.invariant.1)
+    let k = c.loop-left in
+    (N.run_more k.invariant.0 (omega arith) c.wide.result k.scale (omega arith) (sym c.is_name_byte.ensures ∙ c.if-not-is_name_byte.false) c.wide.ensures (omega (arith, c.type_inv.s k.i)) k.invariant.1, N.scale-next k.invariant.0 (omega arith) k.scale k.invariant.1)
 
 pub returns-after-loop-left : goal.returns-after-loop-left
 returns-after-loop-left c = let k = c.loop-left in record { left = k.left; run = k.invariant.0; last = λ h. absurd (omega arith) }

@@ -6,11 +6,8 @@ use Rattle.line.proofs.name.name.Goals as goal
 
 pub returns-then-end-at : goal.returns-then-end-at
 returns-then-end-at c =
-    let c2 = c.before.before in
-    let c3 = c2.before in
-    let c5 = c3 in
-    let g = c5.args in W.got-none (N.name-off g.s.now g.at (N.packed_none c3.eight-first.ensures (let r = c3.eight-first.ensures.run in
-    let t = c2.eight-second.ensures.run in
+    let g = c.args in W.got-none (N.name-off g.s.now g.at (N.packed_none c.eight-first.ensures (let r = c.eight-first.ensures.run in
+    let t = c.eight-second.ensures.run in
     omega (arith, r.place, t.place)))) (omega arith)
 
 pub returns-else-end-at : goal.returns-else-end-at

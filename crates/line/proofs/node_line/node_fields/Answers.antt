@@ -11,5 +11,4 @@ parts x y z = record { east = x; north = y; up = z }
 pub returns : goal.returns
 unfolding node_form parts
 returns c =
-    let c3 = c in
-    three parts parts (λ p q r. refl) c3.number-east.ensures c3.number-north.ensures c3.number-up.ensures (search rules) (search rules) (search rules)
+    three parts parts (λ p q r. refl) c.number-east.ensures c.number-north.ensures c.number-up.ensures (search rules) (search rules) (search rules)

@@ -1,11 +1,12 @@
 -- `line::node_line::numbers_node` meets its contract. Assumes nothing.
-use Rattle.std.proofs.Common.{sym, ap, ◌∙◌, ⊎_elim, arith, length-take-le}
+use Rattle.std.proofs.Common.{sym, ap, ◌∙◌, arith, length-take-le}
 use Rattle.line.proofs.Answers as A
 use Rattle.line.specs.declared.NodeLine.TheVariants.{Parts, Malformed}
 use Rattle.line.specs.Forms.{node_form}
 use Rattle.line.specs.Malformed.{node_shape, fault_of}
 use Rattle.line.specs.Readers.{parts_as, numbers_node}
 use Rattle.line.proofs.node_line.numbers_node.Goals as goal
+use Rattle.line.proofs.node_line.numbers_node.Goals.{then-end-line+else-r-end, else-end-line}
 
 pub slice_bounds-s-end : goal.slice_bounds-s-end
 slice_bounds-s-end c = sym (length-take-le _ _ (omega arith))
@@ -13,10 +14,8 @@ slice_bounds-s-end c = sym (length-take-le _ _ (omega arith))
 pub returns-then-r-end : goal.returns-then-r-end
 unfolding numbers_node
 returns-then-r-end c =
-    let c3 = c.before.before.before in
-    let c6 = c3.before.before.before in
-    let line = c6.before.before.args.line.now in
-    A.of-form (parts_as (Malformed (fault_of node_shape line))) node_form _ _ c6.body-end.ensures (omega arith) c3.node_fields-r.ensures _ c.if-r-end.true (λ h q. ap Parts q)
+    let line = c.args.line.now in
+    A.of-form (parts_as (Malformed (fault_of node_shape line))) node_form _ _ c.body_end-end.ensures (omega arith) c.node_fields-r.ensures _ c.if-r-end.true (λ h q. ap Parts q)
 
 pub returns : goal.returns
 unfolding numbers_node
@@ -24,5 +23,7 @@ returns c =
     let framed = c.body_end-end.ensures in
     let line = c.args.line.now in
     ap Malformed c.fault_of-fault.ensures
-    ∙ ⊎_elim (λ w. A.no-form (parts_as (Malformed (fault_of node_shape line))) node_form _ _ framed (omega arith) w.2.ensures w.4.left)
-    (λ w. A.no-frame (parts_as (Malformed (fault_of node_shape line))) node_form _ _ framed (omega arith)) c.if-end-line.branch
+    ∙ (elim c.if-end-line.branch [
+      | then-end-line+else-r-end w ↦ A.no-form (parts_as (Malformed (fault_of node_shape line))) node_form _ _ framed (omega arith) w.node_fields-r.ensures w.if-r-end.false
+      | else-end-line w ↦ A.no-frame (parts_as (Malformed (fault_of node_shape line))) node_form _ _ framed (omega arith)
+    ])

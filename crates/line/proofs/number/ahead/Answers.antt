@@ -5,15 +5,12 @@ use Rattle.line.proofs.Few as F
 use Rattle.line.proofs.number.ahead.Goals as goal
 
 pub eight-requires : goal.eight-requires
-eight-requires c =
-    let o = c.other_eight in
-    F.small (F.spelt c.word-d.ensures (o.ensures (L.not-true o.result c.if-not-other_eight.true)))
+eight-requires c = F.small (F.spelt c.word-d.ensures (c.other_eight.ensures c.if-not-other_eight.true))
 
 pub returns-then-not-other_eight : goal.returns-then-not-other_eight
 returns-then-not-other_eight c =
     let g = c.args in
-    let o = c.other_eight in
-    let y = F.spelt c.word-d.ensures (o.ensures (L.not-true o.result c.if-not-other_eight.true)) in
+    let y = F.spelt c.word-d.ensures (c.other_eight.ensures c.if-not-other_eight.true) in
     let v = F.says y (omega arith) in
     rw c.eight.ensures (L.carry 100000000 (L.unmoved g.s.now g.at g.first (omega arith)) v (omega (arith, v.less)))
 

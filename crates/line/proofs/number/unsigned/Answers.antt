@@ -1,8 +1,9 @@
 -- `line::number::unsigned` meets its contract. Assumes nothing.
-use Rattle.std.proofs.Common.{⊎_elim, arith}
+use Rattle.std.proofs.Common.{arith}
 use Rattle.line.proofs.Walk as W
 use Rattle.line.proofs.Numbers as N
 use Rattle.line.proofs.number.unsigned.Goals as goal
+use Rattle.line.proofs.number.unsigned.Goals.{then-at-s+else-b-eq-ZERO+then-b-gt-ZERO+else-b-le-NINE, then-at-s+else-b-eq-ZERO+else-b-gt-ZERO, else-at-s}
 
 pub returns-then-b-eq-ZERO : goal.returns-then-b-eq-ZERO
 returns-then-b-eq-ZERO c = record { got = N.zero-alone (omega arith) c.closed.ensures c.if-b-eq-ZERO.true; small = omega arith }
@@ -12,6 +13,13 @@ returns-then-b-le-NINE c = record { got = N.first-digit (omega arith) _ c.magnit
 
 pub returns : goal.returns
 returns c =
-    let c3 = c in
-    let g = c3.args in
-    record { got = W.got-none (N.no_digit g.s.now g.at (λ l. ⊎_elim (λ w. N.high (omega arith)) (λ u. ⊎_elim (λ w. N.low (omega arith)) (λ w. absurd (omega arith)) u) c.if-at-s.branch)) (omega arith); small = omega arith }
+    let g = c.args in
+    record {
+      got =
+          elim c.if-at-s.branch [
+            | then-at-s+else-b-eq-ZERO+then-b-gt-ZERO+else-b-le-NINE w ↦ W.got-none (N.no_digit g.s.now g.at (λ l. N.high (omega arith))) (omega arith)
+            | then-at-s+else-b-eq-ZERO+else-b-gt-ZERO w ↦ W.got-none (N.no_digit g.s.now g.at (λ l. N.low (omega arith))) (omega arith)
+            | else-at-s w ↦ W.got-none (N.no_digit g.s.now g.at (λ l. absurd (omega arith))) (omega arith)
+          ];
+      small = omega arith;
+    }

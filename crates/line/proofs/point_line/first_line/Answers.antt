@@ -7,17 +7,15 @@ use Rattle.line.proofs.point_line.first_line.Goals as goal
 pub returns : goal.returns
 returns c =
     λ e.
-    let c9 = c.before.before.before in
-    let c15 = c9 in
-    let n0 = c15.letter-at in
-    let n1 = c15.name-named in
-    let n2 = c15.of_few-issue in
-    let n3 = c9.of_one-order in
-    let n4 = c9.of_one-datum in
-    let n5 = c9.of_seven-epoch in
-    let n6 = c9.of_minus_twelve-x in
-    let n7 = c9.of_twelve-y in
-    let n8 = c9.last_field-last in
+    let n0 = c.letter-at in
+    let n1 = c.name-named in
+    let n2 = c.of_few-issue in
+    let n3 = c.of_one-order in
+    let n4 = c.of_one-datum in
+    let n5 = c.of_seven-epoch in
+    let n6 = c.of_minus_twelve-x in
+    let n7 = c.of_twelve-y in
+    let n8 = c.last_field-last in
     let z = n8.ensures e in
     let a7 = ahead n7.ensures (omega (arith, z.behind, z.inside)) in
     let a6 = ahead n6.ensures (omega (arith, a7, z.behind, z.inside)) in

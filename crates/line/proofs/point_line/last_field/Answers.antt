@@ -11,4 +11,4 @@ pub slice_bounds-of_last_eleven-end : goal.slice_bounds-of_last_eleven-end
 slice_bounds-of_last_eleven-end c = sym (length-take-le _ _ (omega arith))
 
 pub returns : goal.returns
-returns c = λ e. ended c.feed-after.ensures c.of_last_eleven-z.ensures e
+returns c = λ e. ended c.feed_after-feed.ensures c.of_last_eleven-z.ensures e

@@ -5,8 +5,5 @@ use Rattle.line.proofs.point_line.point_fields.Goals as goal
 
 pub returns : goal.returns
 returns c =
-    let n8 = c.before.before in
-    let n4 = n8.before.before.before.before in
-    let n1 = n4 in
     rw c.told.ensures
-    (point-told n1.letter-at.ensures n1.name-named.ensures n4.number-issue.ensures n4.number-order.ensures n4.number-datum.ensures n8.number-epoch.ensures n8.number-x.ensures n8.number-y.ensures n8.number-z.ensures)
+    (point-told c.letter-at.ensures c.name-named.ensures c.number-issue.ensures c.number-order.ensures c.number-datum.ensures c.number-epoch.ensures c.number-x.ensures c.number-y.ensures c.number-z.ensures)

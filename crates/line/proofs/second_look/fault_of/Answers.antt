@@ -13,21 +13,21 @@ slice_bounds-s-end c = sym (length-take-le _ _ (omega arith))
 
 pub fields_fault-requires : goal.fields_fault-requires
 fields_fault-requires c =
-    let line = c.before.before.before.before.before.args.line.now in
-    let end = c.body-end.result in
-    let b = body-length line (take end line) (L.body-some line end c.body-end.ensures (omega arith)) in
-    record { s_len_bound = omega arith; end_bound = omega (arith, c.end_of_lem.ensures, end_low line) }
+    let line = c.args.line.now in
+    let end = c.body_end-end.result in
+    let b = body-length line (take end line) (L.body-some line end c.body_end-end.ensures (omega arith)) in
+    record { s_len_bound = omega arith; end_bound = omega (arith, c.end_of-last.ensures, end_low line) }
 
 pub returns-then-end-line : goal.returns-then-end-line
 unfolding fault_of
 returns-then-end-line c =
-    let g = c.before.before.before.before.before.before.args in
+    let g = c.args in
     let line = g.line.now in
-    let end = c.body-end.result in
+    let end = c.body_end-end.result in
     let fs = fields (take end line) in
     c.fields_fault.ensures
-    ∙ rw (L.body-some line end c.body-end.ensures (omega arith))
-    (ap (λ (e : ℕ). fields_fault (shape_of g.first fs) e fs) c.end_of_lem.ensures)
+    ∙ rw (L.body-some line end c.body_end-end.ensures (omega arith))
+    (ap (λ (e : ℕ). fields_fault (shape_of g.first fs) e fs) c.end_of-last.ensures)
 
 pub found-requires : goal.found-requires
 found-requires c = omega (arith, c.end_of-last.ensures, end_low c.args.line.now)

@@ -7,49 +7,37 @@ use Rattle.line.proofs.second_look.fields_fault.Goals as goal
 
 pub returns-then-wrong-s : goal.returns-then-wrong-s
 returns-then-wrong-s c =
-    let w = c in
-    let g = w.args in
-    c.found.ensures ∙ L.is-letter w.letter_place-wrong.ensures g.end (omega arith)
-    ∙ L.by_shape g.end (fields g.s.now) w.kind_in-kind.ensures
+    let g = c.args in
+    c.found.ensures ∙ L.is-letter c.letter_place-wrong.ensures g.end (omega arith)
+    ∙ L.by_shape g.end (fields g.s.now) c.kind_in-kind.ensures
 
 pub returns-then-not-has_count : goal.returns-then-not-has_count
 returns-then-not-has_count c =
-    let n = c.before.before in
-    let w = n in
-    let g = w.args in
+    let g = c.args in
     c.found-then-not-has_count.ensures
-    ∙ L.is-count w.letter_place-wrong.ensures g.end (omega arith) refl (eqb-false _ _ (sym n.has_count.ensures ∙ c.if-not-has_count.true))
-    ∙ L.by_shape g.end (fields g.s.now) w.kind_in-kind.ensures
+    ∙ L.is-count c.letter_place-wrong.ensures g.end (omega arith) refl (eqb-false _ _ (sym c.has_count.ensures ∙ c.if-not-has_count.true))
+    ∙ L.by_shape g.end (fields g.s.now) c.kind_in-kind.ensures
 
 pub returns-then-seen-s : goal.returns-then-seen-s
 returns-then-seen-s c =
-    let k = c.before.before.before in
-    let n = k.before.before in
-    let w = n in
-    let g = w.args in
+    let g = c.args in
     c.found-then-seen-s.ensures
-    ∙ L.is-id w.letter_place-wrong.ensures g.end (omega arith) refl (eqb-true _ _ (sym n.has_count.ensures ∙ k.if-not-has_count.false)) k.look-seen.ensures
+    ∙ L.is-id c.letter_place-wrong.ensures g.end (omega arith) refl (eqb-true _ _ (sym c.has_count.ensures ∙ c.if-not-has_count.false)) c.look-seen.ensures
     (omega arith)
-    ∙ L.by_shape g.end (fields g.s.now) w.kind_in-kind.ensures
+    ∙ L.by_shape g.end (fields g.s.now) c.kind_in-kind.ensures
 
 pub returns-then-seen-s-2 : goal.returns-then-seen-s-2
 returns-then-seen-s-2 c =
-    let k = c.before.before.before.before.before in
-    let n = k.before.before in
-    let w = n in
-    let g = w.args in
+    let g = c.args in
     c.found-then-seen-s-2.ensures
-    ∙ L.is_plain w.letter_place-wrong.ensures g.end (omega arith) refl (eqb-true _ _ (sym n.has_count.ensures ∙ k.if-not-has_count.false)) k.look-seen.ensures
+    ∙ L.is_plain c.letter_place-wrong.ensures g.end (omega arith) refl (eqb-true _ _ (sym c.has_count.ensures ∙ c.if-not-has_count.false)) c.look-seen.ensures
     (omega arith) (omega arith)
-    ∙ L.by_shape g.end (fields g.s.now) w.kind_in-kind.ensures
+    ∙ L.by_shape g.end (fields g.s.now) c.kind_in-kind.ensures
 
 pub returns : goal.returns
 returns c =
-    let k = c.before.before.before.before.before in
-    let n = k.before.before in
-    let w = n in
-    let g = w.args in
+    let g = c.args in
     c.found-2.ensures
-    ∙ L.is_none w.letter_place-wrong.ensures g.end (omega arith) refl (eqb-true _ _ (sym n.has_count.ensures ∙ k.if-not-has_count.false)) k.look-seen.ensures
+    ∙ L.is_none c.letter_place-wrong.ensures g.end (omega arith) refl (eqb-true _ _ (sym c.has_count.ensures ∙ c.if-not-has_count.false)) c.look-seen.ensures
     (omega arith) (omega arith)
-    ∙ L.by_shape g.end (fields g.s.now) w.kind_in-kind.ensures
+    ∙ L.by_shape g.end (fields g.s.now) c.kind_in-kind.ensures

@@ -8,5 +8,5 @@ returns-in-84 c = W.sift (84 ∷ 86 ∷ 66 ∷ 70 ∷ []) c.single-c.ensures (�
 
 pub returns-in_default : goal.returns-in_default
 returns-in_default c =
-    let r = c.in_default.rest.1 in
+    let r = c.in_default.in_default-own.rest.1 in
     W.sift-off (84 ∷ 86 ∷ 66 ∷ 70 ∷ []) c.single-c.ensures (rw (ne_eqb _ 84 (λ e. r (inr (inr (inl e)))), ne_eqb _ 86 (λ e. r (inr (inr (inr e)))), ne_eqb _ 66 (λ e. r (inl e)), ne_eqb _ 70 (λ e. r (inr (inl e))))) (omega arith)

@@ -1,5 +1,5 @@
 -- `line::step_line::read_step` meets its contract. Assumes nothing.
-use Rattle.std.proofs.Common.{length, take, ℤ, sym, ap, ◌∙◌, ⊎_elim, arith, length-take-le, take_all, to_z-of_z}
+use Rattle.std.proofs.Common.{length, take, ℤ, sym, ap, ◌∙◌, arith, length-take-le, take_all, to_z-of_z}
 use borrow.Author.Tests.{eqb-false}
 use Rattle.line.specs.declared.StepLine.TheVariants.{Malformed}
 use Rattle.chain.specs.Faults.{step_fault}
@@ -12,6 +12,7 @@ use Rattle.line.proofs.GoodForm.{step-uncounted}
 use Rattle.line.proofs.Malformed.{body-length}
 use Rattle.line.proofs.SecondLook as L
 use Rattle.line.proofs.step_line.read_step.Goals as goal
+use Rattle.line.proofs.step_line.read_step.Goals.{then-end-line+then-is_counted+else-r-end, then-end-line+else-is_counted, else-end-line}
 
 pub slice_bounds-s-end : goal.slice_bounds-s-end
 slice_bounds-s-end c = sym (length-take-le _ _ (omega arith))
@@ -19,19 +20,16 @@ slice_bounds-s-end c = sym (length-take-le _ _ (omega arith))
 -- a line that has a body is not too long
 pub is_counted-requires : goal.is_counted-requires
 is_counted-requires c =
-    let line = c.before.before.before.before.args.line.now in
-    let end = c.body-end.result in
-    let b = body-length line (take end line) (L.body-some line end c.body-end.ensures (omega arith)) in
+    let line = c.args.line.now in
+    let end = c.body_end-end.result in
+    let b = body-length line (take end line) (L.body-some line end c.body_end-end.ensures (omega arith)) in
     omega arith
 
 pub returns-then-r-end : goal.returns-then-r-end
 unfolding read_step
 returns-then-r-end c =
-    let c2 = c.before.before in
-    let c4 = c2.before.before in
-    let c7 = c4.before.before.before.before.before in
-    A.good-form _ _ _ (F.careful-step c7.before.before.args.profile) _ _ _ _ c7.body-end.ensures (omega arith) c4.step_fields-r.ensures _ c2.if-r-end.true
-    (c.judge_step.ensures ∙ ap (λ (y : ℤ). judged (step_fault y) line.Step line.Refused c4.step_fields-r.result.step) (to_z-of_z c7.before.before.ranges.profile))
+    A.good-form (step_fault c.args.profile) line.Step line.Refused (F.careful-step c.args.profile) _ _ _ _ c.body_end-end.ensures (omega arith) c.step_fields-r.ensures _ c.if-r-end.true
+    (c.judge_step.ensures ∙ ap (λ (y : ℤ). judged (step_fault y) line.Step line.Refused c.step_fields-r.result.step) (to_z-of_z c.ranges.profile))
 
 pub slice_bounds-fault_of-end : goal.slice_bounds-fault_of-end
 slice_bounds-fault_of-end c = sym (length-take-le _ _ (omega arith))
@@ -39,15 +37,13 @@ slice_bounds-fault_of-end c = sym (length-take-le _ _ (omega arith))
 pub returns : goal.returns
 unfolding read_step
 returns c =
-    let b = c.before.before.before in
-    let s = b in
-    let y = s.args.profile in
-    let l = s.args.line.now in
-    let framed = b.body-end.ensures in
+    let y = c.args.profile in
+    let l = c.args.line.now in
+    let framed = c.body_end-end.ensures in
     let careful = F.careful-step y in
     ap Malformed (c.fault_of-fault.ensures ∙ ap (fault_of step_shape) (take_all (length l) l (omega arith)))
-    ∙ ⊎_elim (λ w. A.bad-form _ _ _ careful _ _ _ _ framed (omega arith) w.4.ensures w.6.left)
-    (⊎_elim
-    (λ w. ap (read_as (step_fault y) line.Step line.Refused (Malformed (fault_of step_shape l))) (sym (step-uncounted l _ (L.body-some l _ framed (omega arith)) (eqb-false _ _ (sym w.2.ensures ∙ w.3.left)))))
-    (λ w. A.bad-frame _ _ _ careful _ _ _ _ framed (omega arith)))
-    c.if1.branch
+    ∙ elim c.if-end-line.branch [
+      | then-end-line+then-is_counted+else-r-end w ↦ A.bad-form (step_fault y) line.Step line.Refused careful _ _ _ _ framed (omega arith) w.step_fields-r.ensures w.if-r-end.false
+      | then-end-line+else-is_counted w ↦ ap (read_as (step_fault y) line.Step line.Refused (Malformed (fault_of step_shape l))) (sym (step-uncounted l _ (L.body-some l _ framed (omega arith)) (eqb-false _ _ (sym w.is_counted.ensures ∙ w.if-is_counted.false))))
+      | else-end-line w ↦ A.bad-frame (step_fault y) line.Step line.Refused careful _ _ _ _ framed (omega arith)
+    ]

@@ -5,7 +5,4 @@ use Rattle.line.proofs.write.name.Goals as goal
 
 pub returns : goal.returns
 returns c =
-    let c2 = c.before.before in
-    let c6 = c2.before.before.before.before in
-    let c10 = c6 in
-    T.says (T.«then» c10.word-a.ensures (T.«then» c6.word-b.ensures c2.byte.ensures)) (T.name-is _ 9)
+    T.says (T.«then» c.word-a.ensures (T.«then» c.word-b.ensures c.byte.ensures)) (T.name-is _ 9)

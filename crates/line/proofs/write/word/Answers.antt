@@ -9,11 +9,8 @@ loop-left-init c = (omega arith, refl, λ m r g. g)
 
 pub loop-left-preserved : goal.loop-left-preserved
 loop-left-preserved c =
-    let c2 = c.before.before in
-    let c4 = c2.before.before in
-    let c6 = c4 in
-    let k = c6.loop-left in
-    (omega arith, c2.byte-p.auto.0 ∙ k.invariant.1, λ m r g. k.invariant.2 m r (T.as-text (sym (T.letters-on k.left k.v (omega arith) c4.if-b-eq0.false)) (T.«then» c2.byte-p.ensures g)))
+    let k = c.loop-left in
+    (omega arith, c.byte-p.auto.out ∙ k.invariant.1, λ m r g. k.invariant.2 m r (T.as-text (sym (T.letters-on k.left k.v (omega arith) c.if-b-eq0.false)) (T.«then» c.byte-p.ensures g)))
 
 pub shape_of-out-after-loop-left : goal.shape_of-out-after-loop-left
 shape_of-out-after-loop-left c = c.loop-left.invariant.1

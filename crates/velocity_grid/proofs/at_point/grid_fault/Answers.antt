@@ -28,7 +28,7 @@ ranged c = sym c.in_range.ensures ∙ c.if-not-in_range.false
 
 pub count-requires : goal.count-requires
 count-requires c =
-    let e = c.before.before in
+    let e = c.before.before.before in
     let g = e.args.g in
     let t = c.struct_told-2-1.given in
     ap₂ size_range (told {z = g.rows} t.1.1.0.1) (told {z = g.columns} t.1.1.1.0.1) ∙ (header g (ranged e)).sizes

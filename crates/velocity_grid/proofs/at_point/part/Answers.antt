@@ -7,14 +7,12 @@ use Rattle.velocity_grid.specs.AtPoint.{part_of}
 use Rattle.velocity_grid.specs.Bilinear.{bilinear, CellOk}
 use Rattle.velocity_grid.specs.declared.Corners.{Corners}
 use Rattle.velocity_grid.proofs.AtPoint.{cell-ok}
-use Rattle.velocity_grid.proofs.at_point.slice-bounds.Statement.{statement}
-use Rattle.velocity_grid.proofs.at_point.slice-bounds.Tie as tie
 use Rattle.velocity_grid.proofs.at_point.part.Goals as goal
 
 pub bilinear-requires : goal.bilinear-requires
 bilinear-requires c =
-    let b = c.before.before.before in
-    let s = b in
+    let b = c in
+    let s = c in
     let t = c.struct_told-3-1.given in
     let q = s.args.c in
     to₃ (λ (m x y : ℤ). CellOk m x y b.corners-values.result) (told {z = q.mesh} t.1.1.0.1) (told {z = q.east} t.1.1.1.0.1) (told {z = q.north} t.1.1.1.1.0.1)

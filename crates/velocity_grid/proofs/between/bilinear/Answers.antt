@@ -58,13 +58,13 @@ module _ (s : TheStart) where
 
 pub blend-south-requires : goal.blend-south-requires
 blend-south-requires c =
-    let s = c.before.before in
+    let s = c.before.before.before in
     let t = c.struct_told-2-1.given in
     to₄ BlendOk (rd s.ranges.m) (rd s.ranges.x) (told {z = s.args.c.south_west} t.0.1) (told {z = s.args.c.south_east} t.1.0.1) (edge s s.args.c.south_west s.args.c.south_east s.requires.south-west s.requires.south-east)
 
 pub blend-north-requires : goal.blend-north-requires
 blend-north-requires c =
-    let s = c.before.before.before.before.before in
+    let s = c.before.before.before.before.before.before in
     let t = c.struct_told-4-1.given in
     to₄ BlendOk (rd s.ranges.m) (rd s.ranges.x) (told {z = s.args.c.north_west} t.1.1.0.1) (told {z = s.args.c.north_east} t.1.1.1.0.1) (edge s s.args.c.north_west s.args.c.north_east s.requires.north-west s.requires.north-east)
 

@@ -56,13 +56,13 @@ Asked s n m z = AxisOk s n m × (on_axis s n m z ≡ true)
 
 pub along-north-requires : goal.along-north-requires
 along-north-requires c =
-    let m = c.before.before in
+    let m = c.before.before.before in
     let t = c.struct_told-3-1.given in
     to₄ Asked (told {z = (grid m).latitude} t.0.1) (told {z = (grid m).rows} t.1.1.0.1) (mesh-is m) (rd (start m).ranges.latitude) (rows-axis (grid m) (head m), (on m).0)
 
 pub along-east-requires : goal.along-east-requires
 along-east-requires c =
-    let m = c.before.before.before.before.before in
+    let m = c.before.before.before.before.before.before in
     let t = c.struct_told-5-1.given in
     to₄ Asked (told {z = (grid m).longitude} t.1.0.1) (told {z = (grid m).columns} t.1.1.1.0.1) (mesh-is m) (rd (start m).ranges.longitude) (columns-axis (grid m) (head m), (on m).1)
 

@@ -37,13 +37,13 @@ module _ (c : TheAfterMeshUnits) where
 
 pub on_axis-requires : goal.on_axis-requires
 on_axis-requires c =
-    let m = c.before.before in
+    let m = c.before.before.before in
     let t = c.struct_told-3-1.given in
     to₃ AxisOk (told {z = (grid m).latitude} t.0.1) (told {z = (grid m).rows} t.1.1.0.1) (mesh-is m) (rows-axis (grid m) (head m))
 
 pub on_axis-requires-2 : goal.on_axis-requires-2
 on_axis-requires-2 c =
-    let m = c.before.before.before.before.before in
+    let m = c.before.before.before.before.before.before in
     let t = c.struct_told-5-1.given in
     to₃ AxisOk (told {z = (grid m).longitude} t.1.0.1) (told {z = (grid m).columns} t.1.1.1.0.1) (mesh-is m) (columns-axis (grid m) (head m))
 

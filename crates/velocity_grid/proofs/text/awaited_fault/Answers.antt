@@ -24,18 +24,13 @@ returns-then-text-eq0 c = rw (eq-eqb _ _ c.if-text-eq0.true) c.miscounted.ensure
 pub returns-in-Malformed : goal.returns-in-Malformed
 unfolding node_fault
 returns-in-Malformed c =
-    let b = c in
-    let r = c.in-Malformed.given in
-    c.on_line.ensures ∙ by-line _ _ (node.Malformed r.0.0) b.if-text-eq0.false (sym b.read_node.ensures ∙ r.1)
+    c.on_line.ensures ∙ by-line _ _ (node.Malformed c.in-Malformed.fault) c.if-text-eq0.false (sym c.read_node.ensures ∙ c.in-Malformed.is)
 
 pub returns-in-NoValue : goal.returns-in-NoValue
 unfolding node_fault
 returns-in-NoValue c =
-    let b = c in
-    c.faultless.ensures ∙ by-line _ _ node.NoValue b.if-text-eq0.false (sym b.read_node.ensures ∙ c.in-NoValue.is)
+    c.faultless.ensures ∙ by-line _ _ node.NoValue c.if-text-eq0.false (sym c.read_node.ensures ∙ c.in-NoValue.is)
 
 pub returns-in-Parts : goal.returns-in-Parts
 returns-in-Parts c =
-    let b = c in
-    let r = c.in-Parts.given in
-    c.parts_fault.ensures ∙ by-line _ _ (node.Parts r.0.0) b.if-text-eq0.false (sym b.read_node.ensures ∙ r.1)
+    c.parts_fault.ensures ∙ by-line _ _ (node.Parts c.in-Parts.p) c.if-text-eq0.false (sym c.read_node.ensures ∙ c.in-Parts.is)

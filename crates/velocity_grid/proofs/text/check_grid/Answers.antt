@@ -13,24 +13,18 @@ pub returns-then-text-eq0 : goal.returns-then-text-eq0
 returns-then-text-eq0 c = ap Refused c.miscounted.ensures ∙ T.by-none _ c.if-text-eq0.true
 
 pub slice_bounds-read_grid_header-end : goal.slice_bounds-read_grid_header-end
-slice_bounds-read_grid_header-end c = sym (length-take-le _ _ (T.ends _ 0 _ c.line-end.ensures (omega arith)).inside)
+slice_bounds-read_grid_header-end c = sym (length-take-le _ _ (T.ends _ 0 _ c.line_end-end.ensures (omega arith)).inside)
 
 pub with_header-requires : goal.with_header-requires
-with_header-requires c = (T.ends _ 0 _ c.line-end.ensures (omega arith)).inside
+with_header-requires c = (T.ends _ 0 _ c.line_end-end.ensures (omega arith)).inside
 
 pub returns-in-Malformed : goal.returns-in-Malformed
 unfolding headed
 returns-in-Malformed c =
-    let r = c.before.before in
-    let l = r in
-    let f = c.in-Malformed.given in
     ap Refused c.on_line.ensures
-    ∙ T.by_first _ _ l.line-end.ensures (omega (arith, l.if1.false)) (header.Malformed f.0.0) (sym r.read_grid_header.ensures ∙ f.1)
+    ∙ T.by_first _ _ c.line_end-end.ensures (omega (arith, c.if-text-eq0.false)) (header.Malformed c.in-Malformed.fault) (sym c.read_grid_header.ensures ∙ c.in-Malformed.is)
 
 pub returns-in-Header : goal.returns-in-Header
 returns-in-Header c =
-    let r = c.before.before in
-    let l = r in
-    let g = c.in-Header.given in
     c.with_header.ensures
-    ∙ T.by_first _ _ l.line-end.ensures (omega (arith, l.if1.false)) (header.Header g.0.0) (sym r.read_grid_header.ensures ∙ g.1)
+    ∙ T.by_first _ _ c.line_end-end.ensures (omega (arith, c.if-text-eq0.false)) (header.Header c.in-Header.g) (sym c.read_grid_header.ensures ∙ c.in-Header.is)

@@ -14,6 +14,12 @@ loop-from-init c = T.filling _ _ _ c.requires.0 c.requires.1
 pub slice_bounds-put_node-count : goal.slice_bounds-put_node-count
 slice_bounds-put_node-count c = (T.ends _ _ _ c.line_end-end.ensures c.loop-from.invariant.inside).after
 
+pub slice_bounds-put_node-start : goal.slice_bounds-put_node-start
+slice_bounds-put_node-start c = let l = T.ends _ _ _ c.line_end-end.ensures c.loop-from.invariant.inside in omega arith
+
+pub slice_bounds-put_node-end : goal.slice_bounds-put_node-end
+slice_bounds-put_node-end c = let l = T.ends _ _ _ c.line_end-end.ensures c.loop-from.invariant.inside in omega arith
+
 pub put_node-requires : goal.put_node-requires
 put_node-requires c = T.fits c.loop-from.invariant c.line_end-end.ensures (omega (arith, c.loop-from-test.true))
 

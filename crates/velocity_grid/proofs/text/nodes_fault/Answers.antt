@@ -11,6 +11,12 @@ loop-left-init c = T.going _ _ _ c.requires.0
 pub slice_bounds-awaited_fault-count : goal.slice_bounds-awaited_fault-count
 slice_bounds-awaited_fault-count c = (T.ends _ _ _ c.line_end-end.ensures c.loop-left.invariant.inside).after
 
+pub slice_bounds-awaited_fault-start : goal.slice_bounds-awaited_fault-start
+slice_bounds-awaited_fault-start c = let l = T.ends _ _ _ c.line_end-end.ensures c.loop-left.invariant.inside in omega arith
+
+pub slice_bounds-awaited_fault-end : goal.slice_bounds-awaited_fault-end
+slice_bounds-awaited_fault-end c = let l = T.ends _ _ _ c.line_end-end.ensures c.loop-left.invariant.inside in omega arith
+
 pub returns-then-fault-ne0 : goal.returns-then-fault-ne0
 returns-then-fault-ne0 c = T.stops c.loop-left.invariant c.line_end-end.ensures (omega (arith, c.loop-left-test.true)) c.awaited_fault-fault.ensures c.if-fault-ne0.true
 

@@ -13,21 +13,15 @@ use Rattle.velocity_grid.proofs.text.read_grid.Goals as goal
 
 pub fill-requires : goal.fill-requires
 fill-requires c =
-    let r = c in
-    let g = c.in-Grid.given in
-    T.for-filling _ _ c.line_end-start.ensures g.0.0 (sym r.check_grid.ensures ∙ g.1)
+    T.for-filling _ _ c.line_end-start.ensures c.in-Grid.g (sym c.check_grid.ensures ∙ c.in-Grid.is)
 
 pub returns-in-Refused : goal.returns-in-Refused
 returns-in-Refused c =
-    let r = c in
-    let f = c.in-Refused.given in
-    let e = sym (sym r.check_grid.ensures ∙ f.1) in
-    (e, ap (λ (w : GridAnswer). room_after w (grid_numbers r.args.text.now) r.args.nodes.now) e)
+    let e = sym (sym c.check_grid.ensures ∙ c.in-Refused.is) in
+    (e, ap (λ (w : GridAnswer). room_after w (grid_numbers c.args.text.now) c.args.nodes.now) e)
 
 pub returns-in-Grid : goal.returns-in-Grid
 returns-in-Grid c =
-    let r = c in
-    let g = c.in-Grid.given in
-    let a = r.args in
-    let e = sym r.check_grid.ensures ∙ g.1 in
-    (sym e, c.fill.ensures ∙ ap (sets a.nodes.now 0) (sym (T.numbers_after _ _ c.line_end-start.ensures g.0.0 e)) ∙ ap (λ (w : GridAnswer). room_after w (grid_numbers a.text.now) a.nodes.now) (sym e))
+    let a = c.args in
+    let e = sym c.check_grid.ensures ∙ c.in-Grid.is in
+    (sym e, c.fill.ensures ∙ ap (sets a.nodes.now 0) (sym (T.numbers_after _ _ c.line_end-start.ensures c.in-Grid.g e)) ∙ ap (λ (w : GridAnswer). room_after w (grid_numbers a.text.now) a.nodes.now) (sym e))

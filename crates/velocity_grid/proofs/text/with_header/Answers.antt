@@ -67,13 +67,13 @@ module _ (c : TheAfterNodesFault) where
 pub returns-then-fault-ne0 : goal.returns-then-fault-ne0
 unfolding headed
 returns-then-fault-ne0 c =
-    let n = c.before.before in
+    let n = c.before.before.before in
     let g = (begun n).args.g in
     rw (in-range n) (refused n.nodes_fault-fault.result g c.if-fault-ne0.true ∙ ap (λ (f : GridFault). unless_grid_fault f g) (fault-is n))
 
 pub returns : goal.returns
 unfolding headed
 returns c =
-    let n = c.before.before in
+    let n = c.before.before.before in
     let g = (begun n).args.g in
     rw (in-range n) (given n.nodes_fault-fault.result g c.if-fault-ne0.false ∙ ap (λ (f : GridFault). unless_grid_fault f g) (fault-is n))

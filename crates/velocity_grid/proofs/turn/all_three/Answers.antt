@@ -16,10 +16,7 @@ returns-in-Refused-z c = rw (c.in-Whole.is, c.in-Whole-y.is, c.in-Refused-z.is)
 
 pub returns-in-Whole-z : goal.returns-in-Whole-z
 returns-in-Whole-z c =
-    let x = c.in-Whole.given in
-    let y = c.in-Whole-y.given in
-    let z = c.in-Whole-z.given in
-    let p : SFits w64 x.0.0 = search rules in
-    let q : SFits w64 y.0.0 = search rules in
-    let r : SFits w64 z.0.0 = search rules in
-    rw (x.1, y.1, z.1, to_z-of_z w64 x.0.0 p, to_z-of_z w64 y.0.0 q, to_z-of_z w64 z.0.0 r)
+    let p : SFits w64 c.in-Whole.vx = search rules in
+    let q : SFits w64 c.in-Whole-y.vy = search rules in
+    let r : SFits w64 c.in-Whole-z.vz = search rules in
+    rw (c.in-Whole.is, c.in-Whole-y.is, c.in-Whole-z.is, to_z-of_z w64 c.in-Whole.vx p, to_z-of_z w64 c.in-Whole-y.vy q, to_z-of_z w64 c.in-Whole-z.vz r)

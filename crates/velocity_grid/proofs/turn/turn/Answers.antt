@@ -46,28 +46,28 @@ module _ (c : TheStart) where
   same = to_z-of_z w64 c.args.longitude c.ranges.longitude
 
 pub int_to_float-latitude : goal.int_to_float-latitude
-int_to_float-latitude c = read_back c.args.latitude c.ranges.latitude (latitude c.before)
+int_to_float-latitude c = read_back c.args.latitude c.ranges.latitude (latitude c.before.before)
 
 pub overflow_sub-longitude : goal.overflow_sub-longitude
-overflow_sub-longitude c = rw (same c.before.before) (past_fits c.before.before)
+overflow_sub-longitude c = rw (same c.before.before.before) (past_fits c.before.before.before)
 
 pub int_to_float-longitude : goal.int_to_float-longitude
-int_to_float-longitude c = let a = c.before.before.before in rw (same a) (read_back _ (past_fits a) (past.past-float a.args.longitude a.requires.2))
+int_to_float-longitude c = let a = c.before.before.before.before in rw (same a) (read_back _ (past_fits a) (past.past-float a.args.longitude a.requires.2))
 
 abbrev start : TheAfterStructKnown → TheStart
 start c = c.before.before.before.before.before.before.before.before.before
 
 pub int_to_float-p : goal.int_to_float-p
-int_to_float-p c = let a = start c.before in read_back a.args.p.east (part-fits a.args.p.east a.requires.0.east) (part-float a.args.p.east a.requires.0.east)
+int_to_float-p c = let a = start c.before.before in read_back a.args.p.east (part-fits a.args.p.east a.requires.0.east) (part-float a.args.p.east a.requires.0.east)
 
 pub int_to_float-p-2 : goal.int_to_float-p-2
 int_to_float-p-2 c =
-    let a = start c.before.before.before in
+    let a = start c.before.before.before.before in
     read_back a.args.p.north (part-fits a.args.p.north a.requires.0.north) (part-float a.args.p.north a.requires.0.north)
 
 pub int_to_float-p-3 : goal.int_to_float-p-3
 int_to_float-p-3 c =
-    let a = start c.before.before.before.before.before in
+    let a = start c.before.before.before.before.before.before in
     read_back a.args.p.up (part-fits a.args.p.up a.requires.0.up) (part-float a.args.p.up a.requires.0.up)
 
 pub returns : goal.returns

@@ -23,8 +23,7 @@ below_zero-requires c = let y = c.twelve-v.ensures c.if-v.true in omega (arith, 
 
 pub overflow_add-result : goal.overflow_add-result
 overflow_add-result c =
-    let c4 = c in
-    omega (arith, c4.reaches.ensures c4.if-reaches.true)
+    omega (arith, c.reaches.ensures c.if-reaches.true)
 
 pub returns-then-v : goal.returns-then-v
 returns-then-v c =
@@ -32,9 +31,8 @@ returns-then-v c =
     let y = c.twelve-v.ensures c.if-v.true in
     let z = c.below_zero.result in
     let e : to_z w64 (of_z w64 z) ≡ z = search rules in
-    let c4 = c in
-    let r = c4.reaches.ensures c4.if-reaches.true in
+    let r = c.reaches.ensures c.if-reaches.true in
     let t = c.if-s-at-eq-TAB.true in
     rw (e, c.below_zero.ensures)
-    (K.minus-counted 12 1000000000000 _ (omega arith) c4.if-s-at-eq-MINUS.true y (K.tabbed (omega arith) t (omega arith) y)
+    (K.minus-counted 12 1000000000000 _ (omega arith) c.if-s-at-eq-MINUS.true y (K.tabbed (omega arith) t (omega arith) y)
     (omega arith) (omega arith) (omega arith))

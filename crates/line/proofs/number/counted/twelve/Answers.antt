@@ -13,19 +13,17 @@ eight-v-requires c =
 
 pub last_four-requires : goal.last_four-requires
 last_four-requires c =
-    let c1 = c in
-    let a = c1.other_eight in
-    let b = c1.other_eight-2 in
-    F.small (F.spelt c1.word-e.ensures (b.ensures (L.or_right a.result b.result c1.if-other_eight.false)))
+    let a = c.other_eight in
+    let b = c.other_eight-2 in
+    F.small (F.spelt c.word-e.ensures (b.ensures (L.or_right a.result b.result c.if-other_eight.false)))
 
 pub returns : goal.returns
 returns c =
     λ e. (
-    let c2 = c in
-    let a = c2.other_eight in
-    let b = c2.other_eight-2 in
-    let y = F.spelt c2.word-d.ensures (a.ensures (L.or_left a.result b.result c2.if-other_eight.false)) in
-    let z = F.spelt c2.word-e.ensures (b.ensures (L.or_right a.result b.result c2.if-other_eight.false)) in
+    let a = c.other_eight in
+    let b = c.other_eight-2 in
+    let y = F.spelt c.word-d.ensures (a.ensures (L.or_left a.result b.result c.if-other_eight.false)) in
+    let z = F.spelt c.word-e.ensures (b.ensures (L.or_right a.result b.result c.if-other_eight.false)) in
     let v = c.eight-v in
     let p = c.requires in
     let l : 10000000 ≤ v.result = leb-true _ _ e in

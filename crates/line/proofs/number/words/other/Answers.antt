@@ -10,4 +10,4 @@ returns c =
     λ e. (
     let g = c.args in
     let n = W.none-set (bit_and g.d g.mask) (bit_and c.wrapping_add_u64.result g.mask) (eqb-true _ _ (not-false _ e)) in
-    record { plain = n.0; raised = ap (λ (r : ℕ). bit_and r g.mask) (sym c.wrapping_add_u64.ensures) ∙ n.1 })
+    record { plain = n.0; raised = ap (λ (r : ℕ). bit_and r g.mask) (sym c.wrapping_add_u64.ensures.value) ∙ n.1 })

@@ -21,12 +21,10 @@ refusal_of_five-place-requires c =
 pub loop-left-preserved : goal.loop-left-preserved
 loop-left-preserved c =
     let call = c.refusal_of_five-place in
-    let c4 = c.before.before.before.before in
-    let k = c4.loop-left in
-    let t = c4.loop-left-test.true in
-    let s = c4 in
-    let on = ten-on s.args.line s.args.lines k.left k.last s.requires.0 s.requires.1 s.requires.2 t k.invariant.0 k.invariant.1 in
-    (omega (arith, k.invariant.0), omega (arith, k.invariant.0, k.invariant.1, t), call.auto.0 ∙ k.invariant.2, omega (arith, k.invariant.0, t, call.ensures.most, k.invariant.3), λ m r g. k.invariant.4 m r (T.says (T.«then» call.ensures.wrote g) on))
+    let k = c.loop-left in
+    let t = c.loop-left-test.true in
+    let on = ten-on c.args.line c.args.lines k.left k.last c.requires.0 c.requires.1 c.requires.2 t k.invariant.0 k.invariant.1 in
+    (omega (arith, k.invariant.0), omega (arith, k.invariant.0, k.invariant.1, t), call.auto.out ∙ k.invariant.2, omega (arith, k.invariant.0, t, call.ensures.most, k.invariant.3), λ m r g. k.invariant.4 m r (T.says (T.«then» call.ensures.wrote g) on))
 
 pub shape_of-out : goal.shape_of-out
 shape_of-out c = c.loop-left.invariant.2

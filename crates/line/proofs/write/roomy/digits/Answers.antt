@@ -6,4 +6,4 @@ use Rattle.line.proofs.write.roomy.up_to_eight.Reads as up-to-eight-reads
 use Rattle.line.proofs.write.roomy.digits.Goals as goal
 
 pub returns : goal.returns
-returns c = let s = c in record { wrote = c.natural.ensures; most = omega (arith, c.natural.ensures.place, length-decimal 19 s.args.n (omega (arith, s.ranges.n.ranges))) }
+returns c = let s = c in record { wrote = c.natural.ensures; most = omega (arith, c.natural.ensures.place, length-decimal 19 s.args.n (omega (arith, s.ranges.n.fits))) }

@@ -6,6 +6,4 @@ use Rattle.line.proofs.write.roomy.moved.Goals as goal
 
 pub returns : goal.returns
 returns c =
-    let c6 = c.before.before.before.before.before.before in
-    let s = c6 in
-    T.named 110 (T.after c6.realization-a.ensures c.position.ensures) (omega arith) (M.moved-put s.args.r s.args.p)
+    T.named 110 (T.after c.realization-a.ensures c.position.ensures) (omega arith) (M.moved-put c.args.r c.args.p)

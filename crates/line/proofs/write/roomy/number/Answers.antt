@@ -5,10 +5,6 @@ use Rattle.line.proofs.write.roomy.number.Goals as goal
 
 pub returns : goal.returns
 returns c =
-    let c2 = c.before.before in
-    let c6 = c2.before.before.before.before in
-    let c7 = c6.before in
-    let c11 = c7 in
-    let z = c11.args.z in
-    let e : to_z w64 (of_z w64 z) ≡ z = to_z-of_z c11.ranges.z in
-    T.named 22 (T.after (rw e at c11.sign-a.ensures) (T.after c6.mostly_one-b.ensures c2.put.ensures)) (omega arith) (T.sign-then-digits z _ _ (rw e at c7.size.ensures))
+    let z = c.args.z in
+    let e : to_z w64 (of_z w64 z) ≡ z = to_z-of_z c.ranges.z in
+    T.named 22 (T.after (rw e at c.sign-a.ensures) (T.after c.mostly_one-b.ensures c.put.ensures)) (omega arith) (T.sign-then-digits z _ _ (rw e at c.size.ensures))

@@ -8,7 +8,5 @@ use Rattle.line.proofs.write.roomy.point.Goals as goal
 pub returns : goal.returns
 unfolding label_text
 returns c =
-    let c8 = c.before.before.before.before.before.before.before.before in
-    let s = c8 in
-    T.named 173 (T.after c8.letter-a.ensures (T.after c8.label-b.ensures c.moved.ensures)) (omega arith)
-    (M.labelled s.args.p.label s.args.p.realization s.args.p.position)
+    T.named 173 (T.after c.letter-a.ensures (T.after c.label-b.ensures c.moved.ensures)) (omega arith)
+    (M.labelled c.args.p.label c.args.p.realization c.args.p.position)

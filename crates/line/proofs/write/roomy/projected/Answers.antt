@@ -5,10 +5,6 @@ use Rattle.line.proofs.write.roomy.projected.Goals as goal
 
 pub returns : goal.returns
 returns c =
-    let c2 = c.before.before in
-    let c6 = c2.before.before.before.before in
-    let c10 = c6.before.before.before.before in
-    let s = c10 in
-    let e : to_z w64 (of_z w64 s.args.e) ≡ s.args.e = to_z-of_z s.ranges.e in
-    let f : to_z w64 (of_z w64 s.args.n) ≡ s.args.n = to_z-of_z s.ranges.n in
-    T.named 63 (T.after c10.letter-a.ensures (T.after c6.name-b.ensures c2.two_numbers.ensures)) (omega arith) (rw (e, f) (T.projected-is _ _ _))
+    let e : to_z w64 (of_z w64 c.args.e) ≡ c.args.e = to_z-of_z c.ranges.e in
+    let f : to_z w64 (of_z w64 c.args.n) ≡ c.args.n = to_z-of_z c.ranges.n in
+    T.named 63 (T.after c.letter-a.ensures (T.after c.name-b.ensures c.two_numbers.ensures)) (omega arith) (rw (e, f) (T.projected-is _ _ _))

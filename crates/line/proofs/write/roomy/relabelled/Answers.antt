@@ -14,6 +14,4 @@ moved-requires c = omega (arith, c.requires.1.few)
 
 pub returns : goal.returns
 returns c =
-    let c6 = c.before.before.before.before.before.before in
-    let s = c6 in
-    M.relabel s.args.line.now s.args.p s.args.r s.requires.1 s.requires.0 c6.copied.ensures c.moved.ensures
+    M.relabel c.args.line.now c.args.p c.args.r c.requires.1 c.requires.0 c.copied.ensures c.moved.ensures

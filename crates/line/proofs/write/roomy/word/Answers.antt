@@ -9,11 +9,8 @@ loop-left-init c = (omega arith, refl, omega arith, λ m r g. g)
 
 pub loop-left-preserved : goal.loop-left-preserved
 loop-left-preserved c =
-    let c2 = c.before.before in
-    let c4 = c2.before.before in
-    let c6 = c4 in
-    let k = c6.loop-left in
-    (omega arith, c2.put-p.auto.0 ∙ k.invariant.1, omega (arith, c2.put-p.ensures.most, k.invariant.2), λ m r g. k.invariant.3 m r (T.as-text (sym (T.letters-on k.left k.v (omega arith) c4.if-b-eq0.false)) (T.«then» c2.put-p.ensures.wrote g)))
+    let k = c.loop-left in
+    (omega arith, c.put-p.auto.out ∙ k.invariant.1, omega (arith, c.put-p.ensures.most, k.invariant.2), λ m r g. k.invariant.3 m r (T.as-text (sym (T.letters-on k.left k.v (omega arith) c.if-b-eq0.false)) (T.«then» c.put-p.ensures.wrote g)))
 
 pub shape_of-out-after-loop-left : goal.shape_of-out-after-loop-left
 shape_of-out-after-loop-left c = c.loop-left.invariant.1

@@ -36,4 +36,4 @@ pub put_half-requires : goal.put_half-requires
 put_half-requires c = c.requires.1
 
 pub shape_of-out : goal.shape_of-out
-shape_of-out c = c.put_half.auto.0
+shape_of-out c = c.put_half.auto.out

@@ -3,7 +3,6 @@ use mathlib.Core.Path.{◌≡◌, sym, ap, ◌∙◌}
 use mathlib.Core.Bool.{true}
 use mir.Syntax.{w64}
 use mir.Val.{to_z, of_z}
-use borrow.Author.Tests.{not-true, not-false}
 use Rattle.refusal.proofs.Orders.{unless-none, unless-some}
 use Rattle.chain.specs.Faults.{profile_fault}
 use Rattle.lot_plan.specs.declared.Read.TheVariants.{Refused}
@@ -27,13 +26,13 @@ year : (s : TheStart) → to_z w64 (of_z w64 s.args.year) ≡ s.args.year
 year s = search rules
 
 on-first : (c : TheElse1) → c.args.first ≡ true
-on-first c = not-false c.args.first c.if-not-first.false
+on-first c = c.if-not-first.false
 
 fault : (c : TheAfterProfileFault) → c.profile_fault-number.result ≡ profile_fault c.args.year
 fault c = rw (year c.before.before) at c.profile_fault-number.ensures
 
 pub returns-then-not-first : goal.returns-then-not-first
-returns-then-not-first c = rw (not-true c.args.first c.if-not-first.true)
+returns-then-not-first c = rw c.if-not-first.true
 
 pub returns-then-number-ne0 : goal.returns-then-number-ne0
 returns-then-number-ne0 c =

@@ -16,6 +16,12 @@ loop-from-init c = begins _ _ c.requires
 pub slice_bounds-take_line-count : goal.slice_bounds-take_line-count
 slice_bounds-take_line-count c = let l = piece _ _ _ c.line_end-end.ensures (omega arith) in omega arith
 
+pub slice_bounds-take_line-start : goal.slice_bounds-take_line-start
+slice_bounds-take_line-start c = let l = piece _ _ _ c.line_end-end.ensures (omega arith) in omega arith
+
+pub slice_bounds-take_line-end : goal.slice_bounds-take_line-end
+slice_bounds-take_line-end c = let l = piece _ _ _ c.line_end-end.ensures (omega arith) in omega arith
+
 pub take_line-requires : goal.take_line-requires
 take_line-requires c = let l = piece _ _ _ c.line_end-end.ensures (omega arith) in omega (arith, l.some, l.size)
 

@@ -8,23 +8,14 @@ use Rattle.line.specs.Bytes.{letter_s, letter_e}
 use Rattle.lot_plan.specs.declared.Read.TheVariants.{Refused}
 use Rattle.lot_plan.specs.LotPlan.{with_line}
 use borrow.Author.Rules.{rules}
-use Rattle.lot_plan.proofs.chain_text.take_line.Tie as tie
-use Rattle.lot_plan.proofs.chain_text.take_line.Lts as lts
-use Rattle.lot_plan.proofs.chain_text.take_line.Reads as reads
 use Rattle.lot_plan.proofs.chain_text.take_line.Goals as goal
-
-abbrev TheStart : Type 0
-TheStart = lts.Start tie.the-claims reads.Pre reads.Post
-
--- the profile, as the machine reads it
-profile : (s : TheStart) → to_z w64 (of_z w64 s.args.profile) ≡ s.args.profile
-profile s = search rules
 
 pub returns-then-letter-eq83 : goal.returns-then-letter-eq83
 unfolding with_line
 returns-then-letter-eq83 c =
     λ ss none h.
-    let t = rw (profile c.before.before.before.before.before) at c.take_step.ensures in
+    let p : to_z w64 (of_z w64 c.args.profile) ≡ c.args.profile = search rules in
+    let t = rw p at c.take_step.ensures in
     rw (eq-eqb _ letter_s c.if-letter-eq83.true) (t ss h)
 
 pub returns-then-letter-eq69 : goal.returns-then-letter-eq69

@@ -1,42 +1,24 @@
 -- `lot_plan::chain_text::lot::lay` meets its contract. Assumes nothing.
 use mathlib.Core.Path.{◌≡◌, sym, ◌∙◌}
+use lib.IntN.{ℤ}
 use mir.Syntax.{w64}
 use mir.Val.{to_z, of_z}
 use Rattle.angle.specs.declared.ProjectedMillimetres.{ProjectedMillimetres}
+use Rattle.angle.specs.declared.OriginNumbers.{OriginNumbers}
 use Rattle.angle.specs.Cassini.{cassini_millimetres_of}
 use borrow.Author.Rules.{rules}
-use Rattle.lot_plan.proofs.chain_text.lot.lay.Tie as tie
-use Rattle.lot_plan.proofs.chain_text.lot.lay.Lts as lts
-use Rattle.lot_plan.proofs.chain_text.lot.lay.Reads as reads
 use Rattle.lot_plan.proofs.chain_text.lot.lay.Goals as goal
 
-abbrev TheAfterCassiniMillimetres : Type 0
-TheAfterCassiniMillimetres = lts.After-cassini_millimetres tie.the-claims reads.Pre reads.Post
-
-abbrev TheStart : Type 0
-TheStart = lts.Start tie.the-claims reads.Pre reads.Post
-
--- the angles, as the machine reads them
-module _ (s : TheStart) where
-  latitude : to_z w64 (of_z w64 s.args.latitude) ≡ s.args.latitude
-  latitude = search rules
-
-  longitude : to_z w64 (of_z w64 s.args.longitude) ≡ s.args.longitude
-  longitude = search rules
-
--- the grid's answer, by its definition
-abbrev asked : TheStart → ProjectedMillimetres
-asked s = cassini_millimetres_of s.args.o s.args.latitude s.args.longitude
-
-said : (c : TheAfterCassiniMillimetres) → asked c.before ≡ c.cassini_millimetres.result
-said c = sym (rw (latitude c.before, longitude c.before) at c.cassini_millimetres.ensures)
+-- the grid's answer, by its definition, of the angles as the machine reads them
+said : (o : OriginNumbers) (a b : ℤ) (r : ProjectedMillimetres) → to_z w64 (of_z w64 a) ≡ a → to_z w64 (of_z w64 b) ≡ b
+    → r ≡ cassini_millimetres_of o (to_z w64 (of_z w64 a)) (to_z w64 (of_z w64 b)) → cassini_millimetres_of o a b ≡ r
+said o a b r p q h = sym (rw (p, q) at h)
 
 pub returns-in-Refused : goal.returns-in-Refused
-returns-in-Refused c = rw (said c.before ∙ c.in-Refused.is)
+returns-in-Refused c = rw (said c.args.o c.args.latitude c.args.longitude c.cassini_millimetres.result (search rules) (search rules) c.cassini_millimetres.ensures ∙ c.in-Refused.is)
 
 pub returns-in-Millimetres : goal.returns-in-Millimetres
 returns-in-Millimetres c =
-    let g = c.in-Millimetres.given in
-    let e : to_z w64 (of_z w64 g.0.0) ≡ g.0.0 = search rules in
-    let n : to_z w64 (of_z w64 g.0.1.0) ≡ g.0.1.0 = search rules in
-    rw (e, n, said c.before ∙ g.1)
+    let e : to_z w64 (of_z w64 c.in-Millimetres.e) ≡ c.in-Millimetres.e = search rules in
+    let n : to_z w64 (of_z w64 c.in-Millimetres.n) ≡ c.in-Millimetres.n = search rules in
+    rw (e, n, said c.args.o c.args.latitude c.args.longitude c.cassini_millimetres.result (search rules) (search rules) c.cassini_millimetres.ensures ∙ c.in-Millimetres.is)

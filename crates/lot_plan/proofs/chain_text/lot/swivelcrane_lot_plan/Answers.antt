@@ -5,30 +5,7 @@ use mir.Syntax.{w64}
 use mir.Val.{to_z, of_z}
 use Rattle.lot_plan.specs.LotPlan.{least, lot_plan_of}
 use borrow.Author.Rules.{rules}
-use Rattle.lot_plan.proofs.chain_text.lot.swivelcrane_lot_plan.Tie as tie
-use Rattle.lot_plan.proofs.chain_text.lot.swivelcrane_lot_plan.Lts as lts
-use Rattle.lot_plan.proofs.chain_text.lot.swivelcrane_lot_plan.Reads as reads
 use Rattle.lot_plan.proofs.chain_text.lot.swivelcrane_lot_plan.Goals as goal
-
-abbrev TheStart : Type 0
-TheStart = lts.Start tie.the-claims reads.Pre reads.Post
-
--- the origin's numbers, as the machine reads them
-module _ (s : TheStart) where
-  ellipsoid : to_z w64 (of_z w64 s.args.ellipsoid) ≡ s.args.ellipsoid
-  ellipsoid = search rules
-
-  latitude : to_z w64 (of_z w64 s.args.origin-latitude) ≡ s.args.origin-latitude
-  latitude = search rules
-
-  longitude : to_z w64 (of_z w64 s.args.origin-longitude) ≡ s.args.origin-longitude
-  longitude = search rules
-
-  easting : to_z w64 (of_z w64 s.args.false-easting) ≡ s.args.false-easting
-  easting = search rules
-
-  northing : to_z w64 (of_z w64 s.args.false-northing) ≡ s.args.false-northing
-  northing = search rules
 
 pub returns-then-out-lt-ROOM : goal.returns-then-out-lt-ROOM
 unfolding lot_plan_of
@@ -39,7 +16,11 @@ returns-then-out-lt-ROOM c =
 pub returns : goal.returns
 unfolding lot_plan_of
 returns c =
-    let s = c.before.before.before.before.before.before.before.before.before in
+    let ellipsoid : to_z w64 (of_z w64 c.args.ellipsoid) ≡ c.args.ellipsoid = search rules in
+    let latitude : to_z w64 (of_z w64 c.args.origin_latitude) ≡ c.args.origin_latitude = search rules in
+    let longitude : to_z w64 (of_z w64 c.args.origin_longitude) ≡ c.args.origin_longitude = search rules in
+    let easting : to_z w64 (of_z w64 c.args.false_easting) ≡ c.args.false_easting = search rules in
+    let northing : to_z w64 (of_z w64 c.args.false_northing) ≡ c.args.false_northing = search rules in
     let r : to_z w64 (of_z w64 c.write.result) ≡ c.write.result = search rules in
-    let l = rw (ellipsoid s, latitude s, longitude s, easting s, northing s) at c.lot_of-lot.ensures in
+    let l = rw (ellipsoid, latitude, longitude, easting, northing) at c.lot_of-lot.ensures in
     rw (le-leb least _ c.if-out-lt-ROOM.false, r, ← l) c.write.ensures

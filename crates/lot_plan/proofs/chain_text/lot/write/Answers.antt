@@ -13,8 +13,7 @@ returns-in-Refused c =
 
 pub returns-in-Laid : goal.returns-in-Laid
 returns-in-Laid c =
-    let g = c.in-Laid.given in
-    let e : to_z w64 (of_z w64 g.0.1.0) ≡ g.0.1.0 = search rules in
-    let n : to_z w64 (of_z w64 g.0.1.1.0) ≡ g.0.1.1.0 = search rules in
+    let e : to_z w64 (of_z w64 c.in-Laid.e) ≡ c.in-Laid.e = search rules in
+    let n : to_z w64 (of_z w64 c.in-Laid.n) ≡ c.in-Laid.n = search rules in
     let w = rw (e, n) at c.write_lot.ensures in
-    rw g.1 (drawn _ _ _ (search rules) (search rules) (search rules) (search rules) c.requires w)
+    rw c.in-Laid.is (drawn _ _ _ (search rules) (search rules) (search rules) (search rules) c.requires w)

@@ -12,7 +12,6 @@ use Rattle.plan_rules.specs.Plan.{Plan, fresh, rules, plan_of}
 use Rattle.plan_rules.specs.State.{Holds}
 use Rattle.plan_rules.proofs.Room.{roomy}
 use Rattle.plan_rules.proofs.BareLines.{bare, hold-feeds}
-use borrow.Author.Rules.{rules}
 use Rattle.plan_rules.proofs.decide.whole.plan.Goals as goal
 
 pub returns-then-input-gt-LONGEST_INPUT : goal.returns-then-input-gt-LONGEST_INPUT
@@ -36,6 +35,12 @@ loop-from-preserved-then-input-from-eq-LINE_FEED c = goes-past rules _ fresh ref
 
 pub slice_bounds-decide-count : goal.slice_bounds-decide-count
 slice_bounds-decide-count c = let l = piece _ _ _ c.line_end-end.ensures (omega arith) in omega arith
+
+pub slice_bounds-decide-start : goal.slice_bounds-decide-start
+slice_bounds-decide-start c = let l = piece _ _ _ c.line_end-end.ensures (omega arith) in omega arith
+
+pub slice_bounds-decide-end : goal.slice_bounds-decide-end
+slice_bounds-decide-end c = let l = piece _ _ _ c.line_end-end.ensures (omega arith) in omega arith
 
 pub decide-decided-requires : goal.decide-decided-requires
 decide-decided-requires c = let l = piece _ _ _ c.line_end-end.ensures (omega arith) in let k = c.loop-from.invariant in (omega (arith, k.counted, k.held.line, k.inside, c.if-input-gt-LONGEST_INPUT.false), omega (arith, l.some, l.size))

@@ -11,7 +11,6 @@ use Rattle.plan_rules.specs.Plan.{Plan, fresh, rules, plan_of}
 use Rattle.plan_rules.specs.State.{Holds}
 use Rattle.plan_rules.proofs.Room.{roomy}
 use Rattle.plan_rules.proofs.BareLines.{bare, hold-feeds}
-use borrow.Author.Rules.{rules}
 use Rattle.plan_rules.proofs.decide.whole.plan.Given as goal
 
 abbrev pub invariant-loop-from : goal.invariant-loop-from

@@ -3,7 +3,8 @@ use Prim.Native.Nat.{ℕ}
 use mathlib.Core.Path.{◌≡◌}
 use mathlib.Core.List.{List}
 use lib.IntN.{ℤ}
-use Rattle.rounding.proofs.Machine.{told}
+use mir.Syntax.{w64}
+use mir.Val.{to_z, of_z}
 use Rattle.chain.specs.declared.Id.{Id}
 use Rattle.line.specs.Text.{Wrote, projected_text}
 use Rattle.line.proofs.Texts.{nothing}
@@ -18,7 +19,10 @@ pub returns-in-Nothing : goal.returns-in-Nothing
 returns-in-Nothing c = rw c.in-Nothing.is (nothing _ _)
 
 pub returns-in-Projected : goal.returns-in-Projected
-returns-in-Projected c = let k = c.in-Projected.given in rw c.in-Projected.is (read-text _ (told k.1.0.1) (told k.1.1.0.1) c.write_projected.ensures)
+returns-in-Projected c =
+    let x : to_z w64 (of_z w64 c.in-Projected.easting) ≡ c.in-Projected.easting = search rules in
+    let y : to_z w64 (of_z w64 c.in-Projected.northing) ≡ c.in-Projected.northing = search rules in
+    rw c.in-Projected.is (read-text _ x y c.write_projected.ensures)
 
 pub returns-in-Refused : goal.returns-in-Refused
 returns-in-Refused c = rw c.in-Refused.is c.write_refusal.ensures

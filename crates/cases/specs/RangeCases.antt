@@ -16,10 +16,10 @@ pub record RangeCase : Type 0 where
   pub found : ℕ
   pub wanted : ℕ
 
-abbrev by : ℕ → ℕ → RangeCase
+abbrev pub by : ℕ → ℕ → RangeCase
 by f w = record { found = f; wanted = w }
 
-abbrev fine : ℕ
+abbrev pub fine : ℕ
 fine = 0
 
 -- ---- a point: issue, order, datum, epoch, coordinates

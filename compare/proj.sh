@@ -3,7 +3,7 @@
 # looks up by their codes; Cassini-Soldner; geodetic to Cartesian. Prints the largest differences, and ends with 1 where one is
 # over 0.000001 m. It is no part of the gate, which needs nothing but the toolchain.
 #
-# The product comes from target/staticlib/libcapi.a (`rt staticlib capi`).
+# The product comes from target/staticlib/libcapi.a (`bash tools/build capi`).
 set -euo pipefail
 here=$(cd "$(dirname "$0")" && pwd)
 root=$(cd "$here/.." && pwd)

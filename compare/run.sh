@@ -5,8 +5,8 @@
 #   long    the full comparison, then the wrong programs that it must find
 #   bench   times of the product beside the baseline's
 #
-# The product comes from target/staticlib/libcapi.a and liblot_plan.a (`rt staticlib capi`, `rt staticlib lot_plan`) and
-# target/bin/sheet and plan.
+# The product comes from target/staticlib/libcapi.a and liblot_plan.a and target/bin/sheet and
+# plan (`bash tools/build`).
 # --standin puts the baseline behind the same interface, to try all this without the product.
 set -euo pipefail
 here=$(cd "$(dirname "$0")" && pwd)

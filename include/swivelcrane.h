@@ -1,5 +1,5 @@
 /* Swivelcrane for C: datum steps, geodetic to Cartesian, Cassini grids, RSO, exact rounding, the later of two point lines,
- * and whole sheets and plans. Link with target/staticlib/libcapi.a, which `rt staticlib capi` proves and builds.
+ * and whole sheets and plans. Link with target/staticlib/libcapi.a, which `bash tools/build capi` proves and builds.
  *
  * Units. Cartesian coordinates and heights: whole units of 0.00001 m. Latitudes and longitudes: whole units of 0.00001".
  * Epochs: thousandths of a year, 0 for none. Rotations: 0.00001". Scale: 10^-11. False eastings and northings: mm.

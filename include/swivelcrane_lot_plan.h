@@ -1,5 +1,5 @@
 /* The lot plan for the job tracker: one function, with a library of its own. Link with target/staticlib/liblot_plan.a, which
- * `rt staticlib lot_plan` proves and builds. It may stand beside swivelcrane.h and its library in one program.
+ * `bash tools/build lot_plan` proves and builds. It may stand beside swivelcrane.h and its library in one program.
  *
  * Units: angles 0.00001", false easting and northing mm. The refusal numbers are those of swivelcrane.h; README.md says of each what to do. */
 #ifndef SWIVELCRANE_LOT_PLAN_H

@@ -1,4 +1,4 @@
-//! With the feature `product`, links the product's static libraries: `rt staticlib capi` and `rt staticlib lot_plan` write them
+//! With the feature `product`, links the product's static libraries: `bash tools/build capi lot_plan` writes them
 //! to target/staticlib of the repository. SWIVELCRANE_LIB names another folder that holds libcapi.a and liblot_plan.a.
 
 use std::env;
@@ -16,7 +16,7 @@ fn main() {
     println!("cargo:rustc-link-search=native={}", folder.display());
     for library in ["capi", "lot_plan"] {
         let archive = folder.join(format!("lib{library}.a"));
-        assert!(archive.exists(), "{} is missing: run `rt staticlib {library}`", archive.display());
+        assert!(archive.exists(), "{} is missing: run `bash tools/build {library}`", archive.display());
         println!("cargo:rerun-if-changed={}", archive.display());
         println!("cargo:rustc-link-lib=static={library}");
     }

@@ -3,15 +3,15 @@
 #![tactic(auto)]
 
 use angle::{CartesianUnits, OriginNumbers, Projected, ProjectedMillimetres};
-use libc::STDOUT_FILENO;
 use rounding::Rounded;
+use std::io;
 
-fn says(what: &[u8], ok: bool) {
-    io::write_all(STDOUT_FILENO, what);
+fn says(rt: &impl Print, what: &[u8], ok: bool) -> io::Result<()> {
+    rt.write_all(what)?;
     if ok {
-        io::write_all(STDOUT_FILENO, b": yes\n");
+        rt.write_all(b": yes\n")
     } else {
-        io::write_all(STDOUT_FILENO, b": no\n");
+        rt.write_all(b": no\n")
     }
 }
 
@@ -31,22 +31,25 @@ fn prints(x: f64, decimals: i64) -> bool {
 }
 
 // N 6 27' 00.56909", E 100 16' 47.05076", height 18.078 m. The coordinates are in units of 0.00001 m.
-fn position() {
+fn position(rt: &impl Print) -> io::Result<()> {
     match angle::cartesian_units(1, 2322056909, 36100705076, 1807800) {
-        CartesianUnits::Refused(_) => says(b"a position", false),
+        CartesianUnits::Refused(_) => says(rt, b"a position", false),
         CartesianUnits::Units(x, y, z) => {
             says(
+                rt,
                 b"X -1131051.654 within 1 mm",
                 between(-113105165500, x, -113105165300),
-            );
+            )?;
             says(
+                rt,
                 b"Y 6236311.800 within 1 mm",
                 between(623631179900, y, 623631180100),
-            );
+            )?;
             says(
+                rt,
                 b"Z 711748.112 within 1 mm",
                 between(71174811100, z, 71174811300),
-            );
+            )
         }
     }
 }
@@ -94,26 +97,30 @@ fn lies_in_millimetres(
     }
 }
 
-fn main() {
-    position();
+fn main(rt: HostRuntime) -> io::Result<()> {
+    position(&rt)?;
     // N 6 08' 22.98682", E 100 23' 06.56827", from the origin in GDM2000 (2009)
     let first = origin(2147281981, 36229093028);
     says(
+        &rt,
         b"E -27805.4141 N 19364.3084",
         lies(first, 2210298682, 36138656827, -278054141, 193643084),
-    );
+    )?;
     says(
+        &rt,
         b"E -27805.414 N 19364.308",
         lies_in_millimetres(first, 2210298682, 36138656827, -27805414, 19364308),
-    );
+    )?;
     // N 6 08' 22.98892", E 100 23' 06.57684", from the origin in GDM2000
     let second = origin(2147282155, 36229093860);
     says(
+        &rt,
         b"E -27805.4063 N 19364.3195",
         lies(second, 2210298892, 36138657684, -278054063, 193643195),
-    );
+    )?;
     says(
+        &rt,
         b"E -27805.406 N 19364.319",
         lies_in_millimetres(second, 2210298892, 36138657684, -27805406, 19364319),
-    );
+    )
 }

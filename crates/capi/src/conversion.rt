@@ -66,13 +66,7 @@ fn give(answer: Answer, out: &mut [i64]) -> i64
 }
 
 // A point forward by a chain of a profile, 2009 or 2021 (document 01: along).
-#[unsafe(no_mangle)]
-pub extern "C" fn swivelcrane_forward(
-    profile: i64,
-    chain: &[i64],
-    point: &[i64],
-    out: &mut [i64],
-) -> i64
+pub fn swivelcrane_forward(profile: i64, chain: &[i64], point: &[i64], out: &mut [i64]) -> i64
     ensures { Returns (forward_call profile chain.now point.now out.old) out.old out.new result }
 {
     if !are_sized(chain.len(), point.len(), out.len()) {
@@ -82,13 +76,7 @@ pub extern "C" fn swivelcrane_forward(
 }
 
 // A point inverse by a chain of a profile, 2009 or 2021 (document 01: back).
-#[unsafe(no_mangle)]
-pub extern "C" fn swivelcrane_inverse(
-    profile: i64,
-    chain: &[i64],
-    point: &[i64],
-    out: &mut [i64],
-) -> i64
+pub fn swivelcrane_inverse(profile: i64, chain: &[i64], point: &[i64], out: &mut [i64]) -> i64
     ensures { Returns (inverse_call profile chain.now point.now out.old) out.old out.new result }
 {
     if !are_sized(chain.len(), point.len(), out.len()) {

@@ -133,8 +133,7 @@ fn feed_line(
 }
 
 // The bytes of a fragment up to and with its first line feed, or all of them, and what the line prints that they end.
-#[unsafe(no_mangle)]
-pub extern "C" fn swivelcrane_feed(
+pub fn swivelcrane_feed(
     numbers: &mut [i64],
     bytes: &mut [u8],
     fragment: &[u8],
@@ -157,8 +156,7 @@ pub extern "C" fn swivelcrane_feed(
 }
 
 // The end of the sheet, and what a line prints that is left open.
-#[unsafe(no_mangle)]
-pub extern "C" fn swivelcrane_finish(numbers: &mut [i64], bytes: &mut [u8], out: &mut [u8]) -> i64
+pub fn swivelcrane_finish(numbers: &mut [i64], bytes: &mut [u8], out: &mut [u8]) -> i64
     ensures { Ended numbers.old numbers.new bytes.old bytes.new out.old out.new result }
 {
     if !are_sized(numbers.len(), bytes.len(), out.len()) {

@@ -40,8 +40,7 @@ fn give_units(answer: CartesianUnits, out: &mut [i64]) -> i64
 }
 
 // X, Y and Z in metres.
-#[unsafe(no_mangle)]
-pub extern "C" fn swivelcrane_cartesian(
+pub fn swivelcrane_cartesian(
     ellipsoid: i64,
     latitude: i64,
     longitude: i64,
@@ -60,8 +59,7 @@ pub extern "C" fn swivelcrane_cartesian(
 }
 
 // X, Y and Z in whole units of 0.00001 m.
-#[unsafe(no_mangle)]
-pub extern "C" fn swivelcrane_cartesian_units(
+pub fn swivelcrane_cartesian_units(
     ellipsoid: i64,
     latitude: i64,
     longitude: i64,

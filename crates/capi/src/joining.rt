@@ -35,8 +35,7 @@ pub(crate) fn copy(from: &[i64], out: &mut [i64], at: usize)
 }
 
 // The steps of the first chain and then of the second, at the start of `out`. The answer is the count of their numbers, or minus the refusal, or NO_ROOM.
-#[unsafe(no_mangle)]
-pub extern "C" fn swivelcrane_join(
+pub fn swivelcrane_join(
     first_profile: i64,
     first: &[i64],
     second_profile: i64,

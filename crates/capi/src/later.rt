@@ -26,8 +26,7 @@ fn give(verdict: Verdict, which: &mut [i64]) -> i64
 }
 
 // 1 where the first of two lent point lines is the later one, 2 where the second is.
-#[unsafe(no_mangle)]
-pub extern "C" fn swivelcrane_later(first: &[u8], second: &[u8], which: &mut [i64]) -> i64
+pub fn swivelcrane_later(first: &[u8], second: &[u8], which: &mut [i64]) -> i64
     ensures { Returns (later_call first.now second.now which.old) which.old which.new result }
 {
     if which.len() != 1 {
@@ -52,8 +51,7 @@ fn give_fault(fault: LaterFault, out: &mut [i64]) -> i64
 
 // Why neither of two lent point lines is the later one: the refusal number, the line it is given for (1, 2, or 0 where neither alone is at fault) and the byte in
 // that line, from 0 (0 but for a line of bad form). Three zeros where one of them is the later. Nothing is refused here.
-#[unsafe(no_mangle)]
-pub extern "C" fn swivelcrane_later_fault(first: &[u8], second: &[u8], out: &mut [i64]) -> i64
+pub fn swivelcrane_later_fault(first: &[u8], second: &[u8], out: &mut [i64]) -> i64
     ensures { Returns (later_fault_call first.now second.now out.old) out.old out.new result }
 {
     if out.len() != 3 {

@@ -7,8 +7,7 @@ ghost use Rattle.capi.specs.Printing.{Printed};
 const NO_ROOM: i64 = -255;
 
 // What a whole sheet prints, at the start of `out`. The answer is the place past it, or NO_ROOM.
-#[unsafe(no_mangle)]
-pub extern "C" fn swivelcrane_sheet(input: &[u8], out: &mut [u8]) -> i64
+pub fn swivelcrane_sheet(input: &[u8], out: &mut [u8]) -> i64
     ensures { Printed (sheet_of input.now) input.now out.old out.new result }
 {
     if out.len() < listing::room_for(input.len()) {
@@ -18,8 +17,7 @@ pub extern "C" fn swivelcrane_sheet(input: &[u8], out: &mut [u8]) -> i64
 }
 
 // What a whole plan prints, at the start of `out`. The answer is the place past it, or NO_ROOM.
-#[unsafe(no_mangle)]
-pub extern "C" fn swivelcrane_plan(input: &[u8], out: &mut [u8]) -> i64
+pub fn swivelcrane_plan(input: &[u8], out: &mut [u8]) -> i64
     ensures { Printed (plan_of input.now) input.now out.old out.new result }
 {
     if out.len() < listing::room_for(input.len()) {

@@ -56,8 +56,7 @@ fn origin_from(
 }
 
 // Easting and northing in metres.
-#[unsafe(no_mangle)]
-pub extern "C" fn swivelcrane_cassini(
+pub fn swivelcrane_cassini(
     ellipsoid: i64,
     origin_latitude: i64,
     origin_longitude: i64,
@@ -83,8 +82,7 @@ pub extern "C" fn swivelcrane_cassini(
 }
 
 // Easting and northing in whole millimetres.
-#[unsafe(no_mangle)]
-pub extern "C" fn swivelcrane_cassini_millimetres(
+pub fn swivelcrane_cassini_millimetres(
     ellipsoid: i64,
     origin_latitude: i64,
     origin_longitude: i64,

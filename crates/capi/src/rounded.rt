@@ -22,8 +22,7 @@ fn give(answer: Rounded, out: &mut [i64]) -> i64
 }
 
 // The whole number nearest to the exact value of x times ten to the places, a half away from zero.
-#[unsafe(no_mangle)]
-pub extern "C" fn swivelcrane_round(x: f64, places: u32, out: &mut [i64]) -> i64
+pub fn swivelcrane_round(x: f64, places: u32, out: &mut [i64]) -> i64
     ensures { Returns (round_call x places out.old) out.old out.new result }
 {
     if out.len() != 1 {

@@ -41,8 +41,7 @@ fn give_angles(answer: Angles, out: &mut [i64]) -> i64
 }
 
 // Easting and northing in metres.
-#[unsafe(no_mangle)]
-pub extern "C" fn swivelcrane_rso_forward(
+pub fn swivelcrane_rso_forward(
     parameters: &[i64],
     latitude: i64,
     longitude: i64,
@@ -61,8 +60,7 @@ pub extern "C" fn swivelcrane_rso_forward(
 }
 
 // Latitude and longitude in units of 0.00001".
-#[unsafe(no_mangle)]
-pub extern "C" fn swivelcrane_rso_reverse(
+pub fn swivelcrane_rso_reverse(
     parameters: &[i64],
     easting: f64,
     northing: f64,

@@ -5,7 +5,7 @@ ghost use Rattle.std.specs.Prelude.{◌≡◌, ◌≤◌, length};
 ghost use Rattle.listing.specs.Fold.{short_input, room_for};
 ghost use Rattle.plan_rules.specs.Plan.{plan_of};
 
-use libc::STDOUT_FILENO;
+use std::io;
 
 // What the plan prints, whole, whatever the input: the very part of the room that is to be written.
 fn answer<'a>(text: &[u8], printed: &'a mut [u8]) -> &'a mut [u8]
@@ -17,34 +17,34 @@ fn answer<'a>(text: &[u8], printed: &'a mut [u8]) -> &'a mut [u8]
 }
 
 // Writes what a short plan prints. The room is cleared first; the largest one would take longer than all the rest of an empty plan's run.
-fn print_short(text: &[u8])
+fn print_short(rt: &impl Print, text: &[u8]) -> io::Result<()>
     requires { length text.now ≤ short_input }
 {
     let mut printed = listing::short_output_space();
     let whole = answer(text, &mut printed);
-    io::write_all(STDOUT_FILENO, whole);
+    rt.write_all(whole)
 }
 
-// Writes what any plan prints. Called from two places, it is compiled as a function of its own: as a part of `main` its room would be touched for every plan.
-fn print_any(text: &[u8]) {
+// Writes what any plan prints. It is compiled as a function of its own: as a part of `main` its room would be touched for every plan.
+#[inline(never)]
+fn print_any(rt: &impl Print, text: &[u8]) -> io::Result<()> {
     let mut printed = listing::output_space();
     let whole = answer(text, &mut printed);
-    io::write_all(STDOUT_FILENO, whole);
+    rt.write_all(whole)
 }
 
-fn main() {
+fn main(rt: HostRuntime) -> io::Result<()> {
     let mut text = listing::input_space();
-    let input::Input::Whole(held) = input::read_all(&mut text) else {
-        return;
+    let input::Input::Whole(held) = input::read_all(&mut rt.stdin(), &mut text) else {
+        return Ok(());
     };
     if held <= listing::SHORT_INPUT {
-        print_short(&text[..held]);
-        return;
+        return print_short(&rt, &text[..held]);
     }
     if held <= listing::LONGEST_INPUT {
-        print_any(&text[..held]);
+        print_any(&rt, &text[..held])
     } else {
         // one byte more than is read: all of it is held
-        print_any(&text);
+        print_any(&rt, &text)
     }
 }

@@ -2,8 +2,7 @@
 use mathlib.Core.Path.{◌≡◌, refl, sym, ◌∙◌, ap, subst}
 use mathlib.Core.Bool.{true}
 use mathlib.Core.List.{List, [], ◌∷◌, ◌++◌, reverse, reverse_aux-eq}
-use Prim.Native.Nat.{ℕ, ◌+◌, ◌<◌, ◌≤◌}
-use native.Mathlib.Nat as NatL
+use Prim.Native.Nat.{ℕ, ◌+◌, ◌≤◌}
 use native.Mathlib.Omega.{arith}
 use Rattle.chain.specs.declared.Position.{Position}
 use Rattle.chain.specs.declared.Realization.{Realization}
@@ -11,11 +10,10 @@ use Rattle.chain.specs.declared.Point.{Point}
 use Rattle.chain.specs.declared.Kind.{Kind}
 use Rattle.chain.specs.declared.Kind.TheVariants.{Shift, Velocity, BursaWolf, Frame}
 use Rattle.chain.specs.declared.Step.{Step}
-use Rattle.chain.specs.declared.Chain.{Chain}
 use Rattle.chain.specs.declared.Answer.TheVariants.{Converted}
 use Rattle.chain.specs.Faults.{KindOk, StepOk, in_area, steps_of}
 use Rattle.chain.specs.Parts.{Parts, kind_parts, forward_by, inverse_by}
-use Rattle.chain.specs.Convert.{at, walk, forward_step, inverse_step, forward_of, inverse_of}
+use Rattle.chain.specs.Convert.{at, walk, forward_of, inverse_of}
 use Rattle.theorems.specs.RoundTrip.{inexact, inexact_steps}
 use Rattle.theorems.specs.MarksApart.{Beyond, MarksApart}
 use Rattle.chain.proofs.Within.{area_small}

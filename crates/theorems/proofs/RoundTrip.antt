@@ -19,11 +19,10 @@ use Rattle.chain.specs.declared.Kind.{Kind}
 use Rattle.chain.specs.declared.Kind.TheVariants.{Shift, Velocity, BursaWolf, Frame}
 use Rattle.chain.specs.declared.Step.{Step}
 use Rattle.chain.specs.declared.Chain.{Chain}
-use Rattle.chain.specs.declared.Answer.TheVariants.{Converted}
 use Rattle.chain.specs.Faults.{KindOk, in_area, steps_of}
 use Rattle.chain.specs.Parts.{kind_parts, forward_by, inverse_by}
 use Rattle.chain.specs.Axes.{on_x, on_y, on_z, Small}
-use Rattle.chain.specs.Convert.{at, walk, forward_step, inverse_step, start_of, end_of, moved_to, forward_of, inverse_of}
+use Rattle.chain.specs.Convert.{at, walk, forward_step, inverse_step, start_of, end_of, moved_to}
 use Rattle.theorems.specs.RoundTrip.{inexact, inexact_steps, Returned, ThereAndBack, BackAndThere, Exactly, RoundTrip}
 use Rattle.chain.proofs.Within.{area_small}
 use Rattle.chain.proofs.StepLaws.{Off, off-le, off_self, small-le, inverse-off, inverse-exact, forward-off, forward-exact}

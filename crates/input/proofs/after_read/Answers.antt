@@ -1,13 +1,10 @@
 -- `input::after_read` meets its contract. Assumes nothing.
-use Prim.Native.Nat.{ℕ, ◌+◌, ◌≤◌, ◌<◌}
-use mathlib.Core.Path.{◌≡◌, ap, ◌∙◌}
+use mathlib.Core.Path.{ap, ◌∙◌}
 use native.Mathlib.Omega.{arith}
-use lib.IntN.{ℤ, nat_abs}
+use lib.IntN.{ℤ}
 use mir.Syntax.{w64}
 use mir.Val.{to_z, of_z}
 use mir.Facts.{to_z-of_z, Fits-nat_abs, sfits_to_z, Fits-of_z}
-use borrow.Author.Rules.{rules}
-use Rattle.input.specs.declared.Next.{Next}
 use Rattle.input.specs.Input.{after_read}
 use Rattle.input.proofs.Laws.{not-below, failed, ended, goes_on, full}
 use Rattle.input.proofs.after_read.Goals as goal

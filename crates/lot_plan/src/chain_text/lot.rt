@@ -88,8 +88,7 @@ fn write(lot: Lot, out: &mut [u8]) -> i64
 // A line of the lot plan: `chain` is the text of a chain's E and S lines, `point` a point line; the origin's angles in units of 0.00001", its false easting and
 // northing in millimetres. The answer is the line's length with its line feed, or the refusal number negated: BUFFER where `out` has fewer than 200 bytes; then
 // the chain's first refused line; then the point's, of its line and along the chain; then that of latitude and longitude; then the grid's.
-#[unsafe(no_mangle)]
-pub extern "C" fn swivelcrane_lot_plan(
+pub fn swivelcrane_lot_plan(
     chain: &[u8],
     point: &[u8],
     ellipsoid: i64,

@@ -1,8 +1,7 @@
 -- `sheet_stream::end_open` meets its contract. Assumes nothing.
-use mathlib.Core.Path.{◌≡◌, sym, ◌∙◌}
+use mathlib.Core.Path.{sym}
 use native.Mathlib.Omega.{arith}
-use lib.ListN.{length, length-take}
-use borrow.Author.Rules.{rules}
+use lib.ListN.{length-take}
 use Rattle.sheet_stream.proofs.end_open.Goals as goal
 
 pub slice_bounds-end_line-end : goal.slice_bounds-end_line-end

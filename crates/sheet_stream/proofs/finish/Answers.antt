@@ -1,11 +1,9 @@
 -- `sheet_stream::finish` meets its contract. The three cases of `finish_of`. Assumes nothing.
-use mathlib.Core.Path.{◌≡◌, sym, ◌∙◌}
+use mathlib.Core.Path.{sym, ◌∙◌}
 use mathlib.Core.List.{[]}
 use native.Mathlib.Omega.{arith}
-use borrow.Author.Tests.{not-true, not-false}
 use Rattle.sheet_stream.proofs.Laws.{finish-state, finish-none}
 use Rattle.sheet_stream.proofs.Scanning as L
-use borrow.Author.Rules.{rules}
 use Rattle.sheet_stream.proofs.finish.Tie as tie
 use Rattle.sheet_stream.proofs.finish.Lts as lts
 use Rattle.sheet_stream.proofs.finish.Reads as reads
@@ -28,7 +26,12 @@ pub returns-then-count-ne0 : goal.returns-then-count-ne0
 returns-then-count-ne0 c = L.finished-by c.args.stream (going c.before.before) _ c.if-count-ne0.true c.end_open.ensures
 
 pub returns-then-not-is_sound : goal.returns-then-not-is_sound
-returns-then-not-is_sound c = c.refused-then-not-is_sound.ensures ∙ sym (finish-state c.args.stream (L.sound-as c.args.stream (going c.before.before.before.before.before) _ c.is_sound.ensures ∙ c.if-not-is_sound.true))
+returns-then-not-is_sound c =
+    c.refused-then-not-is_sound.ensures ∙ sym (finish-state c.args.stream
+    (L.sound-as c.args.stream (going c.before.before.before.before.before) _ c.is_sound.ensures ∙ c.if-not-is_sound.true))
 
 pub returns : goal.returns
-returns c = rw c.no_bytes-cleared.ensures (sym (finish-none c.args.stream (L.sound-as c.args.stream (going c.before.before.before.before.before) _ c.is_sound.ensures ∙ c.if-not-is_sound.false) c.if-count-ne0.false))
+returns c =
+    rw c.no_bytes-cleared.ensures (sym
+    (finish-none c.args.stream (L.sound-as c.args.stream (going c.before.before.before.before.before) _ c.is_sound.ensures
+    ∙ c.if-not-is_sound.false) c.if-count-ne0.false))

@@ -1,5 +1,4 @@
 -- `sheet_stream::fresh` meets its contract. Assumes nothing.
-use borrow.Author.Rules.{rules}
 use Rattle.sheet_stream.proofs.fresh.Goals as goal
 
 pub returns : goal.returns

@@ -1,6 +1,5 @@
 -- `sheet_stream::is_fed` meets its contract. Assumes nothing.
 use Rattle.sheet_stream.proofs.Scanning.{fed-none, fed-past, fed-last}
-use borrow.Author.Rules.{rules}
 use Rattle.sheet_stream.proofs.is_fed.Goals as goal
 
 pub returns-then-end-eq0 : goal.returns-then-end-eq0

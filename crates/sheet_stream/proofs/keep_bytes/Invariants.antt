@@ -1,11 +1,7 @@
-use mathlib.Core.Path.{◌≡◌, refl, sym, ap, ◌∙◌}
-use mathlib.Core.List.{List}
-use native.Mathlib.Omega.{arith}
-use Prim.Native.Nat.{ℕ, ◌+◌, ◌-◌, ◌<◌, ◌≤◌, min}
-use lib.ListN.{length, take, length-set}
+use mathlib.Core.Path.{◌≡◌}
+use Prim.Native.Nat.{◌-◌, ◌≤◌}
+use lib.ListN.{length, take}
 use lib.Seq.{sets}
-use Rattle.sheet_stream.proofs.Scanning.{sets_more, take_min}
-use borrow.Author.Rules.{rules}
 use Rattle.sheet_stream.proofs.keep_bytes.Given as goal
 
 abbrev pub invariant-loop-i : goal.invariant-loop-i

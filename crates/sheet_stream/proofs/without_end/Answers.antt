@@ -10,12 +10,12 @@ pub returns-then-kept-last-ne-LINE_FEED : goal.returns-then-kept-last-ne-LINE_FE
 returns-then-kept-last-ne-LINE_FEED c =
     let a = c.args in
     let p = c.requires in
-    let z : length a.t1 ≡ 200 = search rules in
-    (z, L.unended-none a.t1 a.count p.0 (omega (arith, z, p.1)) c.if-kept-last-ne-LINE_FEED.true)
+    let z : length a.kept ≡ 200 = search rules in
+    (z, L.unended-none a.kept a.count p.0 (omega (arith, z, p.1)) c.if-kept-last-ne-LINE_FEED.true)
 
 pub returns : goal.returns
 returns c =
     let a = c.args in
     let p = c.requires in
-    let z : length a.t1 ≡ 200 = search rules in
-    (length-set a.t1 _ 0 ∙ z, L.unended-one a.t1 a.count p.0 (omega (arith, z, p.1)) c.if-kept-last-ne-LINE_FEED.false)
+    let z : length a.kept ≡ 200 = search rules in
+    (length-set a.kept _ 0 ∙ z, L.unended-one a.kept a.count p.0 (omega (arith, z, p.1)) c.if-kept-last-ne-LINE_FEED.false)

@@ -1,5 +1,4 @@
 -- `capi::conversion::give` meets its contract: a refusal writes nothing, and what is given is stored from the first element on. Assumes nothing.
-use borrow.Author.Rules.{rules}
 use mathlib.Core.Path.{◌≡◌, ◌∙◌, ap}
 use native.Mathlib.Omega.{arith}
 use lib.ListN.{length, length-set}

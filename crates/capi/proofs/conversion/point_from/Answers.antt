@@ -1,5 +1,4 @@
 -- `capi::conversion::point_from` meets its contract: each number is read where it stands. Assumes nothing.
-use borrow.Author.Rules.{rules}
 use Rattle.capi.specs.Chains.{point_from}
 use Rattle.rounding.proofs.Machine.{told}
 use Rattle.capi.proofs.conversion.point_from.Goals as goal

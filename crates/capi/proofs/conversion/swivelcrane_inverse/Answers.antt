@@ -1,6 +1,4 @@
 -- `capi::conversion::swivelcrane_inverse` meets its contract: the lengths, and then what the library answers. Assumes nothing.
-use borrow.Author.Tests.{not-true, not-false}
-use borrow.Author.Rules.{rules}
 use mathlib.Core.Path.{sym, ◌∙◌}
 use native.Mathlib.Omega.{arith}
 use Rattle.rounding.proofs.Machine.{told, rd}
@@ -9,7 +7,8 @@ use Rattle.capi.proofs.Conversions.{sizes, unsized, converted}
 use Rattle.capi.proofs.conversion.swivelcrane_inverse.Goals as goal
 
 pub returns-then-not-are_sized : goal.returns-then-not-are_sized
-returns-then-not-are_sized c = let s = c.args in unsized inverse_of s.profile s.chain.now s.point.now s.out.now (sym c.are_sized.ensures ∙ c.if-not-are_sized.true)
+returns-then-not-are_sized c =
+    let s = c.args in unsized inverse_of s.profile s.chain.now s.point.now s.out.now (sym c.are_sized.ensures ∙ c.if-not-are_sized.true)
 
 pub point_from-requires : goal.point_from-requires
 point_from-requires c = let e = (sizes _ _ _ (sym c.are_sized.ensures ∙ c.if-not-are_sized.false)).0 in omega (arith, e)

@@ -1,32 +1,17 @@
 -- `capi::fragments::feed_line` meets its contract: the line that ends is put together and answered, or the call goes by value. Assumes nothing.
 use mathlib.Core.Path.{◌≡◌, sym, ◌∙◌, ap}
-use mathlib.Core.Bool.{true, false}
+use mathlib.Core.Bool.{true}
+use mathlib.Core.List.{List}
 use Prim.Native.Nat.{ℕ, ◌+◌, ◌-◌, ◌<◌, ◌≤◌}
 use native.Mathlib.Omega.{arith}
 use lib.Dec.{eqb}
 use lib.ListN.{length, get_or, take, set, length-set}
-use lib.Seq.{length-sets, length-take-le, get_or-take}
+use lib.Seq.{sets, length-sets, length-take-le, get_or-take}
 use Rattle.rounding.proofs.Machine.{told}
 use Rattle.ranges.proofs.Ranges.{both}
-use Rattle.line.specs.Bytes.{line_feed}
-use Rattle.sheet_stream.specs.Fragments.{ends_with, feed_of}
 use Rattle.sheet_stream.proofs.Scanning.{within-line, fed-some}
-use Rattle.capi.specs.Fragments.{stream_from}
 use Rattle.capi.proofs.PointCalls.{line-fed}
-use borrow.Author.Rules.{rules}
-use Rattle.capi.proofs.fragments.feed_line.Tie as tie
-use Rattle.capi.proofs.fragments.feed_line.Lts as lts
-use Rattle.capi.proofs.fragments.feed_line.Reads as reads
 use Rattle.capi.proofs.fragments.feed_line.Goals as goal
-
-abbrev TheAfterTold : Type 0
-TheAfterTold = lts.After-told tie.the-claims reads.Pre reads.Post
-
-abbrev TheStart : Type 0
-TheStart = lts.Start tie.the-claims reads.Pre reads.Post
-
-abbrev TheThen1 : Type 0
-TheThen1 = lts.Then1 tie.the-claims reads.Pre reads.Post
 
 pub overflow_sub-last : goal.overflow_sub-last
 overflow_sub-last c =
@@ -38,51 +23,48 @@ slice_bounds-keep_bytes-end-2 c =
     let s = c in
     sym (length-take-le (s.args.end - 1) s.args.fragment.now (omega (arith, within-line s.args.fragment.now s.args.end s.requires.5)))
 
--- the room is as long as it was, and a line feed fits
-has_room : (c : TheThen1) → c.keep_bytes-n.result + 1 ≤ length (set c.keep_bytes-n.last.0 c.keep_bytes-n.result 10)
-has_room c =
-    let k = c.before.before in
-    let s = k in
-    let room = k.bytes-from.result in
-    let kept = k.kept_in.result in
-    let e = ap length k.keep_bytes-n.ensures.0 ∙ length-sets room kept (take (length room - kept) (take (s.args.end - 1) s.args.fragment.now)) ∙ ap length k.bytes-from.ensures ∙ s.requires.2 in
-    omega (arith, length-set k.keep_bytes-n.last.0 k.keep_bytes-n.result 10, e, c.if-n-lt200.true)
+-- the bytes that are kept of the line
+abbrev kept_of : List ℕ → ℕ → ℕ → List ℕ → List ℕ
+kept_of room k end f = take (length room - k) (take (end - 1) f)
 
--- a slice has fewer bytes than an i64 counts
-short : (s : TheStart) → length s.args.fragment.now < 9223372036854775808
-short s = omega (arith, s.good.1.1.0.1)
+-- the room is as long as it was, and a line feed fits
+has_room : {room bytes new : List ℕ} (k n : ℕ) (f : List ℕ) → new ≡ sets room k f → room ≡ bytes → length bytes ≡ 200 → n < 200 → n + 1 ≤ length (set new n 10)
+has_room {new = new} k n f e r l h = let z = ap length e ∙ length-sets _ k f ∙ ap length r ∙ l in omega (arith, length-set new n 10, z, h)
 
 pub slice_bounds-room-end : goal.slice_bounds-room-end
-slice_bounds-room-end c = has_room c.before.before.before.before.before
+slice_bounds-room-end c =
+    has_room c.kept_in.result c.keep_bytes-n.result
+    (kept_of c.bytes_from-room.result c.kept_in.result c.args.end c.args.fragment.now)
+    c.keep_bytes-n.ensures.0 c.bytes_from-room.ensures c.requires.2 c.if-n-lt200.true
 
 pub slice_bounds-feed_point-end : goal.slice_bounds-feed_point-end
-slice_bounds-feed_point-end c = sym (length-take-le _ _ (has_room c.before.before.before.before.before.before))
+slice_bounds-feed_point-end c =
+    sym (length-take-le _ _ (has_room c.kept_in.result c.keep_bytes-n.result
+    (kept_of c.bytes_from-room.result c.kept_in.result c.args.end c.args.fragment.now)
+    c.keep_bytes-n.ensures.0 c.bytes_from-room.ensures c.requires.2 c.if-n-lt200.true))
 
 pub feed_point-requires : goal.feed_point-requires
 feed_point-requires c =
-    let t = c in
-    let s = c.before.before.before.before.before.before.before.before.before.before.before.before.before.before.before.before.before.before.before.before in
-    let k = c in
-    let p = both _ _ t.if-room-can_come.true in (
-      s.requires.0,
-      s.requires.1,
-      s.requires.2,
-      s.requires.3,
-      s.requires.4,
-      omega (arith, within-line s.args.fragment.now s.args.end s.requires.5, short s),
-      sym t.can_come.ensures ∙ p.1,
-      ap (λ (x : ℕ). eqb x 80) (get_or-take (k.keep-bytes.result + 1) (set k.keep-bytes.last.0 k.keep-bytes.result 10) 0 0 (omega arith)) ∙ p.0,
+    let s = c.args in
+    let r = c.requires in
+    let short : length s.fragment.now < 9223372036854775808 = omega (arith, c.well_formed.1.1.0.1) in
+    let p = both _ _ c.if-room-can_come.true in (
+      r.0,
+      r.1,
+      r.2,
+      r.3,
+      r.4,
+      omega (arith, within-line s.fragment.now s.end r.5, short),
+      sym c.can_come.ensures ∙ p.1,
+      ap (λ (x : ℕ). eqb x 80) (get_or-take (c.keep_bytes-n.result + 1) (set c.keep_bytes-n.new.room c.keep_bytes-n.result 10) 0 0 (omega arith)) ∙ p.0,
     )
 
--- so what is handed over is the line that ends
-fed : (c : TheAfterTold) → ends_with (stream_from c.before.before.before.before.before.before.before.before.before.before.before.before.before.before.before.before.before.before.before.before.before.before.before.before.before.before.before.args.numbers.now c.before.before.before.before.before.before.before.before.before.before.before.before.before.before.before.before.before.before.before.before.before.before.before.before.before.before.before.args.bytes.now) (take (c.keep-bytes.result + 1) (set c.keep-bytes.last.0 c.keep-bytes.result line_feed)) c.before.before.before.before.before.before.before.before.before.before.before.before.before.before.before.before.before.before.before.before.before.before.before.before.before.before.before.args.end false ≡ feed_of (stream_from c.before.before.before.before.before.before.before.before.before.before.before.before.before.before.before.before.before.before.before.before.before.before.before.before.before.before.before.args.numbers.now c.before.before.before.before.before.before.before.before.before.before.before.before.before.before.before.before.before.before.before.before.before.before.before.before.before.before.before.args.bytes.now) c.before.before.before.before.before.before.before.before.before.before.before.before.before.before.before.before.before.before.before.before.before.before.before.before.before.before.before.args.fragment.now
-fed c =
-    let t = c in
-    let k = c.before.before.before.before.before.before.before.before.before.before.before.before.before.before.before.before.before in
-    let s = k in
-    let n = s.args in
-    let p = both (eqb (get_or (set k.keep-bytes.last.0 k.keep-bytes.result 10) 0 0) 80) t.can_come.result t.if-room-can_come.true in
-    line-fed n.numbers.now n.bytes.now s.requires.0 s.requires.1 (sym t.can_come.ensures ∙ p.1) s.requires.2 n.fragment.now n.end s.requires.5 s.requires.6 {k = k.kept_in.result} {c = k.keep-bytes.result} {room = k.bytes-from.result} {kept = k.keep-bytes.last.0} k.kept_in.ensures k.bytes-from.ensures k.keep-bytes.ensures.1 k.keep-bytes.ensures.0 c.if1.taken
-
 pub returns-then-room-can_come : goal.returns-then-room-can_come
-returns-then-room-can_come c = rw (told c.feed_point.ok, ← fed c) c.feed_point.ensures
+returns-then-room-can_come c =
+    let n = c.args in
+    let r = c.requires in
+    let p = both (eqb (get_or (set c.keep_bytes-n.new.room c.keep_bytes-n.result 10) 0 0) 80) c.can_come.result c.if-room-can_come.true in
+    let fed = line-fed n.numbers.now n.bytes.now r.0 r.1 (sym c.can_come.ensures ∙ p.1) r.2 n.fragment.now n.end r.5 r.6 {k = c.kept_in.result}
+    {c = c.keep_bytes-n.result} {room = c.bytes_from-room.result}
+    {kept = c.keep_bytes-n.new.room} c.kept_in.ensures c.bytes_from-room.ensures c.keep_bytes-n.ensures.1 c.keep_bytes-n.ensures.0 c.if-n-lt200.true in
+    rw (told c.feed_point.type_inv, ← fed) c.feed_point.ensures

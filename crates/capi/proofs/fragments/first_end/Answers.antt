@@ -6,7 +6,6 @@ use native.Mathlib.Omega.{arith}
 use lib.ListN.{length}
 use lib.Seq.{length-take-le, take_all}
 use Rattle.line.specs.Lines.{line_end}
-use borrow.Author.Rules.{rules}
 use Rattle.capi.proofs.fragments.first_end.Goals as goal
 
 pub slice_bounds-line_end-end : goal.slice_bounds-line_end-end
@@ -14,5 +13,5 @@ slice_bounds-line_end-end c = sym (length-take-le _ _ (omega arith))
 
 pub returns : goal.returns
 returns c =
-    let f = c.before.before.before.args.fragment.now in
+    let f = c.args.fragment.now in
     c.line_end.ensures ∙ ap (λ (l : List ℕ). line_end l 0) (take_all (length f) f (omega arith))

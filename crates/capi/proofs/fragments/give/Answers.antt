@@ -1,8 +1,7 @@
 -- `capi::fragments::give` meets its contract: the three ways in which a call ends. Assumes nothing.
-use mathlib.Core.Path.{◌≡◌, ◌∙◌}
+use mathlib.Core.Path.{◌∙◌}
 use Rattle.rounding.proofs.Machine.{told}
 use Rattle.capi.proofs.Streams.{declined, no_line, line-ended}
-use borrow.Author.Rules.{rules}
 use Rattle.capi.proofs.fragments.give.Goals as goal
 
 pub returns-in-Refused : goal.returns-in-Refused

@@ -1,11 +1,10 @@
 -- `capi::fragments::tell` meets its contract. Assumes nothing.
-use mathlib.Core.Path.{◌≡◌, ◌∙◌, ap}
-use mathlib.Core.List.{List, [], ◌∷◌}
+use mathlib.Core.Path.{◌∙◌, ap}
+use mathlib.Core.List.{[], ◌∷◌}
 use lib.IntN.{ℤ, pos}
 use mir.Syntax.{w64}
 use mir.ValLaws.{to_z_pos}
 use Rattle.capi.proofs.Streams.{two}
-use borrow.Author.Rules.{rules}
 use Rattle.capi.proofs.fragments.tell.Goals as goal
 
 pub returns-in-Open : goal.returns-in-Open

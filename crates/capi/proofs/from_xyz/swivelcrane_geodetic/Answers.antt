@@ -1,6 +1,5 @@
 -- `capi::from_xyz::swivelcrane_geodetic` meets its contract: the length, and then what the library answers. Assumes nothing.
 use borrow.Author.Tests.{eq-eqb, ne_eqb}
-use borrow.Author.Rules.{rules}
 use mathlib.Core.Path.{sym, ◌∙◌, ap}
 use Rattle.capi.specs.Calls.{of_geodetic, geodetic_call}
 use Rattle.capi.proofs.Laws.{by, wrong}
@@ -18,5 +17,6 @@ returns c =
     let c3 = c.before.before.before in
     let c4 = c3 in
     let s = c in
-    by c.give_geodetic.ensures (rw (eq-eqb _ _ c4.if-out-ne3.false) (ap of_geodetic (sym (c3.geodetic_units.ensures ∙ of₄ geodetic_units_of (rd s.ranges.ellipsoid) (rd s.ranges.x) (rd s.ranges.y) (rd s.ranges.z)))))
+    by c.give_geodetic.ensures (rw (eq-eqb _ _ c4.if-out-ne3.false)
+    (ap of_geodetic (sym (c3.geodetic_units.ensures ∙ of₄ geodetic_units_of (rd s.ranges.ellipsoid) (rd s.ranges.x) (rd s.ranges.y) (rd s.ranges.z)))))
     (told c.give_geodetic.type_inv)

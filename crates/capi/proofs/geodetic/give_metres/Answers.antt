@@ -1,5 +1,4 @@
 -- `capi::geodetic::give_metres` meets its contract: a refusal writes nothing, and what is given is stored from the first element on. Assumes nothing.
-use borrow.Author.Rules.{rules}
 use mathlib.Core.Path.{◌∙◌, ap}
 use Rattle.capi.specs.Calls.{of_cartesian}
 use Rattle.capi.proofs.Laws.{declined, given}

@@ -1,6 +1,5 @@
 -- `capi::geodetic::swivelcrane_cartesian` meets its contract: the length, and then what the library answers. Assumes nothing.
 use borrow.Author.Tests.{eq-eqb, ne_eqb}
-use borrow.Author.Rules.{rules}
 use mathlib.Core.Path.{sym, ◌∙◌, ap}
 use Rattle.capi.specs.Calls.{of_cartesian, cartesian_call}
 use Rattle.capi.proofs.Laws.{by, wrong}
@@ -19,5 +18,7 @@ returns c =
     let c4 = c2.before.before in
     let c5 = c4 in
     let s = c in
-    by c2.give_metres.ensures (rw (eq-eqb _ _ c5.if-out-ne3.false) (ap of_cartesian (sym (c4.cartesian_metres.ensures ∙ of₄ cartesian_of (rd s.ranges.ellipsoid) (rd s.ranges.latitude) (rd s.ranges.longitude) (rd s.ranges.height)))))
+    by c2.give_metres.ensures (rw (eq-eqb _ _ c5.if-out-ne3.false)
+    (ap of_cartesian (sym (c4.cartesian_metres.ensures ∙ of₄ cartesian_of (rd s.ranges.ellipsoid) (rd s.ranges.latitude) (rd s.ranges.longitude)
+    (rd s.ranges.height)))))
     (told c2.give_metres.type_inv)

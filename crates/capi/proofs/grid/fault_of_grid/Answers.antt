@@ -1,5 +1,4 @@
 -- `capi::grid::fault_of_grid` meets its contract. Assumes nothing.
-use borrow.Author.Rules.{rules}
 use Rattle.capi.proofs.grid.fault_of_grid.Goals as goal
 
 pub returns-in-Refused : goal.returns-in-Refused

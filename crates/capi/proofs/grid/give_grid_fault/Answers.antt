@@ -1,5 +1,4 @@
 -- `capi::grid::give_grid_fault` meets its contract: what is given is stored from the first element on. Assumes nothing.
-use borrow.Author.Rules.{rules}
 use mathlib.Core.Path.{refl}
 use mathlib.Core.List.{[], ◌∷◌}
 use Rattle.capi.proofs.Laws.{numbers}
@@ -9,4 +8,6 @@ pub returns : goal.returns
 returns c =
     let c2 = c.before in
     let c3 = c2 in
-    numbers {vs = c3.status-number.result ∷ c2.line_number-line.result ∷ c.status-place.result ∷ []} (rw (c3.status-number.ensures, c2.line_number-line.ensures, c.status-place.ensures) refl) (c3.status-number.type_inv, (c2.line_number-line.type_inv, (c.status-place.type_inv, tt))) c3.requires
+    numbers {vs = c3.status-number.result ∷ c2.line_number-line.result ∷ c.status-place.result ∷ []}
+    (rw (c3.status-number.ensures, c2.line_number-line.ensures, c.status-place.ensures) refl)
+    (c3.status-number.type_inv, (c2.line_number-line.type_inv, (c.status-place.type_inv, tt))) c3.requires

@@ -1,5 +1,4 @@
 -- `capi::grid::give_motion` meets its contract: a refusal writes nothing, and what is given is stored from the first element on. Assumes nothing.
-use borrow.Author.Rules.{rules}
 use mathlib.Core.Path.{◌≡◌, ◌∙◌, ap}
 use native.Mathlib.Omega.{arith}
 use mathlib.Core.List.{List, [], ◌∷◌}
@@ -37,8 +36,28 @@ returns-in-Motion c =
     let v = g.1.0.1.1 in
     let s = c in
     let f = s.ranges in
-    numbers (ap (λ (w : MotionAnswer). of_motion w s.args.datum s.args.before s.args.after) c.in-Motion.is)
-    (p.0.1, (p.1.0.1, (p.1.1.0.1, (omega arith, (omega arith, (f.datum.sfits, (f.before.sfits, (f.datum.sfits, (f.after.sfits, (v.0.1, (v.1.0.1, (v.1.1.0.1, (omega arith, (omega arith, (omega arith, (omega arith, tt)))))))))))))))) (room c)
+    numbers (ap (λ (w : MotionAnswer). of_motion w s.args.datum s.args.before s.args.after) c.in-Motion.is) (
+      p.0.1,
+      (
+        p.1.0.1,
+        (
+          p.1.1.0.1,
+          (
+            omega arith,
+            (
+              omega arith,
+              (
+                f.datum.sfits,
+                (
+                  f.before.sfits,
+                  (f.datum.sfits, (f.after.sfits, (v.0.1, (v.1.0.1, (v.1.1.0.1, (omega arith, (omega arith, (omega arith, (omega arith, tt))))))))),
+                ),
+              ),
+            ),
+          ),
+        ),
+      ),
+    ) (room c)
 
 pub bounds-out-0 : goal.bounds-out-0
 bounds-out-0 c = place 0 16 (out c) 0 ([]) (room c) tt

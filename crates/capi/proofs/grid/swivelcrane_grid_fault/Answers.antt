@@ -1,6 +1,5 @@
 -- `capi::grid::swivelcrane_grid_fault` meets its contract: the length, and then what the library answers. Assumes nothing.
 use borrow.Author.Tests.{eq-eqb, ne_eqb}
-use borrow.Author.Rules.{rules}
 use mathlib.Core.Path.{sym, ◌∙◌, ap}
 use Rattle.rounding.proofs.Machine.{told}
 use Rattle.capi.specs.Grids.{fault_in, of_grid_fault, grid_fault_call}

@@ -1,6 +1,5 @@
 -- `capi::grid::swivelcrane_grid_velocity` meets its contract: the length, and then what the library answers. Assumes nothing.
 use borrow.Author.Tests.{eq-eqb, ne_eqb}
-use borrow.Author.Rules.{rules}
 use mathlib.Core.Path.{◌≡◌, sym, ◌∙◌, ap}
 use mathlib.Core.List.{List}
 use Prim.Native.Nat.{ℕ}
@@ -8,7 +7,6 @@ use lib.IntN.{ℤ}
 use Rattle.rounding.proofs.Machine.{rd, told}
 use Rattle.velocity_grid.specs.Motion.{motion_of}
 use Rattle.velocity_grid.specs.declared.MotionAnswer.{MotionAnswer}
-use Rattle.capi.specs.Outcome.{CallOutcome}
 use Rattle.capi.specs.Grids.{of_motion, grid_velocity_call}
 use Rattle.capi.proofs.Laws.{by, wrong}
 use Rattle.capi.proofs.grid.swivelcrane_grid_velocity.Goals as goal
@@ -27,11 +25,10 @@ returns-then-out-ne16 c = wrong (rw (ne_eqb _ _ c.if-out-ne16.true))
 pub returns : goal.returns
 unfolding grid_velocity_call
 returns c =
-    let m = c.before.before.before in
-    let s = m in
-    let e = m.motion_at-answer.ensures ∙ same s.args.grid.now (rd s.ranges.latitude) (rd s.ranges.longitude) (rd s.ranges.datum) (rd s.ranges.before) (rd s.ranges.after) in
+    let e = c.motion_at-answer.ensures ∙ same c.args.grid.now (rd c.ranges.latitude) (rd c.ranges.longitude) (rd c.ranges.datum) (rd c.ranges.before)
+    (rd c.ranges.after) in
     by c.give_motion.ensures
-    (rw (eq-eqb _ _ m.if-out-ne16.false)
-    (sym (alike m.motion_at-answer.result (rd s.ranges.datum) (rd s.ranges.before) (rd s.ranges.after)
-    ∙ ap (λ (w : MotionAnswer). of_motion w s.args.datum s.args.before s.args.after) e)))
+    (rw (eq-eqb _ _ c.if-out-ne16.false)
+    (sym (alike c.motion_at-answer.result (rd c.ranges.datum) (rd c.ranges.before) (rd c.ranges.after)
+    ∙ ap (λ (w : MotionAnswer). of_motion w c.args.datum c.args.before c.args.after) e)))
     (told c.give_motion.type_inv)

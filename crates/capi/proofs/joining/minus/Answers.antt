@@ -2,13 +2,12 @@
 use mathlib.Core.Path.{◌≡◌}
 use native.Mathlib.Omega.{arith}
 use borrow.Author.Rules.{rules}
-use lib.IntN.{ℤ, pos, neg_ℤ}
+use lib.IntN.{pos, neg_ℤ}
 use mir.Syntax.{w64}
 use mir.Val.{SFits, to_z}
 use mir.ValLaws.{to_z_pos}
 use Rattle.rounding.proofs.Zn.{abs_neg}
 use Rattle.rounding.proofs.Machine.{fits, fit0-, rd0-}
-use Rattle.capi.proofs.joining.minus.Tie as tie
 use Rattle.capi.proofs.joining.minus.Lts as lts
 use Rattle.capi.proofs.joining.minus.Reads as reads
 use Rattle.capi.proofs.joining.minus.Goals as goal

@@ -1,5 +1,4 @@
 -- `capi::later::give` meets its contract: a refusal writes nothing, and what is given is stored. Assumes nothing.
-use borrow.Author.Rules.{rules}
 use mathlib.Core.Path.{◌∙◌, ap}
 use Rattle.rounding.proofs.Machine.{told}
 use Rattle.capi.specs.Calls.{of_verdict}

@@ -1,7 +1,5 @@
 -- `capi::point_line::print_in` meets its contract. Assumes nothing.
-use mathlib.Core.Path.{◌≡◌, ◌∙◌, ap}
-use mathlib.Core.Bool.{Bool}
-use mathlib.Core.List.{List}
+use mathlib.Core.Path.{◌∙◌, ap}
 use Prim.Native.Nat.{ℕ, ◌+◌}
 use native.Mathlib.Omega.{arith}
 use Rattle.rounding.proofs.Machine.{told}
@@ -10,7 +8,6 @@ use Rattle.sheet_rules.proofs.Points.{printed-size}
 use Rattle.capi.specs.Fragments.{flag}
 use Rattle.capi.proofs.Streams.{chain-read}
 use Rattle.capi.proofs.PointCalls.{asked-so}
-use borrow.Author.Rules.{rules}
 use Rattle.capi.proofs.point_line.print_in.Goals as goal
 
 pub overflow_add-line : goal.overflow_add-line
@@ -24,11 +21,10 @@ shape_of-out c = printed-size c.print_lent.ensures
 
 pub returns : goal.returns
 returns c =
-    let p = c.before.before in
-    let e = p.before.before.before in
-    let f = e.before.before in
+    let f = c in
     let l = f in
     let s = l.args in
     let n = s.n.now in
-    asked-so s.text.now p.print_lent.ensures (chain-read n (told {z = number n 5} e.profile-1.given) e.steps_end-end.ensures.0) (ap (λ (k : ℕ). k + 1) l.lines_in.ensures.0)
+    asked-so s.text.now c.print_lent.ensures (chain-read n (told {z = number n 5} c.profile-1.given) c.steps_end-end.ensures.0)
+    (ap (λ (k : ℕ). k + 1) l.lines_in.ensures.0)
     (f.flag-refused.ensures ∙ ap flag (told {z = number n 2} f.flag-arg-1.given))

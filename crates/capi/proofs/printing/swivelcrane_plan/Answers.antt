@@ -1,5 +1,4 @@
 -- `capi::printing::swivelcrane_plan` meets its contract: the room, and then what the library writes. Assumes nothing.
-use borrow.Author.Rules.{rules}
 use native.Mathlib.Omega.{arith}
 use Rattle.capi.proofs.Texts.{no_room, printed}
 use Rattle.capi.proofs.printing.swivelcrane_plan.Goals as goal

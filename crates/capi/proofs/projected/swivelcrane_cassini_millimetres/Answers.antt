@@ -1,6 +1,5 @@
 -- `capi::projected::swivelcrane_cassini_millimetres` meets its contract: the length, and then what the library answers. Assumes nothing.
 use borrow.Author.Tests.{eq-eqb, ne_eqb}
-use borrow.Author.Rules.{rules}
 use mathlib.Core.Path.{sym, ◌∙◌, ap}
 use Rattle.rounding.proofs.Machine.{rd, told}
 use Rattle.angle.specs.Cassini.{cassini_millimetres_of}
@@ -20,5 +19,6 @@ returns c =
     let a = c in
     let s = a.ranges in
     by g.ensures (rw (eq-eqb _ _ a.if-out-ne2.false) (ap of_millimetres (sym (a.cassini_millimetres.ensures
-    ∙ same-origin cassini_millimetres_of a.origin_from-origin.ensures (rd s.ellipsoid) (rd s.origin-latitude) (rd s.origin-longitude) (rd s.false-easting) (rd s.false-northing) (rd s.latitude) (rd s.longitude)))))
-    (told g.ok)
+    ∙ same-origin cassini_millimetres_of a.origin_from-origin.ensures (rd s.ellipsoid) (rd s.origin_latitude) (rd s.origin_longitude) (rd s.false_easting)
+    (rd s.false_northing) (rd s.latitude) (rd s.longitude)))))
+    (told g.type_inv)

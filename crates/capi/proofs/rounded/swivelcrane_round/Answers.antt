@@ -1,5 +1,4 @@
 -- `capi::rounded::swivelcrane_round` meets its contract. Assumes nothing.
-use borrow.Author.Rules.{rules}
 use borrow.Author.Tests.{eq-eqb, ne_eqb}
 use mathlib.Core.Path.{sym, ap}
 use Rattle.rounding.proofs.Machine.{told}

@@ -1,7 +1,6 @@
 -- `capi::row::put_answer` meets its contract: the number and zeros, or 0 and the point's numbers. Assumes nothing.
 use mathlib.Core.Path.{◌≡◌, sym, ◌∙◌, ap}
 use mathlib.Core.List.{List, [], ◌∷◌}
-use borrow.Author.Rules.{rules}
 use lib.IntN.{ℤ, pos}
 use lib.Seq.{sets}
 use Rattle.rounding.proofs.Machine.{told}
@@ -14,10 +13,10 @@ put-requires-in-Converted c = c.requires
 
 pub returns-in-Refused : goal.returns-in-Refused
 returns-in-Refused c =
-    let st = c in
-    let s = st.args in
+    let s = c.args in
     c.put.ensures
-    ∙ ap (sets s.out.now s.at) (ap (λ (z : ℤ). z ∷ pos 0 ∷ pos 0 ∷ pos 0 ∷ pos 0 ∷ pos 0 ∷ pos 0 ∷ pos 0 ∷ []) (told st.status.type_inv ∙ st.status.ensures) ∙ ap answer_numbers (sym st.in-Refused.is))
+    ∙ ap (sets s.out.now s.at) (ap (λ (z : ℤ). z ∷ pos 0 ∷ pos 0 ∷ pos 0 ∷ pos 0 ∷ pos 0 ∷ pos 0 ∷ pos 0 ∷ []) (told c.status.type_inv ∙ c.status.ensures)
+    ∙ ap answer_numbers (sym c.in-Refused.is))
 
 -- 0 and a point's numbers, each as it is read
 point : {a b c d e f g a' b' c' d' e' f' g' : ℤ} → a ≡ a' → b ≡ b' → c ≡ c' → d ≡ d' → e ≡ e' → f ≡ f' → g ≡ g'
@@ -27,7 +26,7 @@ point p q r s t u v = rw (p, q, r, s, t, u, v)
 pub returns-in-Converted : goal.returns-in-Converted
 unfolding point_numbers
 returns-in-Converted c =
-    let t = c.before.before in
+    let t = c in
     let p = t.struct_told-in-Converted-6-1.given in
     let l = p.0.1.1.1 in
     let r = p.1.0.1.1 in

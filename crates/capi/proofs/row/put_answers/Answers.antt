@@ -1,9 +1,8 @@
 -- `capi::row::put_answers` meets its contract: what is left to put, from the i-th answer on, makes the whole. Assumes nothing.
 use mathlib.Core.Path.{◌≡◌, refl, sym, ◌∙◌, ap}
 use mathlib.Core.List.{List}
-use Prim.Native.Nat.{ℕ, ◌+◌, ◌-◌, ◌*◌, ◌/◌, ◌<◌, ◌≤◌}
+use Prim.Native.Nat.{ℕ, ◌+◌, ◌-◌, ◌*◌, ◌/◌, ◌≤◌}
 use native.Mathlib.Omega.{arith}
-use borrow.Author.Rules.{rules}
 use lib.IntN.{ℤ}
 use lib.ListN.{length, drop, length-drop}
 use lib.Seq.{sets, length-sets, take_all}
@@ -47,7 +46,8 @@ loop-i-preserved c =
       omega (arith, l.loop-i-test.true),
       ap length e ∙ length-sets k.out (8 * k.i) (answer_numbers a.result) ∙ k.invariant.1,
       ap (λ (o : List ℤ). sets o (8 * (k.i + 1)) rest) e
-          ∙ turn (convert_ready s.ready s.direction) s.points.now k.out (length s.points.now / 7) k.i l.loop-i-test.true (a.ensures ∙ ap (convert_ready s.ready s.direction) p)
+          ∙ turn (convert_ready s.ready s.direction) s.points.now k.out (length s.points.now / 7) k.i l.loop-i-test.true
+          (a.ensures ∙ ap (convert_ready s.ready s.direction) p)
           ∙ k.invariant.2,
     )
 
@@ -60,4 +60,5 @@ returns c =
     let s = c.args in
     let f = convert_ready s.ready s.direction in
     let z : length s.points.now / 7 - k.i ≡ 0 = omega (arith, c.loop-i-test.false) in
-    ap (sets k.out (8 * k.i)) (no-answers f (drop (7 * k.i) s.points.now) ∙ ap (λ (n : ℕ). answers_of f n (drop (7 * k.i) s.points.now)) (sym z)) ∙ k.invariant.2
+    ap (sets k.out (8 * k.i)) (no-answers f (drop (7 * k.i) s.points.now) ∙ ap (λ (n : ℕ). answers_of f n (drop (7 * k.i) s.points.now)) (sym z))
+    ∙ k.invariant.2

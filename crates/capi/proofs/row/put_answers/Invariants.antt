@@ -1,15 +1,9 @@
-use mathlib.Core.Path.{◌≡◌, refl, sym, ◌∙◌, ap}
-use mathlib.Core.List.{List}
-use Prim.Native.Nat.{ℕ, ◌+◌, ◌-◌, ◌*◌, ◌/◌, ◌<◌, ◌≤◌}
-use native.Mathlib.Omega.{arith}
-use borrow.Author.Rules.{rules}
-use lib.IntN.{ℤ}
-use lib.ListN.{length, drop, length-drop}
-use lib.Seq.{sets, length-sets, take_all}
+use mathlib.Core.Path.{◌≡◌}
+use Prim.Native.Nat.{◌-◌, ◌*◌, ◌≤◌}
+use lib.ListN.{length, drop}
+use lib.Seq.{sets}
 use Rattle.chain.specs.PointRow.{convert_ready}
-use Rattle.capi.specs.Chains.{point_from}
-use Rattle.capi.specs.PointRow.{answer_numbers, answers_of}
-use Rattle.capi.proofs.PointRows.{turn, no-answers}
+use Rattle.capi.specs.PointRow.{answers_of}
 use Rattle.capi.proofs.row.put_answers.Given as goal
 
 abbrev pub invariant-loop-i : goal.invariant-loop-i

@@ -1,6 +1,5 @@
 -- `capi::rso::swivelcrane_rso_reverse` meets its contract: the lengths, and then what the library answers. Assumes nothing.
 use borrow.Author.Tests.{eq-eqb, ne_eqb}
-use borrow.Author.Rules.{rules}
 use mathlib.Core.Path.{◌≡◌, sym, ◌∙◌, ap}
 use lib.Ieee.{Float}
 use Rattle.rounding.proofs.Machine.{told}

@@ -1,5 +1,4 @@
 -- `capi::state::bit` meets its contract. Assumes nothing.
-use mathlib.Core.Path.{refl}
 use Rattle.capi.proofs.state.bit.Goals as goal
 
 pub returns-then-b : goal.returns-then-b

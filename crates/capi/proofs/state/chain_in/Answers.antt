@@ -4,7 +4,6 @@ use Rattle.rounding.proofs.Machine.{told}
 use Rattle.chain.specs.Numbers.{number}
 use native.Mathlib.Omega.{arith}
 use Rattle.capi.proofs.Streams.{chain-read}
-use borrow.Author.Rules.{rules}
 use Rattle.capi.proofs.state.chain_in.Goals as goal
 
 pub slice_bounds-chain_from-count : goal.slice_bounds-chain_from-count

@@ -1,6 +1,4 @@
 -- `capi::state::convention_number` meets its contract. Assumes nothing.
-use mathlib.Core.Path.{refl}
-use borrow.Author.Rules.{rules}
 use Rattle.capi.proofs.state.convention_number.Goals as goal
 
 pub returns-in-PositionVector : goal.returns-in-PositionVector

@@ -6,8 +6,6 @@ use mir.Syntax.{w64}
 use mir.Val.{to_z, of_z}
 use Rattle.rounding.proofs.Machine.{rd}
 use Rattle.ranges.proofs.Ranges.{Natural, natural}
-use borrow.Author.Rules.{rules}
-use Rattle.capi.proofs.state.count.Tie as tie
 use Rattle.capi.proofs.state.count.Lts as lts
 use Rattle.capi.proofs.state.count.Reads as reads
 use Rattle.capi.proofs.state.count.Goals as goal

@@ -4,7 +4,6 @@ use mathlib.Core.Bool.{not}
 use lib.IntN.{pos}
 use Rattle.rounding.proofs.Machine.{rd}
 use Rattle.ranges.specs.Ranges.{equal}
-use borrow.Author.Rules.{rules}
 use Rattle.capi.proofs.state.flag.Goals as goal
 
 pub returns : goal.returns

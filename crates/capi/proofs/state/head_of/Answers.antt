@@ -12,6 +12,7 @@ pub returns : goal.returns
 returns c =
     let p = c.requires in
     head c.args.stream (to_z_pos w64 _ (omega (arith, p.to))) (to_z_pos w64 _ (omega (arith, p.count)))
-    (told c.bit-refused.type_inv ∙ c.bit-refused.ensures) (told c.bit-closed.type_inv ∙ c.bit-closed.ensures) (told c.bit-finished.type_inv ∙ c.bit-finished.ensures)
+    (told c.bit-refused.type_inv ∙ c.bit-refused.ensures) (told c.bit-closed.type_inv ∙ c.bit-closed.ensures)
+    (told c.bit-finished.type_inv ∙ c.bit-finished.ensures)
     (search rules)
     (to_z_pos w64 _ (omega (arith, p.steps)))

@@ -5,7 +5,6 @@ use lib.IntN.{ℤ, pos}
 use Rattle.rounding.proofs.Machine.{told}
 use Rattle.ranges.specs.Ranges.{within}
 use Rattle.capi.specs.Fragments.{is_flag, state_range}
-use borrow.Author.Rules.{rules}
 use Rattle.capi.proofs.state.in_range.Goals as goal
 
 pub returns : goal.returns

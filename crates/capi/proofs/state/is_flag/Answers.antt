@@ -2,7 +2,6 @@
 use mathlib.Core.Path.{◌∙◌, ap}
 use Rattle.rounding.proofs.Machine.{rd}
 use Rattle.capi.specs.Fragments.{is_flag}
-use borrow.Author.Rules.{rules}
 use Rattle.capi.proofs.state.is_flag.Goals as goal
 
 pub returns : goal.returns

@@ -1,11 +1,10 @@
 -- `capi::state::kept_in` meets its contract. Assumes nothing.
-use mathlib.Core.Path.{◌≡◌, ◌∙◌, ap}
+use mathlib.Core.Path.{◌∙◌, ap}
 use native.Mathlib.Omega.{arith}
 use lib.IntN.{nat_abs}
 use Rattle.rounding.proofs.Machine.{told}
 use Rattle.chain.specs.Numbers.{number}
 use Rattle.capi.proofs.Streams.{counts, a-count}
-use borrow.Author.Rules.{rules}
 use Rattle.capi.proofs.state.kept_in.Goals as goal
 
 pub count-requires : goal.count-requires

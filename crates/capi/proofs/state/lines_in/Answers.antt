@@ -1,12 +1,10 @@
 -- `capi::state::lines_in` meets its contract. Assumes nothing.
-use mathlib.Core.Path.{◌≡◌, ◌∙◌, ap}
-use Prim.Native.Nat.{◌≤◌}
+use mathlib.Core.Path.{◌∙◌, ap}
 use native.Mathlib.Omega.{arith}
 use lib.IntN.{nat_abs}
 use Rattle.rounding.proofs.Machine.{told}
 use Rattle.chain.specs.Numbers.{number}
 use Rattle.capi.proofs.Streams.{counts, a-count, size_of}
-use borrow.Author.Rules.{rules}
 use Rattle.capi.proofs.state.lines_in.Goals as goal
 
 pub count-requires : goal.count-requires

@@ -1,9 +1,6 @@
-use mathlib.Core.Path.{◌≡◌, refl, ◌∙◌}
+use mathlib.Core.Path.{◌≡◌}
 use Prim.Native.Nat.{◌-◌, ◌≤◌}
-use native.Mathlib.Omega.{arith}
-use lib.ListN.{length, take, length-set}
-use Rattle.capi.proofs.Streams.{one_more, all-copied}
-use borrow.Author.Rules.{rules}
+use lib.ListN.{length, take}
 use Rattle.capi.proofs.state.put_bytes.Given as goal
 
 abbrev pub invariant-loop-i : goal.invariant-loop-i

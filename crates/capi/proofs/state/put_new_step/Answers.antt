@@ -47,7 +47,7 @@ copy-requires c = let z : length c.row_of-row.result ≡ 13 = search rules in om
 
 pub returns : goal.returns
 returns c =
-    let s = c in
     c.copy.ensures
-    ∙ ap (λ (l : List ℤ). sets s.args.n.now (7 + 13 * c.count-steps.result) l) c.row_of-row.ensures
-    ∙ new-step s.args.n.now s.args.chain (steps c.before.before.before.before.before.before) (omega (arith, steps c.before.before.before.before.before.before, s.requires.3))
+    ∙ ap (λ (l : List ℤ). sets c.args.n.now (7 + 13 * c.count-steps.result) l) c.row_of-row.ensures
+    ∙ new-step c.args.n.now c.args.chain (steps c.before.before.before.before.before.before)
+    (omega (arith, steps c.before.before.before.before.before.before, c.requires.3))

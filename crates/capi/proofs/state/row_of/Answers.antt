@@ -36,15 +36,18 @@ epoch-after : (c : TheAfterStructTold4) → to_z w64 (of_z w64 c.args.step.after
 epoch-after c = search rules
 
 pub returns-in-Shift : goal.returns-in-Shift
-returns-in-Shift c = shift-row c.args.step (search rules) (search rules) (search rules) (search rules) c.in-Shift.is (search rules) (search rules) (search rules)
+returns-in-Shift c =
+    shift-row c.args.step (search rules) (search rules) (search rules) (search rules) c.in-Shift.is (search rules) (search rules) (search rules)
 
 pub returns-in-Velocity : goal.returns-in-Velocity
-returns-in-Velocity c = velocity-row c.args.step (search rules) (search rules) (search rules) (search rules) c.in-Velocity.is (search rules) (search rules) (search rules)
+returns-in-Velocity c =
+    velocity-row c.args.step (search rules) (search rules) (search rules) (search rules) c.in-Velocity.is (search rules) (search rules) (search rules)
 
 pub returns-in-BursaWolf : goal.returns-in-BursaWolf
 returns-in-BursaWolf c =
     let t = c.struct_told-in-BursaWolf-1.given in
-    bursa-wolf-row c.args.step (datum-before c.before.before.before.before.before.before) (epoch-before c.before.before.before.before.before) (datum-after c.before.before.before.before) (epoch-after c.before.before.before) c.in-BursaWolf.is
+    bursa-wolf-row c.args.step (datum-before c.before.before.before.before.before.before) (epoch-before c.before.before.before.before.before)
+    (datum-after c.before.before.before.before) (epoch-after c.before.before.before) c.in-BursaWolf.is
     (told c.convention_number-convention.type_inv ∙ c.convention_number-convention.ensures)
     (told t.1.0.1) (told t.1.1.0.1) (told t.1.1.1.0.1) (told t.1.1.1.1.0.1) (told t.1.1.1.1.1.0.1) (told t.1.1.1.1.1.1.0.1) (told t.1.1.1.1.1.1.1.0.1)
 

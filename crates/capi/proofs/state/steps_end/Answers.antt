@@ -1,11 +1,9 @@
 -- `capi::state::steps_end` meets its contract. Assumes nothing.
-use mathlib.Core.Path.{◌≡◌, ◌∙◌, ap}
+use mathlib.Core.Path.{ap}
 use Prim.Native.Nat.{ℕ, ◌+◌, ◌*◌, ◌≤◌}
 use native.Mathlib.Omega.{arith}
-use lib.IntN.{nat_abs}
 use Rattle.chain.specs.Numbers.{number}
 use Rattle.capi.proofs.Streams.{counts, size_of}
-use borrow.Author.Rules.{rules}
 use Rattle.capi.proofs.state.steps_end.Tie as tie
 use Rattle.capi.proofs.state.steps_end.Lts as lts
 use Rattle.capi.proofs.state.steps_end.Reads as reads

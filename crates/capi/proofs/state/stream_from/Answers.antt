@@ -1,40 +1,30 @@
 -- `capi::state::stream_from` meets its contract: each number is read where it stands. Assumes nothing.
-use mathlib.Core.Path.{◌≡◌, ◌∙◌, ap}
+use mathlib.Core.Path.{◌∙◌, ap}
 use native.Mathlib.Omega.{arith}
 use lib.IntN.{nat_abs}
 use Rattle.rounding.proofs.Machine.{told}
 use Rattle.chain.specs.Numbers.{number}
 use Rattle.capi.specs.Fragments.{flag}
 use Rattle.capi.proofs.Streams.{counts, a-count, size_of, standing-parts, from_parts}
-use borrow.Author.Rules.{rules}
-use Rattle.capi.proofs.state.stream_from.Tie as tie
-use Rattle.capi.proofs.state.stream_from.Lts as lts
-use Rattle.capi.proofs.state.stream_from.Reads as reads
 use Rattle.capi.proofs.state.stream_from.Goals as goal
-
-abbrev TheAfterCount : Type 0
-TheAfterCount = lts.After-count tie.the-claims reads.Pre reads.Post
 
 pub count-lines-requires : goal.count-lines-requires
 count-lines-requires c =
     let n = c.args.n.now in
     rw (told {z = number n 0} c.count-arg-1.given) (a-count (number n 0) 1000000 (omega arith) (counts n c.requires.2).lines)
 
--- how many lines were answered
-lines : (c : TheAfterCount) → c.count-lines.result ≡ nat_abs (number c.args.n.now 0)
-lines c = c.count-lines.ensures ∙ ap nat_abs (told {z = number c.args.n.now 0} c.count-arg-1.given)
-
 pub overflow_add-result : goal.overflow_add-result
 overflow_add-result c =
-    let s = c in
-    omega (arith, lines c.before.before.before.before.before.before.before.before.before, size_of (number s.args.n.now 0) 1000000 (counts s.args.n.now s.requires.2).lines)
+    let lines = c.count-lines.ensures ∙ ap nat_abs (told {z = number c.args.n.now 0} c.count-arg-1.given) in
+    omega (arith, lines, size_of (number c.args.n.now 0) 1000000 (counts c.args.n.now c.requires.2).lines)
 
 pub returns : goal.returns
 returns c =
     let s = c.args in
     let n = s.n.now in
+    let lines = c.count-lines.ensures ∙ ap nat_abs (told {z = number c.args.n.now 0} c.count-arg-1.given) in
     from_parts n s.bytes.now
-    (standing-parts n (lines c.before.before.before.before.before.before.before.before.before) c.chain_in-chain.ensures
+    (standing-parts n lines c.chain_in-chain.ensures
     (c.flag-refused.ensures ∙ ap flag (told {z = number n 2} c.flag-arg-1.given))
     (c.flag-closed.ensures ∙ ap flag (told {z = number n 3} c.flag-arg-2-1.given)))
     c.kept_in-kept_count.ensures

@@ -44,5 +44,8 @@ overflow_add-result c = omega (arith, shifted c (c.args.s - 13 - c.args.places))
 pub returns : goal.returns
 returns c =
     let a = c.args in
-    let j = a.s - 13 - a.places in record { exact = ap (λ (g : ℕ). ((a.t * g / 4096 + g * 1099511627776) / 2 ^ j + 1) / 2) c.fives-five.ensures
-          ∙ returned a.t a.places a.s c.requires.3 c.requires.1; small = omega (arith, shifted c j) }
+    let j = a.s - 13 - a.places in record {
+      exact = ap (λ (g : ℕ). ((a.t * g / 4096 + g * 1099511627776) / 2 ^ j + 1) / 2) c.fives-five.ensures
+          ∙ returned a.t a.places a.s c.requires.3 c.requires.1;
+      small = omega (arith, shifted c j);
+    }

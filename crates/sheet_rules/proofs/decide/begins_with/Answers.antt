@@ -2,8 +2,7 @@
 use mathlib.Core.Path.{◌≡◌, sym}
 use native.Mathlib.Omega.{arith}
 use borrow.Author.Tests.{ne_eqb}
-use lib.ListN.{length, get_or, get_or-eq_default}
-use borrow.Author.Rules.{rules}
+use lib.ListN.{get_or, get_or-eq_default}
 use Rattle.sheet_rules.proofs.decide.begins_with.Goals as goal
 
 pub returns-then-text-eq0 : goal.returns-then-text-eq0

@@ -2,11 +2,11 @@
 use mathlib.Core.Path.{◌≡◌, refl, sym, ◌∙◌}
 use mathlib.Core.Bool.{true, false, or-true}
 use Rattle.sheet_rules.proofs.Laws.{answered, gave-refusal, gave-point}
-use borrow.Author.Rules.{rules}
 use Rattle.sheet_rules.proofs.decide.convert_point.Goals as goal
 
 pub returns-then-state : goal.returns-then-state
-returns-then-state c = λ s h. let q : s.refused ≡ true = sym h.refused ∙ c.if-state.true in rw q (gave-refusal h _ _ _ _ refl (sym (or-true s.closed)) _ _ _ c.refuse.ensures)
+returns-then-state c =
+    λ s h. let q : s.refused ≡ true = sym h.refused ∙ c.if-state.true in rw q (gave-refusal h _ _ _ _ refl (sym (or-true s.closed)) _ _ _ c.refuse.ensures)
 
 pub returns-in-Refused : goal.returns-in-Refused
 returns-in-Refused c =

@@ -7,7 +7,8 @@ use borrow.Author.Rules.{rules}
 use Rattle.sheet_rules.proofs.decide.decide_edition.Goals as goal
 
 pub returns-in-Malformed : goal.returns-in-Malformed
-returns-in-Malformed c = λ s l h. let e = sym c.read_edition.ensures ∙ c.in-Malformed.is in rw e (gave-refusal h _ _ _ _ refl h.closed _ _ _ c.malformed.ensures)
+returns-in-Malformed c =
+    λ s l h. let e = sym c.read_edition.ensures ∙ c.in-Malformed.is in rw e (gave-refusal h _ _ _ _ refl h.closed _ _ _ c.malformed.ensures)
 
 pub returns-in-Edition : goal.returns-in-Edition
 returns-in-Edition c =

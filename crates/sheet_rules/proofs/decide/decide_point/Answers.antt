@@ -1,5 +1,5 @@
 -- `sheet_rules::decide::decide_point` meets its contract. Assumes nothing.
-use mathlib.Core.Path.{◌≡◌, refl, sym, ◌∙◌}
+use mathlib.Core.Path.{◌≡◌, sym, ◌∙◌}
 use mathlib.Core.Bool.{or-true, or-false}
 use Rattle.line.proofs.Readers.{point-sound}
 use Rattle.sheet_rules.proofs.Laws.{gave-refusal}

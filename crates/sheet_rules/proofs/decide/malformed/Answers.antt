@@ -1,5 +1,4 @@
 -- `sheet_rules::decide::malformed` meets its contract. Assumes nothing.
-use borrow.Author.Rules.{rules}
 use Rattle.sheet_rules.specs.State.{refused_in}
 use Rattle.sheet_rules.proofs.decide.malformed.Goals as goal
 

@@ -1,7 +1,6 @@
 -- `sheet_rules::decide::take_edition` meets its contract. Assumes nothing.
 use mathlib.Core.Path.{◌≡◌, refl, sym, ◌∙◌}
 use native.Mathlib.Omega.{arith}
-use borrow.Author.Tests.{not-true, not-false}
 use mir.Syntax.{w64}
 use mir.Val.{to_z, of_z}
 use Rattle.sheet_rules.proofs.Laws.{gave-late-edition, gave-no-edition, gave-edition}

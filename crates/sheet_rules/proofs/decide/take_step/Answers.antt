@@ -18,7 +18,8 @@ returns-then-number-ne0 c =
     let a = c in
     let x = c in
     let y : to_z w64 (of_z w64 a.args.state.profile) ≡ a.args.state.profile = search rules in
-    gave-no-step h a.args.step c.if-state.false c.if-state-2.false a.requires.1 _ (rw y at x.extend-number.ensures.0) c.if-number-ne0.true _ (rw y at x.extend-number.ensures.1) _ c.refuse-then-number-ne0.ensures
+    gave-no-step h a.args.step c.if-state.false c.if-state-2.false a.requires.1 _ (rw y at x.extend-number.ensures.0) c.if-number-ne0.true _
+    (rw y at x.extend-number.ensures.1) _ c.refuse-then-number-ne0.ensures
 
 pub returns : goal.returns
 returns c =
@@ -26,4 +27,5 @@ returns c =
     let a = c in
     let x = c in
     let y : to_z w64 (of_z w64 a.args.state.profile) ≡ a.args.state.profile = search rules in
-    gave-step h a.args.step c.if-state.false c.if-state-2.false a.requires.1 (sym (rw y at x.extend-number.ensures.0) ∙ c.if-number-ne0.false) _ (rw y at x.extend-number.ensures.1) _ refl c.after-next.ensures
+    gave-step h a.args.step c.if-state.false c.if-state-2.false a.requires.1 (sym (rw y at x.extend-number.ensures.0) ∙ c.if-number-ne0.false) _
+    (rw y at x.extend-number.ensures.1) _ refl c.after-next.ensures

@@ -27,4 +27,5 @@ pub returns : goal.returns
 unfolding sound_at
 returns c =
     let s = c.before.before in
-    ap₂ ◌&&◌ c.is_counted.ensures (ap (λ (n : ℕ). eqb n 0) (c.fault_in.ensures ∙ ap (λ (y : ℤ). first (chain_tests (chain_from y s.args.steps.now))) (year-is s)))
+    ap₂ ◌&&◌ c.is_counted.ensures (ap (λ (n : ℕ). eqb n 0)
+    (c.fault_in.ensures ∙ ap (λ (y : ℤ). first (chain_tests (chain_from y s.args.steps.now))) (year-is s)))

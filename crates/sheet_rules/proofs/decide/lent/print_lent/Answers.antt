@@ -11,27 +11,13 @@ use mir.Val.{to_z, of_z}
 use borrow.Author.Rules.{rules}
 use borrow.Author.Tests.{eqb-true, not-true}
 use Rattle.ranges.proofs.Ranges.{both}
-use Rattle.chain.specs.declared.Chain.{Chain}
 use Rattle.chain.specs.Numbers.{chain_from}
 use Rattle.line.specs.declared.PlacedLine.{PlacedLine}
 use Rattle.line.specs.Readers.{read_point, datum_place, placed_point}
 use Rattle.line.proofs.AsWritten.{one-read, one-whole, placed_end}
 use Rattle.sheet_rules.specs.OneLine.{point_answered}
 use Rattle.sheet_rules.proofs.Points.{printed-so}
-use Rattle.sheet_rules.proofs.decide.lent.print_lent.Tie as tie
-use Rattle.sheet_rules.proofs.decide.lent.print_lent.Lts as lts
-use Rattle.sheet_rules.proofs.decide.lent.print_lent.Reads as reads
 use Rattle.sheet_rules.proofs.decide.lent.print_lent.Goals as goal
-
-abbrev TheStart : Type 0
-TheStart = lts.Start tie.the-claims reads.Pre reads.Post
-
--- the profile is read as it was handed over
-year-is : (s : TheStart) → to_z w64 (of_z w64 s.args.profile) ≡ s.args.profile
-year-is s = search rules
-
-abbrev chain : TheStart → Chain
-chain s = chain_from s.args.profile s.args.steps.now
 
 -- a text that is one line is read as that line
 whole : (y : ℤ) (text : List ℕ) {r : PlacedLine} → r ≡ placed_point y text 0 → r.end ≡ length text → (r.line ≡ read_point y text) × (r.place ≡ datum_place text)
@@ -39,22 +25,18 @@ whole y text e h = one-read y text (e ∙ one-whole y text (sym (ap (λ (r : Pla
 
 pub print_moved-requires : goal.print_moved-requires
 print_moved-requires c =
-    let g = c.before in
-    let i = g in
-    let o = whole _ _ i.read_placed-first.ensures (eqb-true _ _ (both _ _ i.if-first-text.true).0) in
-    (sym o.0 ∙ g.in-Point.is, o.1)
+    let o = whole _ _ c.read_placed-first.ensures (eqb-true _ _ (both _ _ c.if-first-text.true).0) in
+    (sym o.0 ∙ c.in-Point.is, o.1)
 
 pub returns-in-Point : goal.returns-in-Point
 returns-in-Point c =
-    let m = c.before.before in
-    let i = m.before.before.before in
-    let s = i.before.before.before.before.before in
-    let t = both (eqb i.read_placed-first.result.end (length s.args.text.now)) _ i.if-first-text.true in
-    printed-so (ap (λ (b : Bool). point_answered (chain s) s.args.line b s.args.text.now) (sym (not-true _ t.1)))
-    (rw (year-is s) at m.print_moved.ensures)
+    let a = c.args in
+    let y : to_z w64 (of_z w64 a.profile) ≡ a.profile = search rules in
+    let t = both (eqb c.read_placed-first.result.end (length a.text.now)) _ c.if-first-text.true in
+    printed-so (ap (λ (b : Bool). point_answered (chain_from a.profile a.steps.now) a.line b a.text.now) (sym (not-true _ t.1))) (rw y at c.print_moved.ensures)
 
 pub returns : goal.returns
 returns c =
-    let a = c.before.before in
-    let s = a.before.before.before.before.before.before.before in
-    rw (year-is s) at a.print_any.ensures
+    let a = c.args in
+    let y : to_z w64 (of_z w64 a.profile) ≡ a.profile = search rules in
+    rw y at c.print_any.ensures

@@ -2,7 +2,6 @@
 use mathlib.Core.Path.{◌∙◌}
 use borrow.Author.Tests.{eq-eqb}
 use Rattle.sheet_rules.proofs.OneLine.{sound-parts, sound-short}
-use borrow.Author.Rules.{rules}
 use Rattle.sheet_rules.proofs.decide.standing.answer_prepared.Goals as goal
 
 pub answer_within-requires : goal.answer_within-requires

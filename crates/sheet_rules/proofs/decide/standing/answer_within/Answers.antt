@@ -1,5 +1,5 @@
 -- `sheet_rules::decide::standing::answer_within` meets its contract. Assumes nothing.
-use mathlib.Core.Path.{◌≡◌, refl, sym, ◌∙◌}
+use mathlib.Core.Path.{◌≡◌, sym, ◌∙◌}
 use mir.Syntax.{w64}
 use mir.Val.{to_z, of_z}
 use Rattle.sheet_rules.specs.OneLine.{sheet_at}
@@ -20,4 +20,5 @@ returns c =
     let y : to_z w64 (of_z w64 s.args.standing.chain.profile) ≡ s.args.standing.chain.profile = search rules in
     let g = c.decide_any-decided.ensures (sheet_at s.args.standing) (rw y (held s.args.standing _ s.requires.2 s.requires.3)) in
     let e : to_z w64 (of_z w64 c.decide_any-decided.result.state.profile) ≡ c.decide_any-decided.result.state.profile = search rules in
-    within-answered s.args.standing s.args.text.now s.requires.0 _ _ _ _ _ g.holds.line (rw e (chain_by s.args.standing s.args.text.now _ _ _ g.reply g.holds.profile c.chain_after-chain.ensures)) g.holds.refused g.holds.closed g.reply
+    within-answered s.args.standing s.args.text.now s.requires.0 _ _ _ _ _ g.holds.line
+    (rw e (chain_by s.args.standing s.args.text.now _ _ _ g.reply g.holds.profile c.chain_after-chain.ensures)) g.holds.refused g.holds.closed g.reply

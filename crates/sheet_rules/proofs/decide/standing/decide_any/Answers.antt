@@ -1,12 +1,11 @@
 -- `sheet_rules::decide::standing::decide_any` meets its contract. Of no bytes the first is 0, no line's letter. Assumes nothing.
-use mathlib.Core.Path.{◌≡◌, refl, sym, ◌∙◌}
+use mathlib.Core.Path.{◌≡◌}
 use native.Mathlib.Omega.{arith}
 use borrow.Author.Tests.{ne_eqb}
-use lib.ListN.{length, get_or, get_or-eq_default}
+use lib.ListN.{get_or, get_or-eq_default}
 use Rattle.line.specs.Bytes.{letter_s, letter_p, letter_e}
 use Rattle.sheet_rules.specs.Sheet.{reply_of, next_of}
 use Rattle.sheet_rules.proofs.Laws.{gave-malformed}
-use borrow.Author.Rules.{rules}
 use Rattle.sheet_rules.proofs.decide.standing.decide_any.Goals as goal
 
 pub returns-then-text-eq0 : goal.returns-then-text-eq0

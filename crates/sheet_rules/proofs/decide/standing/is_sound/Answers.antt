@@ -3,7 +3,6 @@ use mathlib.Core.Path.{sym, ap}
 use Prim.Native.Nat.{ℕ}
 use lib.Dec.{eqb}
 use Rattle.sheet_rules.proofs.OneLine.{sound-told}
-use borrow.Author.Rules.{rules}
 use Rattle.sheet_rules.proofs.decide.standing.is_sound.Goals as goal
 
 pub returns : goal.returns

@@ -1,5 +1,4 @@
 -- `sheet_rules::decide::whole::passed` meets its contract. Assumes nothing.
-use mathlib.Core.Path.{refl}
 use borrow.Author.Rules.{rules}
 use Rattle.sheet_rules.specs.State.{passed_in}
 use Rattle.sheet_rules.proofs.decide.whole.passed.Goals as goal

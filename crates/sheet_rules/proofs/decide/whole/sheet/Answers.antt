@@ -1,11 +1,11 @@
 -- `sheet_rules::decide::whole::sheet` meets its contract. Assumes nothing.
 use Prim.Native.Nat.{ℕ, ◌-◌, ◌<◌}
-use mathlib.Core.Path.{◌≡◌, refl, sym, ap, ◌∙◌}
+use mathlib.Core.Path.{◌≡◌, refl, ap, ◌∙◌}
 use mathlib.Core.List.{List}
 use lib.IntN.{ℤ}
 use native.Mathlib.Omega.{arith}
 use lib.Dec.{eqb}
-use lib.ListN.{length, get_or, take, drop}
+use lib.ListN.{get_or, take, drop}
 use lib.Seq.{get_or-take, get_or-drop}
 use mathlib.Core.Bool.{true}
 use mir.Syntax.{w64}
@@ -20,13 +20,12 @@ use Rattle.line.proofs.Lines.{piece}
 use Rattle.line.proofs.BareLines.{row_inside}
 use Rattle.listing.proofs.Fold.{printed-long}
 use Rattle.listing.proofs.Room.{prints}
-use Rattle.listing.proofs.Loop.{Midway, starts, goes-printed, goes_on, goes-past, ends}
-use Rattle.sheet_rules.specs.Sheet.{Sheet, fresh, rules, sheet_of}
-use Rattle.sheet_rules.specs.State.{Holds}
+use Rattle.listing.proofs.Loop.{starts, goes-printed, goes_on, goes-past, ends}
+use Rattle.sheet_rules.specs.Sheet.{fresh, rules, sheet_of}
 use Rattle.sheet_rules.proofs.Laws.{point-line-shown}
 use Rattle.sheet_rules.proofs.Room.{roomy}
 use Rattle.sheet_rules.proofs.BareLines.{bare, hold-feeds}
-use borrow.Author.Rules.{rules}
+use borrow.Author.Rules.{rules as std_rules}
 use Rattle.sheet_rules.proofs.decide.whole.sheet.Goals as goal
 
 -- where a line that was read ends
@@ -40,31 +39,45 @@ first_byte input from e h q =
 
 pub returns-then-input-gt-LONGEST_INPUT : goal.returns-then-input-gt-LONGEST_INPUT
 unfolding sheet_of
-returns-then-input-gt-LONGEST_INPUT c = prints roomy refl (rw (printed-long rules fresh c.args.input.now (omega (arith, c.if-input-gt-LONGEST_INPUT.true))) c.write_refusal.ensures)
+returns-then-input-gt-LONGEST_INPUT c =
+    prints roomy refl (rw (printed-long rules fresh c.args.input.now (omega (arith, c.if-input-gt-LONGEST_INPUT.true))) c.write_refusal.ensures)
 
 pub loop-from-init : goal.loop-from-init
 loop-from-init c = starts rules _ fresh refl _ _ c.fresh-state.ensures
 
 pub passed-state-requires : goal.passed-state-requires
-passed-state-requires c = let k = c.loop-from.invariant in let l = row_inside c.write_feeds-feeds.result.lines _ c.loop-from.from c.loop-from.invariant.inside c.write_feeds-feeds.ensures.each in omega (arith, l, k.counted, k.held.line, c.if-input-gt-LONGEST_INPUT.false)
+passed-state-requires c =
+    let k = c.loop-from.invariant in
+    let l = row_inside c.write_feeds-feeds.result.lines _ c.loop-from.from c.loop-from.invariant.inside c.write_feeds-feeds.ensures.each in
+    omega (arith, l, k.counted, k.held.line, c.if-input-gt-LONGEST_INPUT.false)
 
 pub overflow_add-from : goal.overflow_add-from
-overflow_add-from c = let l = row_inside c.write_feeds-feeds.result.lines _ c.loop-from.from c.loop-from.invariant.inside c.write_feeds-feeds.ensures.each in record { fits = omega (arith, l, c.if-input-gt-LONGEST_INPUT.false) }
+overflow_add-from c =
+    let l = row_inside c.write_feeds-feeds.result.lines _ c.loop-from.from c.loop-from.invariant.inside c.write_feeds-feeds.ensures.each in
+    record { fits = omega (arith, l, c.if-input-gt-LONGEST_INPUT.false) }
 
 pub loop-from-smaller-then-input-from-eq-LINE_FEED : goal.loop-from-smaller-then-input-from-eq-LINE_FEED
-loop-from-smaller-then-input-from-eq-LINE_FEED c = let h = c.write_feeds-feeds.ensures.some (record { inside = omega arith; byte = c.if-input-from-eq-LINE_FEED.true }) in omega arith
+loop-from-smaller-then-input-from-eq-LINE_FEED c =
+    let h = c.write_feeds-feeds.ensures.some (record { inside = omega arith; byte = c.if-input-from-eq-LINE_FEED.true }) in omega arith
 
 pub loop-from-preserved-then-input-from-eq-LINE_FEED : goal.loop-from-preserved-then-input-from-eq-LINE_FEED
-loop-from-preserved-then-input-from-eq-LINE_FEED c = goes-past rules _ fresh refl _ _ bare _ (λ s h. (h.line, rw c.passed-state.ensures (hold-feeds _ h))) c.write_feeds-feeds.ensures c.loop-from.invariant
+loop-from-preserved-then-input-from-eq-LINE_FEED c =
+    goes-past rules _ fresh refl _ _ bare _ (λ s h. (h.line, rw c.passed-state.ensures (hold-feeds _ h))) c.write_feeds-feeds.ensures c.loop-from.invariant
 
 pub slice_bounds-print_point-count : goal.slice_bounds-print_point-count
 slice_bounds-print_point-count c = let l = piece _ _ _ (ended _ _ _ c.read_placed-read.ensures) (omega arith) in omega arith
+
+pub slice_bounds-print_point-start : goal.slice_bounds-print_point-start
+slice_bounds-print_point-start c = let l = piece _ _ _ (ended _ _ _ c.read_placed-read.ensures) (omega arith) in omega arith
+
+pub slice_bounds-print_point-end : goal.slice_bounds-print_point-end
+slice_bounds-print_point-end c = let l = piece _ _ _ (ended _ _ _ c.read_placed-read.ensures) (omega arith) in omega arith
 
 pub print_point-done-requires : goal.print_point-done-requires
 print_point-done-requires c =
     let k = c.loop-from.invariant in
     let r = placed-read _ _ _ c.read_placed-read.ensures in
-    let profile : to_z w64 (of_z w64 c.loop-from.state.profile) ≡ c.loop-from.state.profile = search rules in
+    let profile : to_z w64 (of_z w64 c.loop-from.state.profile) ≡ c.loop-from.state.profile = search std_rules in
     (omega (arith, k.counted, k.held.line, k.inside, c.if-input-gt-LONGEST_INPUT.false), rw profile at r.0, r.1)
 
 pub loop-from-smaller-then-input-from-eq80 : goal.loop-from-smaller-then-input-from-eq80
@@ -82,14 +95,24 @@ loop-from-preserved-then-input-from-eq80 c =
 pub slice_bounds-decide-count : goal.slice_bounds-decide-count
 slice_bounds-decide-count c = let l = piece _ _ _ c.line_end-end.ensures (omega arith) in omega arith
 
+pub slice_bounds-decide-start : goal.slice_bounds-decide-start
+slice_bounds-decide-start c = let l = piece _ _ _ c.line_end-end.ensures (omega arith) in omega arith
+
+pub slice_bounds-decide-end : goal.slice_bounds-decide-end
+slice_bounds-decide-end c = let l = piece _ _ _ c.line_end-end.ensures (omega arith) in omega arith
+
 pub decide-decided-requires : goal.decide-decided-requires
-decide-decided-requires c = let l = piece _ _ _ c.line_end-end.ensures (omega arith) in let k = c.loop-from.invariant in (omega (arith, k.counted, k.held.line, k.inside, c.if-input-gt-LONGEST_INPUT.false), omega (arith, l.some, l.size))
+decide-decided-requires c =
+    let l = piece _ _ _ c.line_end-end.ensures (omega arith) in let k = c.loop-from.invariant in
+    (omega (arith, k.counted, k.held.line, k.inside, c.if-input-gt-LONGEST_INPUT.false), omega (arith, l.some, l.size))
 
 pub loop-from-smaller : goal.loop-from-smaller
 loop-from-smaller c = let l = piece _ _ _ c.line_end-end.ensures (omega arith) in omega arith
 
 pub loop-from-preserved : goal.loop-from-preserved
-loop-from-preserved c = goes_on rules _ fresh refl _ _ roomy _ _ c.line_end-end.ensures (omega (arith, c.loop-from-test.true)) (λ s h. let g = c.decide-decided.ensures s h in (g.reply, g.holds)) c.write_reply-at.ensures c.loop-from.invariant
+loop-from-preserved c =
+    goes_on rules _ fresh refl _ _ roomy _ _ c.line_end-end.ensures (omega (arith, c.loop-from-test.true))
+    (λ s h. let g = c.decide-decided.ensures s h in (g.reply, g.holds)) c.write_reply-at.ensures c.loop-from.invariant
 
 pub shape_of-out : goal.shape_of-out
 shape_of-out c = c.loop-from.invariant.size

@@ -1,6 +1,5 @@
 -- `sheet_rules::decide::whole::write_reply` meets its contract. Assumes nothing.
 use Rattle.line.proofs.Texts.{nothing}
-use borrow.Author.Rules.{rules}
 use Rattle.sheet_rules.proofs.decide.whole.write_reply.Goals as goal
 
 pub returns-in-Nothing : goal.returns-in-Nothing

@@ -18,11 +18,12 @@ use Rattle.line.proofs.Moved.{moved-line}
 use Rattle.line.proofs.Readers.{point-sound}
 use Rattle.sheet_rules.specs.declared.Reply.TheVariants as reply
 use Rattle.sheet_rules.proofs.Laws.{answered, gave-refusal, gave-point, shown}
-use borrow.Author.Rules.{rules}
 use Rattle.sheet_rules.proofs.decide.whole.printed.print_converted.Goals as goal
 
 pub returns-then-state : goal.returns-then-state
-returns-then-state c = λ s h. let q : s.refused ≡ true = sym h.refused ∙ c.if-state.true in rw q (shown (gave-refusal h _ _ _ _ refl (sym (or-true s.closed)) _ _ _ refl) c.print_refusal.ensures)
+returns-then-state c =
+    λ s h. let q : s.refused ≡ true = sym h.refused ∙ c.if-state.true in rw q
+    (shown (gave-refusal h _ _ _ _ refl (sym (or-true s.closed)) _ _ _ refl) c.print_refusal.ensures)
 
 pub returns-then-number-ne0 : goal.returns-then-number-ne0
 returns-then-number-ne0 c =

@@ -1,6 +1,5 @@
 -- `sheet_rules::decide::whole::printed::print_refusal` meets its contract. Assumes nothing.
 use Rattle.sheet_rules.specs.State.{refused_in}
-use borrow.Author.Rules.{rules}
 use Rattle.sheet_rules.proofs.decide.whole.printed.print_refusal.Goals as goal
 
 pub returns : goal.returns

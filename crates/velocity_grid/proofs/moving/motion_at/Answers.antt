@@ -63,16 +63,16 @@ pub slice_bounds-nodes-end : goal.slice_bounds-nodes-end
 slice_bounds-nodes-end c =
     let t = c.struct_told-in-Grid-1.given in
     roomy c.args.text.now c.in-Grid.g c.count-count.result c.node_space-nodes.result c.read_grid.new.nodes
-    (found c.args.text.now c.read_grid.result c.in-Grid.g c.count-count.result c.node_space-nodes.result c.read_grid.new.nodes _ _ c.read_grid.ensures c.in-Grid.is
-    c.count-count.ensures (told t.1.1.0.1) (told t.1.1.1.0.1) c.node_space-nodes.ensures)
+    (found c.args.text.now c.read_grid.result c.in-Grid.g c.count-count.result c.node_space-nodes.result c.read_grid.new.nodes _ _
+    c.read_grid.ensures c.in-Grid.is c.count-count.ensures (told t.1.1.0.1) (told t.1.1.1.0.1) c.node_space-nodes.ensures)
 
 pub slice_bounds-motion_on-end : goal.slice_bounds-motion_on-end
 slice_bounds-motion_on-end c =
     let t = c.struct_told-in-Grid-1.given in
     sym (length-take-le _ _
     (roomy c.args.text.now c.in-Grid.g c.count-count.result c.node_space-nodes.result c.read_grid.new.nodes
-    (found c.args.text.now c.read_grid.result c.in-Grid.g c.count-count.result c.node_space-nodes.result c.read_grid.new.nodes _ _ c.read_grid.ensures c.in-Grid.is
-    c.count-count.ensures (told t.1.1.0.1) (told t.1.1.1.0.1) c.node_space-nodes.ensures)))
+    (found c.args.text.now c.read_grid.result c.in-Grid.g c.count-count.result c.node_space-nodes.result c.read_grid.new.nodes _ _
+    c.read_grid.ensures c.in-Grid.is c.count-count.ensures (told t.1.1.0.1) (told t.1.1.1.0.1) c.node_space-nodes.ensures)))
 
 pub returns-in-Refused : goal.returns-in-Refused
 unfolding motion_of motion_with
@@ -93,6 +93,7 @@ returns-in-Grid c =
     found c.args.text.now c.read_grid.result c.in-Grid.g n fresh held _ _ c.read_grid.ensures c.in-Grid.is
     c.count-count.ensures (told t.1.1.0.1) (told t.1.1.1.0.1) c.node_space-nodes.ensures in
     c.motion_on.ensures
-    ∙ same-motion c.in-Grid.g (first c.args.text.now c.in-Grid.g n fresh held f) (rd s.ranges.latitude) (rd s.ranges.longitude) (rd s.ranges.datum) (rd s.ranges.before) (rd s.ranges.after)
+    ∙ same-motion c.in-Grid.g (first c.args.text.now c.in-Grid.g n fresh held f) (rd s.ranges.latitude) (rd s.ranges.longitude)
+    (rd s.ranges.datum) (rd s.ranges.before) (rd s.ranges.after)
     ∙ ap (λ (w : GridAnswer). motion_with w (grid_numbers s.args.text.now) s.args.latitude s.args.longitude s.args.datum s.args.before s.args.after)
     (sym f.is-grid)

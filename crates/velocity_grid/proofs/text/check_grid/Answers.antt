@@ -22,7 +22,8 @@ pub returns-in-Malformed : goal.returns-in-Malformed
 unfolding headed
 returns-in-Malformed c =
     ap Refused c.on_line.ensures
-    ∙ T.by_first _ _ c.line_end-end.ensures (omega (arith, c.if-text-eq0.false)) (header.Malformed c.in-Malformed.fault) (sym c.read_grid_header.ensures ∙ c.in-Malformed.is)
+    ∙ T.by_first _ _ c.line_end-end.ensures (omega (arith, c.if-text-eq0.false))
+    (header.Malformed c.in-Malformed.fault) (sym c.read_grid_header.ensures ∙ c.in-Malformed.is)
 
 pub returns-in-Header : goal.returns-in-Header
 returns-in-Header c =

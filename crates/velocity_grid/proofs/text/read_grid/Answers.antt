@@ -23,5 +23,8 @@ returns-in-Refused c =
 pub returns-in-Grid : goal.returns-in-Grid
 returns-in-Grid c =
     let a = c.args in
-    let e = sym c.check_grid.ensures ∙ c.in-Grid.is in
-    (sym e, c.fill.ensures ∙ ap (sets a.nodes.now 0) (sym (T.numbers_after _ _ c.line_end-start.ensures c.in-Grid.g e)) ∙ ap (λ (w : GridAnswer). room_after w (grid_numbers a.text.now) a.nodes.now) (sym e))
+    let e = sym c.check_grid.ensures ∙ c.in-Grid.is in (
+      sym e,
+      c.fill.ensures ∙ ap (sets a.nodes.now 0) (sym (T.numbers_after _ _ c.line_end-start.ensures c.in-Grid.g e))
+          ∙ ap (λ (w : GridAnswer). room_after w (grid_numbers a.text.now) a.nodes.now) (sym e),
+    )

@@ -15,10 +15,18 @@ said : (o : OriginNumbers) (a b : ℤ) (r : ProjectedMillimetres) → to_z w64 (
 said o a b r p q h = sym (rw (p, q) at h)
 
 pub returns-in-Refused : goal.returns-in-Refused
-returns-in-Refused c = rw (said c.args.o c.args.latitude c.args.longitude c.cassini_millimetres.result (search rules) (search rules) c.cassini_millimetres.ensures ∙ c.in-Refused.is)
+returns-in-Refused c =
+    rw
+    (said c.args.o c.args.latitude c.args.longitude c.cassini_millimetres.result (search rules) (search rules) c.cassini_millimetres.ensures
+    ∙ c.in-Refused.is)
 
 pub returns-in-Millimetres : goal.returns-in-Millimetres
 returns-in-Millimetres c =
     let e : to_z w64 (of_z w64 c.in-Millimetres.e) ≡ c.in-Millimetres.e = search rules in
     let n : to_z w64 (of_z w64 c.in-Millimetres.n) ≡ c.in-Millimetres.n = search rules in
-    rw (e, n, said c.args.o c.args.latitude c.args.longitude c.cassini_millimetres.result (search rules) (search rules) c.cassini_millimetres.ensures ∙ c.in-Millimetres.is)
+    rw (
+      e,
+      n,
+      said c.args.o c.args.latitude c.args.longitude c.cassini_millimetres.result (search rules) (search rules) c.cassini_millimetres.ensures
+          ∙ c.in-Millimetres.is,
+    )

@@ -16,7 +16,9 @@ said o x y z r p q s t h = sym (rw (p, q, s, t) at h)
 pub returns-in-Refused : goal.returns-in-Refused
 returns-in-Refused c =
     let at = c.args.point.position in
-    rw (said c.args.o.ellipsoid at.x at.y at.z c.geodetic_units.result (search rules) (search rules) (search rules) (search rules) c.geodetic_units.ensures ∙ c.in-Refused.is)
+    rw
+    (said c.args.o.ellipsoid at.x at.y at.z c.geodetic_units.result (search rules) (search rules) (search rules) (search rules) c.geodetic_units.ensures
+    ∙ c.in-Refused.is)
 
 pub returns-in-Units : goal.returns-in-Units
 returns-in-Units c =
@@ -24,5 +26,6 @@ returns-in-Units c =
     let latitude : to_z w64 (of_z w64 c.in-Units.latitude) ≡ c.in-Units.latitude = search rules in
     let longitude : to_z w64 (of_z w64 c.in-Units.longitude) ≡ c.in-Units.longitude = search rules in
     rw
-    (said c.args.o.ellipsoid at.x at.y at.z c.geodetic_units.result (search rules) (search rules) (search rules) (search rules) c.geodetic_units.ensures ∙ c.in-Units.is)
+    (said c.args.o.ellipsoid at.x at.y at.z c.geodetic_units.result (search rules) (search rules) (search rules) (search rules) c.geodetic_units.ensures
+    ∙ c.in-Units.is)
     (rw (latitude, longitude) at c.lay.ensures)

@@ -1,0 +1,28 @@
+use borrow.Author.Rules.{rules}
+use native.Mathlib.Omega.{arith}
+use mathlib.Core.Path.{◌≡◌, refl, sym, ap, ap₂, ◌∙◌}
+use mathlib.Core.Bool.{Bool, true, false, cond}
+use mathlib.Core.List.{List}
+use Prim.Native.Nat.{ℕ, ◌≤◌, ◌<◌, ◌-◌, ◌+◌}
+use lib.ListN.{length, get_or, set, length-set}
+use lib.Dec.{eqb}
+use borrow.Author.Tests.{eq-eqb, ne_eqb, eqb-true, eqb-false}
+use Rattle.latest.specs.Rank.{key_of, group_of, rank_of, pack}
+use Rattle.latest.specs.Counts.{stored}
+use Rattle.latest.specs.Marks.{next_mark, mark_of, fresh, stand, settle}
+use Rattle.latest.proofs.Small.{pack-test, pack-no, mark-more, mark-first}
+use Rattle.latest.proofs.judge.fresh_standing.Statement.{statement}
+use Rattle.latest.proofs.judge.fresh_standing.Tie as tie
+use Rattle.latest.proofs.judge.fresh_standing.Reads as reads
+use Rattle.latest.proofs.judge.fresh_standing.Lts as lts
+
+-- src/judge.rt:85:9
+returns : tie.Need-returns
+returns c = rw (eq-eqb c.before.args.mark 17 c.if1.true)
+
+-- src/judge.rt:81:1
+returns-2 : tie.Need-returns-2
+returns-2 c = rw (ne_eqb c.before.args.mark 17 c.if1.false)
+
+pub fresh-standing-spec : {M : Type 1} → statement M
+fresh-standing-spec = tie.close (tie.spec returns returns-2)

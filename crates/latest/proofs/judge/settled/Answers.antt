@@ -11,18 +11,10 @@ use Rattle.latest.specs.Rank.{key_of, group_of, rank_of, pack}
 use Rattle.latest.specs.Counts.{stored}
 use Rattle.latest.specs.Marks.{next_mark, mark_of, fresh, stand, settle}
 use Rattle.latest.proofs.Small.{pack-test, pack-no, mark-more, mark-first}
-use Rattle.latest.proofs.judge.fresh_standing.Statement.{statement}
-use Rattle.latest.proofs.judge.fresh_standing.Tie as tie
-use Rattle.latest.proofs.judge.fresh_standing.Reads as reads
-use Rattle.latest.proofs.judge.fresh_standing.Lts as lts
+use Rattle.latest.proofs.judge.settled.Goals as goal
 
--- src/judge.rt:85:9
-returns : tie.Need-returns
-returns c = rw (eq-eqb c.before.args.mark 17 c.if1.true)
+pub returns-then-standing-eq1 : goal.returns-then-standing-eq1
+returns-then-standing-eq1 c = rw (eq-eqb c.args.standing 1 c.if-standing-eq1.true)
 
--- src/judge.rt:81:1
-returns-2 : tie.Need-returns-2
-returns-2 c = rw (ne_eqb c.before.args.mark 17 c.if1.false)
-
-pub fresh-standing-spec : {M : Type 1} → statement M
-fresh-standing-spec = tie.close (tie.spec returns returns-2)
+pub returns : goal.returns
+returns c = rw (ne_eqb c.args.standing 1 c.if-standing-eq1.false)

@@ -11,18 +11,10 @@ use Rattle.latest.specs.Rank.{key_of, group_of, rank_of, pack}
 use Rattle.latest.specs.Counts.{stored}
 use Rattle.latest.specs.Marks.{next_mark, mark_of, fresh, stand, settle}
 use Rattle.latest.proofs.Small.{pack-test, pack-no, mark-more, mark-first}
-use Rattle.latest.proofs.judge.settled.Statement.{statement}
-use Rattle.latest.proofs.judge.settled.Tie as tie
-use Rattle.latest.proofs.judge.settled.Reads as reads
-use Rattle.latest.proofs.judge.settled.Lts as lts
+use Rattle.latest.proofs.judge.fresh_standing.Goals as goal
 
--- src/judge.rt:116:9
-returns : tie.Need-returns
-returns c = rw (eq-eqb c.before.args.standing 1 c.if1.true)
+pub returns-then-mark-eq17 : goal.returns-then-mark-eq17
+returns-then-mark-eq17 c = rw (eq-eqb c.args.mark 17 c.if-mark-eq17.true)
 
--- src/judge.rt:112:1
-returns-2 : tie.Need-returns-2
-returns-2 c = rw (ne_eqb c.before.args.standing 1 c.if1.false)
-
-pub settled-spec : {M : Type 1} → statement M
-settled-spec = tie.close (tie.spec returns returns-2)
+pub returns : goal.returns
+returns c = rw (ne_eqb c.args.mark 17 c.if-mark-eq17.false)

@@ -1,0 +1,138 @@
+use borrow.Author.Rules.{rules}
+use native.Mathlib.Omega.{arith}
+use mathlib.Core.Path.{◌≡◌, refl, sym, ap, ap₂, ◌∙◌}
+use mathlib.Core.Bool.{Bool, true, false, cond}
+use mathlib.Core.List.{List}
+use Prim.Native.Nat.{ℕ, ◌≤◌, ◌<◌, ◌-◌, ◌+◌}
+use lib.ListN.{length, get_or, set, length-set}
+use Rattle.latest.proofs.Columns.{Words}
+use Rattle.latest.proofs.Judging.{Judging, judging-none, judging-more, judged}
+use Rattle.latest.proofs.judge.judge.Goals as goal
+
+pub marks-requires : goal.marks-requires
+marks-requires c =
+    let q = c.requires.0 in
+    let d = c.requires.1 in
+    (q.0, q.1, q.2, q.3, (λ p h. d.below p h), q.5)
+
+pub loop-k-init : goal.loop-k-init
+loop-k-init c =
+    let a = c.args in
+    judging-none a.x.now a.h.now a.l.now a.s.now a.b.now a.o.now a.v.now 0 c.requires.0.4
+
+pub offset_bounds-w-k : goal.offset_bounds-w-k
+offset_bounds-w-k c =
+    let v = c.loop-k in
+    let a = c.args in
+    let q = c.requires.0 in
+    let d = c.requires.1 in
+    let o = a.o.now in
+    let k = v.k in
+    let g = v.invariant in
+    omega (arith, g.k-in, c.well_formed.1.1.1.1.0)
+
+pub bounds-w-k : goal.bounds-w-k
+bounds-w-k c =
+    let v = c.loop-k in
+    let a = c.args in
+    let q = c.requires.0 in
+    let d = c.requires.1 in
+    let o = a.o.now in
+    let k = v.k in
+    let g = v.invariant in
+    let wl : length c.marks.new.1.1.1.1.1.1.0 ≡ length a.w.now = c.marks.auto.1.1.1.1.1.1.0 in
+    omega (arith, g.k-in, q.3)
+
+pub standing_at-standing-requires : goal.standing_at-standing-requires
+standing_at-standing-requires c =
+    let v = c.loop-k in
+    let a = c.args in
+    let q = c.requires.0 in
+    let d = c.requires.1 in
+    let o = a.o.now in
+    let k = v.k in
+    let g = v.invariant in
+    (q.0, q.1, omega (arith, g.k-in), λ p h. d.below p h)
+
+pub offset_bounds-o-k : goal.offset_bounds-o-k
+offset_bounds-o-k c =
+    let v = c.loop-k in
+    let a = c.args in
+    let q = c.requires.0 in
+    let d = c.requires.1 in
+    let o = a.o.now in
+    let k = v.k in
+    let g = v.invariant in
+    omega (arith, g.k-in, c.well_formed.1.1.1.1.0)
+
+pub bounds-o-k : goal.bounds-o-k
+bounds-o-k c =
+    let v = c.loop-k in
+    let a = c.args in
+    let q = c.requires.0 in
+    let d = c.requires.1 in
+    let o = a.o.now in
+    let k = v.k in
+    let g = v.invariant in
+    omega (arith, g.k-in)
+
+pub offset_bounds-v-i : goal.offset_bounds-v-i
+offset_bounds-v-i c =
+    let v = c.loop-k in
+    let a = c.args in
+    let q = c.requires.0 in
+    let d = c.requires.1 in
+    let o = a.o.now in
+    let k = v.k in
+    let g = v.invariant in
+    omega (arith, d.below (k - 1) (omega (arith, g.k-in)), c.well_formed.0)
+
+pub bounds-v-i : goal.bounds-v-i
+bounds-v-i c =
+    let v = c.loop-k in
+    let a = c.args in
+    let q = c.requires.0 in
+    let d = c.requires.1 in
+    let o = a.o.now in
+    let k = v.k in
+    let g = v.invariant in
+    omega (arith, g.size, d.below (k - 1) (omega (arith, g.k-in)))
+
+pub loop-k-preserved : goal.loop-k-preserved
+loop-k-preserved c =
+    let v = c.loop-k in
+    let a = c.args in
+    let q = c.requires.0 in
+    let d = c.requires.1 in
+    let o = a.o.now in
+    let k = v.k in
+    let g = v.invariant in
+    let wl : Words a.l.now = λ i. omega (arith, c.shared_slice_known-2-1.given i) in
+    let ws : Words a.s.now = λ i. omega (arith, c.shared_slice_known-3-1.given i) in
+    let small : length a.h.now < 18446744073709551616 = omega (arith, c.well_formed.0) in
+    judging-more a.x.now a.h.now a.l.now a.s.now a.b.now q.0 q.1 q.2 wl ws small o d v.v k v.standing c.standing_at-standing.result c.settled.result (get_or c.marks.new.1.1.1.1.1.1.0 (k - 1) 0) c.loop-k-test.true g (c.marks.ensures (k - 1) (omega (arith, g.k-in))) c.standing_at-standing.ensures c.settled.ensures
+
+pub shape_of-v : goal.shape_of-v
+shape_of-v c =
+    let v = c.loop-k in
+    let a = c.args in
+    let q = c.requires.0 in
+    let d = c.requires.1 in
+    let o = a.o.now in
+    let k = v.k in
+    let g = v.invariant in
+    g.size ∙ sym q.4
+
+pub returns : goal.returns
+returns c =
+    let v = c.loop-k in
+    let a = c.args in
+    let q = c.requires.0 in
+    let d = c.requires.1 in
+    let o = a.o.now in
+    let k = v.k in
+    let g = v.invariant in
+    let wl : Words a.l.now = λ i. omega (arith, c.shared_slice_known-2-1.given i) in
+    let ws : Words a.s.now = λ i. omega (arith, c.shared_slice_known-3-1.given i) in
+    let small : length a.h.now < 18446744073709551616 = omega (arith, c.well_formed.0) in
+    judged a.x.now a.h.now a.l.now a.s.now a.b.now q.0 q.1 q.2 wl ws small o d v.v k v.standing (omega arith) g

@@ -1,0 +1,159 @@
+use borrow.Author.Rules.{rules}
+use native.Mathlib.Omega.{arith}
+use mathlib.Core.Path.{◌≡◌, refl, sym, ap, ap₂, ◌∙◌}
+use mathlib.Core.Bool.{Bool, true, false, cond}
+use mathlib.Core.List.{List}
+use Prim.Native.Nat.{ℕ, ◌≤◌, ◌<◌, ◌-◌, ◌+◌}
+use lib.ListN.{length, get_or, set, length-set}
+use lib.Dec.{eqb}
+use Rattle.line.specs.Later.{same_bytes}
+use borrow.Author.Tests.{eq-eqb, ne_eqb, eqb-true, eqb-false}
+use Rattle.latest.specs.Rank.{key_of, group_of, rank_of, pack}
+use Rattle.latest.specs.Counts.{stored, stored_at}
+use Rattle.latest.specs.Columns.{text_in}
+use Rattle.latest.specs.Marks.{next_mark, mark_of, fresh, stand, settle}
+use Rattle.latest.proofs.Small.{pack-front, pack-back, pack-test, pack-no, mark-more, mark-first, marks-start, marks-more}
+use Rattle.latest.proofs.judge.marks.Goals as goal
+
+pub loop-k-init : goal.loop-k-init
+loop-k-init c =
+    let a = c.args in
+    let q = c.requires in
+    let z : 0 < length a.o.now = c.if-n-gt0.true in
+    (omega arith, omega arith, refl, refl, marks-start (group_of a.h.now a.l.now a.s.now) (text_in a.x.now a.b.now) a.o.now a.w.now (omega (arith, q.3)))
+
+pub bounds-w-k : goal.bounds-w-k
+bounds-w-k c =
+    let v = c.loop-k in
+    let a = c.args in
+    let q = c.requires in
+    let w = v.w in
+    let k = v.k in
+    let o = a.o.now in
+    let f = v.invariant in
+    let wl : length w ≡ length a.w.now = f.3 ∙ length-set a.w.now 0 1 in
+    omega (arith, q.3)
+
+pub same_top-requires : goal.same_top-requires
+same_top-requires c =
+    let v = c.loop-k in
+    let a = c.args in
+    let q = c.requires in
+    let w = v.w in
+    let k = v.k in
+    let o = a.o.now in
+    let f = v.invariant in
+    let wl : length w ≡ length a.w.now = f.3 ∙ length-set a.w.now 0 1 in
+    (q.0, q.1, q.4 (k - 1) (omega arith), q.4 k (omega arith))
+
+pub offset_bounds-b-i : goal.offset_bounds-b-i
+offset_bounds-b-i c =
+    let v = c.loop-k in
+    let a = c.args in
+    let q = c.requires in
+    let w = v.w in
+    let k = v.k in
+    let o = a.o.now in
+    let f = v.invariant in
+    let wl : length w ≡ length a.w.now = f.3 ∙ length-set a.w.now 0 1 in
+    omega (arith, q.2, q.4 (k - 1) (omega arith), c.well_formed.1.1.1.0)
+
+pub bounds-b-i : goal.bounds-b-i
+bounds-b-i c =
+    let v = c.loop-k in
+    let a = c.args in
+    let q = c.requires in
+    let w = v.w in
+    let k = v.k in
+    let o = a.o.now in
+    let f = v.invariant in
+    let wl : length w ≡ length a.w.now = f.3 ∙ length-set a.w.now 0 1 in
+    omega (arith, q.2, q.4 (k - 1) (omega arith))
+
+pub offset_bounds-b-j : goal.offset_bounds-b-j
+offset_bounds-b-j c =
+    let v = c.loop-k in
+    let a = c.args in
+    let q = c.requires in
+    let w = v.w in
+    let k = v.k in
+    let o = a.o.now in
+    let f = v.invariant in
+    let wl : length w ≡ length a.w.now = f.3 ∙ length-set a.w.now 0 1 in
+    omega (arith, q.2, q.4 k (omega arith), c.well_formed.1.1.1.0)
+
+pub bounds-b-j : goal.bounds-b-j
+bounds-b-j c =
+    let v = c.loop-k in
+    let a = c.args in
+    let q = c.requires in
+    let w = v.w in
+    let k = v.k in
+    let o = a.o.now in
+    let f = v.invariant in
+    let wl : length w ≡ length a.w.now = f.3 ∙ length-set a.w.now 0 1 in
+    omega (arith, q.2, q.4 k (omega arith))
+
+pub same_line-requires : goal.same_line-requires
+same_line-requires c =
+    let v = c.loop-k in
+    let q = c.requires in
+    let k = v.k in
+    let f = v.invariant in
+    (q.5 _ (q.4 (k - 1) (omega arith)), q.5 _ (q.4 k (omega arith)))
+
+pub bounds-w-k-in-loop-k : goal.bounds-w-k-in-loop-k
+bounds-w-k-in-loop-k c =
+    let v = c.loop-k in
+    let a = c.args in
+    let q = c.requires in
+    let w = v.w in
+    let k = v.k in
+    let o = a.o.now in
+    let f = v.invariant in
+    let wl : length w ≡ length a.w.now = f.3 ∙ length-set a.w.now 0 1 in
+    omega (arith, q.3)
+
+pub loop-k-preserved : goal.loop-k-preserved
+loop-k-preserved c =
+    let v = c.loop-k in
+    let a = c.args in
+    let q = c.requires in
+    let w = v.w in
+    let k = v.k in
+    let o = a.o.now in
+    let f = v.invariant in
+    let wl : length w ≡ length a.w.now = f.3 ∙ length-set a.w.now 0 1 in
+    let r = c.next_mark-mark.result in
+    let e = length-set w k r in (
+      omega arith,
+      omega arith,
+      f.2,
+      e ∙ f.3,
+      marks-more (group_of a.h.now a.l.now a.s.now) (text_in a.x.now a.b.now) o w k r f.0 (omega (arith, q.3)) f.4
+          (c.next_mark-mark.ensures ∙ ap₂ (λ (b d : Bool). next_mark (get_or w (k - 1) 0) b d) c.same_top.ensures c.same_line.ensures),
+    )
+
+pub shape_of-w : goal.shape_of-w
+shape_of-w c =
+    let v = c.loop-k in
+    let a = c.args in
+    let q = c.requires in
+    let w = v.w in
+    let k = v.k in
+    let o = a.o.now in
+    let f = v.invariant in
+    let wl : length w ≡ length a.w.now = f.3 ∙ length-set a.w.now 0 1 in
+    wl
+
+pub returns-after-loop-k : goal.returns-after-loop-k
+returns-after-loop-k c =
+    let v = c.loop-k in
+    let a = c.args in
+    let q = c.requires in
+    let w = v.w in
+    let k = v.k in
+    let o = a.o.now in
+    let f = v.invariant in
+    let wl : length w ≡ length a.w.now = f.3 ∙ length-set a.w.now 0 1 in
+    λ p h. f.4 p (omega arith)

@@ -1,0 +1,28 @@
+use borrow.Author.Rules.{rules}
+use native.Mathlib.Omega.{arith}
+use mathlib.Core.Path.{◌≡◌, refl, sym, ap, ap₂, ◌∙◌}
+use mathlib.Core.Bool.{Bool, true, false, cond}
+use mathlib.Core.List.{List}
+use Prim.Native.Nat.{ℕ, ◌≤◌, ◌<◌, ◌-◌, ◌+◌}
+use lib.ListN.{length, get_or, set, length-set}
+use lib.Dec.{eqb}
+use borrow.Author.Tests.{eq-eqb, ne_eqb, eqb-true, eqb-false}
+use Rattle.latest.specs.Rank.{key_of, group_of, rank_of, pack}
+use Rattle.latest.specs.Counts.{stored, stored_at}
+use Rattle.latest.specs.Marks.{next_mark, mark_of, fresh, stand, settle}
+use Rattle.latest.proofs.Small.{pack-front, pack-back, pack-test, pack-no, mark-more, mark-first}
+use Rattle.latest.proofs.judge.number.Goals as goal
+
+pub loop-i-init : goal.loop-i-init
+loop-i-init c = (omega arith, refl, λ p h. absurd (omega arith))
+
+pub loop-i-smaller : goal.loop-i-smaller
+loop-i-smaller c = omega (arith, length-set c.loop-i.o c.loop-i.i c.loop-i.i)
+
+pub loop-i-preserved : goal.loop-i-preserved
+loop-i-preserved c =
+    let v = c.loop-i in let e = length-set v.o v.i v.i in let li : v.i < length v.o = c.loop-i-test.true in
+    (omega arith, omega arith, λ p h. stored_at v.o v.i v.i li (λ (y : ℕ). y ≡ p) p h (λ z. v.invariant.2 p z) (λ z. sym z))
+
+pub returns : goal.returns
+returns c = λ p h. c.loop-i.invariant.2 p (omega arith)

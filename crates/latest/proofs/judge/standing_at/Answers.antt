@@ -1,0 +1,46 @@
+use borrow.Author.Rules.{rules}
+use native.Mathlib.Omega.{arith}
+use mathlib.Core.Path.{◌≡◌, refl, sym, ap, ap₂, ◌∙◌}
+use mathlib.Core.Bool.{Bool, true, false, cond}
+use mathlib.Core.List.{List}
+use Prim.Native.Nat.{ℕ, ◌≤◌, ◌<◌, ◌-◌, ◌+◌}
+use lib.ListN.{length, get_or, set, length-set}
+use lib.Dec.{eqb}
+use borrow.Author.Tests.{eq-eqb, ne_eqb, eqb-true, eqb-false}
+use Rattle.latest.specs.Rank.{key_of, group_of, rank_of, pack}
+use Rattle.latest.specs.Counts.{stored}
+use Rattle.latest.specs.Marks.{next_mark, mark_of, fresh, stand, settle}
+use Rattle.latest.proofs.Small.{pack-test, pack-no, mark-more, mark-first}
+use Rattle.latest.proofs.judge.standing_at.Goals as goal
+
+pub returns-then-e-o : goal.returns-then-e-o
+returns-then-e-o c =
+    let a = c.args in
+    rw (eq-eqb (a.k + 1) (length a.o.now) c.if-e-o.true) c.fresh_standing.ensures
+
+pub same_top-requires : goal.same_top-requires
+same_top-requires c =
+    let a = c.args in
+    let q = c.requires in
+    (q.0, q.1, q.3 a.k q.2, q.3 (a.k + 1) (let ne : a.k + 1 ≡ length a.o.now → ⊥ = c.if-e-o.false in omega arith))
+
+pub returns-then-same_top : goal.returns-then-same_top
+returns-then-same_top c =
+    let a = c.args in
+    rw (ne_eqb (a.k + 1) (length a.o.now) c.if-e-o.false, sym c.same_top.ensures ∙ c.if-same_top.true)
+
+pub same_key-requires : goal.same_key-requires
+same_key-requires c =
+    let a = c.args in
+    let q = c.requires in
+    (q.0, q.3 a.k q.2, q.3 (a.k + 1) (let ne : a.k + 1 ≡ length a.o.now → ⊥ = c.if-e-o.false in omega arith))
+
+pub returns-then-same_key : goal.returns-then-same_key
+returns-then-same_key c =
+    let a = c.args in
+    rw (ne_eqb (a.k + 1) (length a.o.now) c.if-e-o.false, sym c.same_top.ensures ∙ c.if-same_top.false, sym c.same_key.ensures ∙ c.if-same_key.true)
+
+pub returns : goal.returns
+returns c =
+    let a = c.args in
+    rw (ne_eqb (a.k + 1) (length a.o.now) c.if-e-o.false, sym c.same_top.ensures ∙ c.if-same_top.false, sym c.same_key.ensures ∙ c.if-same_key.false) c.fresh_standing-2.ensures

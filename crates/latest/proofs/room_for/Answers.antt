@@ -1,0 +1,12 @@
+use borrow.Author.Rules.{rules}
+use native.Mathlib.Omega.{arith}
+use Rattle.latest.specs.Call.{room_for}
+use Rattle.latest.proofs.room_for.Goals as goal
+
+pub returns-then-n-lt-LONGEST_PILE : goal.returns-then-n-lt-LONGEST_PILE
+unfolding room_for
+returns-then-n-lt-LONGEST_PILE c = omega arith
+
+pub returns-else-n-lt-LONGEST_PILE : goal.returns-else-n-lt-LONGEST_PILE
+unfolding room_for
+returns-else-n-lt-LONGEST_PILE c = omega arith

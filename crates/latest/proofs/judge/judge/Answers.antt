@@ -11,21 +11,21 @@ use Rattle.latest.proofs.judge.judge.Goals as goal
 
 pub marks-requires : goal.marks-requires
 marks-requires c =
-    let q = c.requires.0 in
-    let d = c.requires.1 in
+    let q = c.requires.l_len in
+    let d = c.requires.order in
     (q.0, q.1, q.2, q.3, (λ p h. d.below p h), q.5)
 
 pub loop-k-init : goal.loop-k-init
 loop-k-init c =
     let a = c.args in
-    judging-none a.x.now a.h.now a.l.now a.s.now a.b.now a.o.now a.v.now 0 c.requires.0.4
+    judging-none a.x.now a.h.now a.l.now a.s.now a.b.now a.o.now a.v.now 0 c.requires.l_len.4
 
 pub offset_bounds-w-k : goal.offset_bounds-w-k
 offset_bounds-w-k c =
     let v = c.loop-k in
     let a = c.args in
-    let q = c.requires.0 in
-    let d = c.requires.1 in
+    let q = c.requires.l_len in
+    let d = c.requires.order in
     let o = a.o.now in
     let k = v.k in
     let g = v.invariant in
@@ -35,20 +35,20 @@ pub bounds-w-k : goal.bounds-w-k
 bounds-w-k c =
     let v = c.loop-k in
     let a = c.args in
-    let q = c.requires.0 in
-    let d = c.requires.1 in
+    let q = c.requires.l_len in
+    let d = c.requires.order in
     let o = a.o.now in
     let k = v.k in
     let g = v.invariant in
-    let wl : length c.marks.new.1.1.1.1.1.1.0 ≡ length a.w.now = c.marks.auto.1.1.1.1.1.1.0 in
+    let wl : length c.marks.new.w ≡ length a.w.now = c.marks.auto.w in
     omega (arith, g.k-in, q.3)
 
 pub standing_at-standing-requires : goal.standing_at-standing-requires
 standing_at-standing-requires c =
     let v = c.loop-k in
     let a = c.args in
-    let q = c.requires.0 in
-    let d = c.requires.1 in
+    let q = c.requires.l_len in
+    let d = c.requires.order in
     let o = a.o.now in
     let k = v.k in
     let g = v.invariant in
@@ -58,8 +58,8 @@ pub offset_bounds-o-k : goal.offset_bounds-o-k
 offset_bounds-o-k c =
     let v = c.loop-k in
     let a = c.args in
-    let q = c.requires.0 in
-    let d = c.requires.1 in
+    let q = c.requires.l_len in
+    let d = c.requires.order in
     let o = a.o.now in
     let k = v.k in
     let g = v.invariant in
@@ -69,8 +69,8 @@ pub bounds-o-k : goal.bounds-o-k
 bounds-o-k c =
     let v = c.loop-k in
     let a = c.args in
-    let q = c.requires.0 in
-    let d = c.requires.1 in
+    let q = c.requires.l_len in
+    let d = c.requires.order in
     let o = a.o.now in
     let k = v.k in
     let g = v.invariant in
@@ -80,8 +80,8 @@ pub offset_bounds-v-i : goal.offset_bounds-v-i
 offset_bounds-v-i c =
     let v = c.loop-k in
     let a = c.args in
-    let q = c.requires.0 in
-    let d = c.requires.1 in
+    let q = c.requires.l_len in
+    let d = c.requires.order in
     let o = a.o.now in
     let k = v.k in
     let g = v.invariant in
@@ -91,8 +91,8 @@ pub bounds-v-i : goal.bounds-v-i
 bounds-v-i c =
     let v = c.loop-k in
     let a = c.args in
-    let q = c.requires.0 in
-    let d = c.requires.1 in
+    let q = c.requires.l_len in
+    let d = c.requires.order in
     let o = a.o.now in
     let k = v.k in
     let g = v.invariant in
@@ -102,22 +102,22 @@ pub loop-k-preserved : goal.loop-k-preserved
 loop-k-preserved c =
     let v = c.loop-k in
     let a = c.args in
-    let q = c.requires.0 in
-    let d = c.requires.1 in
+    let q = c.requires.l_len in
+    let d = c.requires.order in
     let o = a.o.now in
     let k = v.k in
     let g = v.invariant in
-    let wl : Words a.l.now = λ i. omega (arith, c.shared_slice_known-2-1.given i) in
-    let ws : Words a.s.now = λ i. omega (arith, c.shared_slice_known-3-1.given i) in
+    let wl : Words a.l.now = λ i. omega (arith, c.type_inv.l i) in
+    let ws : Words a.s.now = λ i. omega (arith, c.type_inv.s i) in
     let small : length a.h.now < 18446744073709551616 = omega (arith, c.well_formed.0) in
-    judging-more a.x.now a.h.now a.l.now a.s.now a.b.now q.0 q.1 q.2 wl ws small o d v.v k v.standing c.standing_at-standing.result c.settled.result (get_or c.marks.new.1.1.1.1.1.1.0 (k - 1) 0) c.loop-k-test.true g (c.marks.ensures (k - 1) (omega (arith, g.k-in))) c.standing_at-standing.ensures c.settled.ensures
+    judging-more a.x.now a.h.now a.l.now a.s.now a.b.now q.0 q.1 q.2 wl ws small o d v.v k v.standing c.standing_at-standing.result c.settled.result (get_or c.marks.new.w (k - 1) 0) c.loop-k-test.true g (c.marks.ensures (k - 1) (omega (arith, g.k-in))) c.standing_at-standing.ensures c.settled.ensures
 
 pub shape_of-v : goal.shape_of-v
 shape_of-v c =
     let v = c.loop-k in
     let a = c.args in
-    let q = c.requires.0 in
-    let d = c.requires.1 in
+    let q = c.requires.l_len in
+    let d = c.requires.order in
     let o = a.o.now in
     let k = v.k in
     let g = v.invariant in
@@ -127,12 +127,12 @@ pub returns : goal.returns
 returns c =
     let v = c.loop-k in
     let a = c.args in
-    let q = c.requires.0 in
-    let d = c.requires.1 in
+    let q = c.requires.l_len in
+    let d = c.requires.order in
     let o = a.o.now in
     let k = v.k in
     let g = v.invariant in
-    let wl : Words a.l.now = λ i. omega (arith, c.shared_slice_known-2-1.given i) in
-    let ws : Words a.s.now = λ i. omega (arith, c.shared_slice_known-3-1.given i) in
+    let wl : Words a.l.now = λ i. omega (arith, c.type_inv.l i) in
+    let ws : Words a.s.now = λ i. omega (arith, c.type_inv.s i) in
     let small : length a.h.now < 18446744073709551616 = omega (arith, c.well_formed.0) in
     judged a.x.now a.h.now a.l.now a.s.now a.b.now q.0 q.1 q.2 wl ws small o d v.v k v.standing (omega arith) g

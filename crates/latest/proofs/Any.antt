@@ -1,19 +1,18 @@
 -- Laws of `any`, of the tests of two rows, and of the columns' rows. Assumes nothing.
 use mathlib.Core.Path.{◌≡◌, refl, ap, sym, ◌∙◌}
-use mathlib.Core.Bool.{Bool, true, false, cond, not, ◌&&◌, ◌||◌}
+use mathlib.Core.Bool.{Bool, true, false, not, ◌&&◌, ◌||◌}
 use mathlib.Core.List.{List, [], ◌∷◌}
-use Prim.Native.Nat.{ℕ, zero, suc, ◌+◌, ◌≤◌, ◌<◌, suc-le-suc}
-use native.Mathlib.Nat.{le_of_suc-le-suc, not-suc-le-zero, suc_inj, suc-ne-zero, zero-add, suc-add, add-suc}
+use Prim.Native.Nat.{ℕ, zero, suc, ◌+◌, ◌<◌, suc-le-suc}
+use native.Mathlib.Nat.{le_of_suc-le-suc, not-suc-le-zero, suc_inj, zero-add}
 use native.Mathlib.Omega.{arith}
 use lib.Dec.{eqb, ltb}
-use lib.ListN.{length, get_or, take}
-use borrow.Author.Tests.{eqb-true, eqb-false, ltb-true, ltb-false, eq-eqb, ne_eqb, lt-ltb, le-ltb, not-true, not-false}
+use lib.ListN.{length, get_or}
+use borrow.Author.Tests.{eqb-true, ltb-true, eq-eqb, lt-ltb, not-true}
 use Rattle.line.specs.Later.{same_bytes}
 use Rattle.latest.specs.Pile.{Row, any, higher, differs, equal, same_id, same_top, verdict}
 use Rattle.latest.specs.Columns.{rows_of, verdicts_from, verdicts_of, text_in}
 use Rattle.latest.specs.Promises.{no_row, Alike}
 use Rattle.latest.proofs.Bytes.{same_true, same_false, same-made, same-other}
-use Rattle.line.specs.Lines.{line_at}
 
 pub or_left : (a b : Bool) → a ≡ true → (a || b) ≡ true
 or_left a b e = rw e

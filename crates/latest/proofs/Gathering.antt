@@ -1,13 +1,12 @@
 -- The pass that collects the good lines: where it stands between two lines, how it goes on and ends. Assumes nothing.
-use Prim.Native.Nat.{ℕ, suc, ◌+◌, ◌*◌, ◌/◌, ◌≤◌, ◌<◌}
-use mathlib.Core.Path.{◌≡◌, refl, sym, ap, ap₂, subst, ◌∙◌}
+use Prim.Native.Nat.{ℕ, suc, ◌+◌, ◌*◌, ◌≤◌, ◌<◌}
+use mathlib.Core.Path.{◌≡◌, refl, sym, ap, subst, ◌∙◌}
 use mathlib.Core.Bool.{Bool, true, false, ◌||◌}
 use mathlib.Core.List.{List, [], ◌∷◌, ◌++◌, append_assoc, append-nil}
 use native.Mathlib.Omega.{arith}
-use lib.ListN.{length, get_or, take, drop, set, length-set, length-append}
+use lib.ListN.{length, get_or, take, drop, set, length-set}
 use lib.Seq.{take-suc-set, length-take-le}
 use Rattle.chain.specs.declared.Point.{Point}
-use Rattle.chain.specs.declared.Label.{Label}
 use Rattle.chain.specs.Faults.{latest}
 use Rattle.line.specs.declared.PointLine.{PointLine}
 use Rattle.line.specs.declared.PointLine.TheVariants as P

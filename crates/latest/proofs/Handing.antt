@@ -1,7 +1,7 @@
 -- The whole call: enough rows for all good lines, the verdicts of the columns are those of the pile, and what is printed is all. Assumes nothing.
 use Prim.Native.Nat.{ℕ, ◌+◌, ◌*◌, ◌/◌, ◌≤◌, ◌<◌, min}
 use mathlib.Core.Path.{◌≡◌, refl, sym, ap, subst, ◌∙◌}
-use mathlib.Core.Logic.{◌⊎◌, inl, inr}
+use mathlib.Core.Logic.{inl, inr}
 use mathlib.Core.Bool.{Bool, true, false}
 use mathlib.Core.List.{List, ◌++◌}
 use native.Mathlib.Omega.{arith}
@@ -11,7 +11,7 @@ use borrow.Author.Tests.{lt-ltb, le-ltb}
 use Rattle.refusal.specs.Numbers as refusal
 use Rattle.line.specs.Lines.{lines}
 use Rattle.line.specs.Text.{Wrote, refusal_text}
-use Rattle.latest.specs.Pile.{goods, any_bad, verdict, replies_from, longest_pile, latest_of}
+use Rattle.latest.specs.Pile.{goods, verdict, replies_from, longest_pile, latest_of}
 use Rattle.latest.specs.Columns.{rows_of, verdicts_of, prints_from, Gathered}
 use Rattle.latest.specs.Call.{rows_for, room_for, rows_in, Enough, Answered}
 use Rattle.latest.specs.Promises.{no_row}

@@ -1,8 +1,7 @@
 -- The second pass, from the last place to the first: the rows at the places done have their verdicts.
-use mathlib.Core.Path.{◌≡◌, refl, ap, ap₂, sym, subst, ◌∙◌}
-use mathlib.Core.Bool.{Bool, true, false}
+use mathlib.Core.Path.{◌≡◌, refl, ap, ap₂, subst, ◌∙◌}
 use mathlib.Core.List.{List}
-use Prim.Native.Nat.{ℕ, zero, suc, ◌+◌, ◌-◌, ◌≤◌, ◌<◌}
+use Prim.Native.Nat.{ℕ, ◌+◌, ◌-◌, ◌≤◌, ◌<◌}
 use native.Mathlib.Omega.{arith}
 use native.Mathlib.Decide.{ℕ_discrete}
 use lib.Dec.{eqb}
@@ -10,7 +9,7 @@ use lib.ListN.{length, get_or, set, length-set}
 use lib.Seq.{get_or-set_same, get_or-set_other}
 use Rattle.latest.specs.Rank.{key_of, group_of, rank_of, Sorted}
 use Rattle.latest.specs.Counts.{Order, Places, order}
-use Rattle.latest.specs.Pile.{Row, standing, verdict}
+use Rattle.latest.specs.Pile.{standing, verdict}
 use Rattle.latest.specs.Columns.{rows_of, verdicts_of, text_in}
 use Rattle.latest.specs.Promises.{no_row}
 use Rattle.latest.specs.Marks.{mark_of, stand, settle}

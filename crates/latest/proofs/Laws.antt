@@ -1,21 +1,19 @@
 -- Laws of `verdicts_of`: a row that is handed out is of the highest issue of its id; of each id one row is handed out, or all of its highest issue are refused.
-use mathlib.Core.Path.{◌≡◌, refl, ap, ap₂, sym, subst, ◌∙◌}
-use mathlib.Core.Logic.{◌⊎◌, inl, inr, ⊎_elim}
-use mathlib.Core.Bool.{Bool, true, false, cond, not, ◌&&◌, ◌||◌}
-use mathlib.Core.List.{List, [], ◌∷◌, ◌++◌}
-use Prim.Native.Nat.{ℕ, zero, suc, ◌+◌, ◌≤◌, ◌<◌, suc-le-suc}
-use native.Mathlib.Nat.{le_of_suc-le-suc, not-suc-le-zero}
+use mathlib.Core.Path.{◌≡◌, refl, ap, sym, subst, ◌∙◌}
+use mathlib.Core.Bool.{Bool, true, false, cond}
+use mathlib.Core.List.{List, [], ◌∷◌}
+use Prim.Native.Nat.{ℕ, zero, suc, ◌≤◌, ◌<◌, suc-le-suc}
+use native.Mathlib.Nat.{not-suc-le-zero}
 use native.Mathlib.Omega.{arith}
 use native.Mathlib.Decide.{dec_lt, ℕ_discrete}
 use lib.Dec.{eqb}
 use lib.ListN.{length, get_or, take}
 use lib.Seq.{length-take-le, get_or-take}
-use borrow.Author.Tests.{eqb-true, eqb-false, eq-eqb, ne_eqb}
 use Rattle.latest.specs.Pile.{Row, any, same_id, higher, differs, equal, standing, verdict}
 use Rattle.latest.specs.Columns.{verdicts_of}
 use Rattle.latest.proofs.Bytes.{same?}
 use Rattle.latest.specs.Promises.{no_row, Alike, Outcome, handed_out, refused}
-use Rattle.latest.proofs.Any.{key-true, key-made, any-in, any-find, any_none, any-not, higher-true, higher-made, differs_true, differs-made, equal-true, equal-made, latest-at}
+use Rattle.latest.proofs.Any.{key-true, key-made, any-in, any-find, any_none, any-not, higher-true, higher-made, differs_true, differs-made, equal-made, latest-at}
 use Rattle.latest.proofs.Orders.{equal_is}
 
 -- what a verdict of 1 says

@@ -1,18 +1,15 @@
 -- Laws of `verdicts_of`: another order of the rows hands out the same rows, each once.
-use mathlib.Core.Path.{◌≡◌, refl, ap, ap₂, sym, subst, ◌∙◌}
-use mathlib.Core.Bool.{Bool, true, false, cond, not, ◌&&◌, ◌||◌}
+use mathlib.Core.Path.{◌≡◌, refl, ap, ap₂, sym, ◌∙◌}
+use mathlib.Core.Bool.{Bool, true, false, cond, ◌||◌}
 use mathlib.Core.List.{List, [], ◌∷◌, ◌++◌, append_assoc}
-use Prim.Native.Nat.{ℕ, zero, suc, ◌+◌, ◌≤◌, ◌<◌}
-use native.Mathlib.Numerals.{add-one}
+use Prim.Native.Nat.{ℕ, suc, ◌+◌}
 use native.Mathlib.Omega.{arith}
 use lib.Dec.{eqb}
-use lib.ListN.{length, get_or, take, length-append}
+use lib.ListN.{length, take, length-append}
 use lib.Seq.{take-append_seam}
-use borrow.Author.Tests.{eqb-true, eqb-false, eq-eqb, ne_eqb}
 use Rattle.latest.specs.Pile.{Row, any, higher, differs, equal, standing, verdict}
-use Rattle.latest.specs.Columns.{verdicts_of}
-use Rattle.latest.specs.Promises.{no_row, Alike, Perm, done, keep, swap, then, handed_from, handed, refused_from, refused_rows, count_row}
-use Rattle.latest.proofs.Any.{any-in, any-find, any_none, any-not, higher-made, equal-true, equal-made, latest-at}
+use Rattle.latest.specs.Promises.{Perm, done, keep, swap, then, handed_from, handed, refused_from, refused_rows, count_row}
+use Rattle.latest.proofs.Any.{equal-true, equal-made}
 
 or_swap : (a b c : Bool) → (a || (b || c)) ≡ (b || (a || c))
 or_swap true true c = refl

@@ -1,11 +1,9 @@
 -- What is promised of a pile holds of its definition. Assumes nothing.
 use Prim.Native.Nat.{ℕ, suc}
-use mathlib.Core.Path.{◌≡◌, refl, sym, ap, ap₂, ◌∙◌}
+use mathlib.Core.Path.{◌≡◌, refl, ap, ◌∙◌}
 use mathlib.Core.Bool.{Bool, true, false, ◌||◌}
 use mathlib.Core.List.{List, [], ◌∷◌}
-use native.Mathlib.Omega.{arith}
 use lib.Dec.{eqb}
-use lib.ListN.{length, take}
 use borrow.Author.Tests.{eqb-true}
 use Rattle.refusal.specs.Numbers as refusal
 use Rattle.refusal.specs.Order.{pick}
@@ -15,8 +13,8 @@ use Rattle.line.specs.declared.PointLine.{PointLine}
 use Rattle.line.specs.declared.PointLine.TheVariants as P
 use Rattle.line.specs.Readers.{read_point}
 use Rattle.line.specs.Text.{refusal_text}
-use Rattle.latest.specs.Pile.{Row, row_of, if_good, goods, is_bad, any_bad, verdict_in, line_text, good_text, reply_of}
-use Rattle.latest.specs.Promises.{Told, silent, refused, itself, Perm, done, keep, swap, then, Same, Promises}
+use Rattle.latest.specs.Pile.{Row, row_of, if_good, goods, is_bad, any_bad, verdict_in, line_text, reply_of}
+use Rattle.latest.specs.Promises.{Told, silent, refused, itself, Perm, done, keep, swap, then, Promises}
 use Rattle.latest.proofs.Orders.{handed-perm, refused-perm}
 use Rattle.latest.proofs.Laws.{no-higher, one-or-refused}
 

@@ -1,8 +1,8 @@
 -- The room for what a pile prints: at most 15 bytes for each of its own. Assumes nothing.
 use Prim.Native.Nat.{ℕ, suc, ◌+◌, ◌*◌, ◌^◌, ◌≤◌, ◌<◌}
-use mathlib.Core.Path.{◌≡◌, refl, sym, ap, ◌∙◌}
+use mathlib.Core.Path.{◌≡◌, refl, sym}
 use mathlib.Core.Bool.{Bool, true, false}
-use mathlib.Core.List.{List, [], ◌∷◌, ◌++◌}
+use mathlib.Core.List.{List, [], ◌∷◌}
 use native.Mathlib.Decide.{dec_lt}
 use native.Mathlib.Omega.{arith}
 use lib.Dec.{eqb, ltb}
@@ -10,19 +10,16 @@ use lib.ListN.{length, length-append}
 use borrow.Author.Tests.{ltb-true, ltb-false}
 use Rattle.refusal.specs.Numbers as refusal
 use Rattle.refusal.specs.Order.{pick}
-use Rattle.chain.specs.declared.Point.{Point}
 use Rattle.chain.specs.Faults.{latest}
-use Rattle.line.specs.declared.Fault.{Fault}
 use Rattle.line.specs.declared.PointLine.{PointLine}
 use Rattle.line.specs.declared.PointLine.TheVariants as P
 use Rattle.line.specs.Fields.{longest_line}
 use Rattle.line.specs.Lines.{lines}
-use Rattle.line.specs.Readers.{read_point}
 use Rattle.line.specs.Text.{refusal_text}
 use Rattle.line.proofs.Lines.{total, total-lines, Some, some-lines}
 use Rattle.line.proofs.Lengths.{length-decimal}
 use Rattle.line.proofs.Texts.{refusal_is}
-use Rattle.line.proofs.Readers.{Small, point-outcome}
+use Rattle.line.proofs.Readers.{point-outcome}
 use Rattle.latest.specs.Pile.{any_bad, good_text, line_text, verdict_in, reply_of, replies_from, longest_pile, latest_of}
 use Rattle.latest.specs.Call.{room_for}
 

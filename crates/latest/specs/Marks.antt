@@ -1,5 +1,5 @@
 -- What the two passes over the places in order compute: a mark for each place, and the standing of its row.
-use Rattle.std.specs.Prelude.{Bool, true, false, cond, not, ◌||◌, List, ℕ, zero, suc, ◌+◌, eqb, ltb, get_or}
+use Rattle.std.specs.Prelude.{Bool, true, false, cond, not, ◌||◌, List, ℕ, zero, suc, eqb, get_or}
 use Rattle.line.specs.Later.{same_bytes}
 
 -- from the mark before: 1 where the group begins, 17 from the first two texts that differ, else 0

@@ -1,11 +1,11 @@
 -- What is promised of a pile: each line prints itself, an R line or nothing; of each id one line or none; another order hands out the same.
-use Rattle.std.specs.Prelude.{ℕ, suc, ◌+◌, ◌≤◌, ◌<◌, ◌≡◌, Bool, true, false, cond, List, [], ◌∷◌, eqb, length, get_or}
+use Rattle.std.specs.Prelude.{ℕ, suc, ◌+◌, ◌≤◌, ◌<◌, ◌≡◌, false, cond, List, [], ◌∷◌, eqb, length, get_or}
 use Rattle.chain.specs.declared.Point.{Point}
 use Rattle.chain.specs.Faults.{latest}
 use Rattle.line.specs.declared.PointLine.TheVariants as P
 use Rattle.line.specs.Readers.{read_point}
 use Rattle.line.specs.Text.{refusal_text}
-use Rattle.latest.specs.Pile.{Row, row_of, goods, any_bad, equal, verdict, verdict_in, reply_of}
+use Rattle.latest.specs.Pile.{Row, goods, any_bad, equal, verdict, verdict_in, reply_of}
 use Rattle.latest.specs.Columns.{verdicts_of}
 
 abbrev pub no_row : Row

@@ -1,4 +1,3 @@
-use borrow.Author.Rules.{rules}
 use native.Mathlib.Omega.{arith}
 use Rattle.latest.specs.Call.{room_for}
 use Rattle.latest.proofs.room_for.Goals as goal

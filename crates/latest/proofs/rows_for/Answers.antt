@@ -1,4 +1,3 @@
-use borrow.Author.Rules.{rules}
 use native.Mathlib.Omega.{arith}
 use Rattle.latest.specs.Call.{rows_for}
 use Rattle.latest.proofs.rows_for.Goals as goal

@@ -1,8 +1,7 @@
 -- `latest::gather::gather` meets its contract. Assumes nothing.
-use borrow.Author.Rules.{rules}
 use native.Mathlib.Omega.{arith}
 use mathlib.Core.Path.{◌≡◌, sym, ap, ◌∙◌}
-use Prim.Native.Nat.{◌-◌, ◌<◌}
+use Prim.Native.Nat.{◌<◌}
 use mathlib.Core.Bool.{true}
 use lib.ListN.{length}
 use Rattle.chain.specs.Faults.{latest}
@@ -11,7 +10,7 @@ use Rattle.line.specs.Lines.{line_at}
 use Rattle.line.specs.Readers.{read_point}
 use Rattle.line.proofs.Lines.{piece}
 use Rattle.latest.specs.Pile.{is_bad}
-use Rattle.latest.proofs.Gathering.{Gathering, read_as, ended, gathering-none, gathering-bad, gathering-put, row-left, gathered}
+use Rattle.latest.proofs.Gathering.{read_as, ended, gathering-none, gathering-bad, gathering-put, row-left, gathered}
 use Rattle.latest.proofs.gather.gather.Goals as goal
 
 pub loop-at-init : goal.loop-at-init

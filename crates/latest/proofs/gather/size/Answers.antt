@@ -1,6 +1,5 @@
 -- `latest::gather::size` meets its contract. Assumes nothing.
 use Rattle.line.proofs.Texts as T
-use borrow.Author.Rules.{rules}
 use Rattle.latest.proofs.gather.size.Goals as goal
 
 pub overflow_add-result : goal.overflow_add-result

@@ -1,16 +1,4 @@
-use borrow.Author.Rules.{rules}
-use native.Mathlib.Omega.{arith}
-use mathlib.Core.Path.{◌≡◌, refl, sym, ap, ap₂, ◌∙◌}
-use mathlib.Core.Bool.{Bool, true, false, cond}
-use mathlib.Core.List.{List}
-use Prim.Native.Nat.{ℕ, ◌≤◌, ◌<◌, ◌-◌, ◌+◌}
-use lib.ListN.{length, get_or, set, length-set}
-use lib.Dec.{eqb}
-use borrow.Author.Tests.{eq-eqb, ne_eqb, eqb-true, eqb-false}
-use Rattle.latest.specs.Rank.{key_of, group_of, rank_of, pack}
-use Rattle.latest.specs.Counts.{stored}
-use Rattle.latest.specs.Marks.{next_mark, mark_of, fresh, stand, settle}
-use Rattle.latest.proofs.Small.{pack-test, pack-no, mark-more, mark-first}
+use borrow.Author.Tests.{eq-eqb, ne_eqb}
 use Rattle.latest.proofs.judge.fresh_standing.Goals as goal
 
 pub returns-then-mark-eq17 : goal.returns-then-mark-eq17

@@ -1,18 +1,12 @@
-use borrow.Author.Rules.{rules}
 use native.Mathlib.Omega.{arith}
-use mathlib.Core.Path.{◌≡◌, refl, sym, ap, ap₂, ◌∙◌}
-use mathlib.Core.Bool.{Bool, true, false, cond}
-use mathlib.Core.List.{List}
-use Prim.Native.Nat.{ℕ, ◌≤◌, ◌<◌, ◌-◌, ◌+◌}
-use lib.ListN.{length, get_or, set, length-set}
-use lib.Dec.{eqb}
-use Rattle.line.specs.Later.{same_bytes}
-use borrow.Author.Tests.{eq-eqb, ne_eqb, eqb-true, eqb-false}
-use Rattle.latest.specs.Rank.{key_of, group_of, rank_of, pack}
-use Rattle.latest.specs.Counts.{stored, stored_at}
+use mathlib.Core.Path.{◌≡◌, refl, ap₂, ◌∙◌}
+use mathlib.Core.Bool.{Bool}
+use Prim.Native.Nat.{◌<◌, ◌-◌}
+use lib.ListN.{length, get_or, length-set}
+use Rattle.latest.specs.Rank.{group_of}
 use Rattle.latest.specs.Columns.{text_in}
-use Rattle.latest.specs.Marks.{next_mark, mark_of, fresh, stand, settle}
-use Rattle.latest.proofs.Small.{pack-front, pack-back, pack-test, pack-no, mark-more, mark-first, marks-start, marks-more}
+use Rattle.latest.specs.Marks.{next_mark}
+use Rattle.latest.proofs.Small.{marks-start, marks-more}
 use Rattle.latest.proofs.judge.marks.Goals as goal
 
 pub loop-k-init : goal.loop-k-init

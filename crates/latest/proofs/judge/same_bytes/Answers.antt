@@ -1,6 +1,5 @@
 -- `latest::judge::same_bytes` meets its contract. Assumes nothing.
-use Rattle.line.specs.Later.{same_bytes}
-use Rattle.std.proofs.Common.{◌≡◌, ◌-◌, ◌≤◌, length, drop, ◌∙◌, arith, rules}
+use Rattle.std.proofs.Common.{◌∙◌, arith}
 use Rattle.line.proofs.Compared as K
 use Rattle.latest.proofs.judge.same_bytes.Goals as goal
 

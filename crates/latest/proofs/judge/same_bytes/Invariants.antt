@@ -1,6 +1,5 @@
 use Rattle.line.specs.Later.{same_bytes}
-use Rattle.std.proofs.Common.{◌≡◌, ◌-◌, ◌≤◌, length, drop, ◌∙◌, arith, rules}
-use Rattle.line.proofs.Compared as K
+use Rattle.std.proofs.Common.{◌≡◌, ◌-◌, ◌≤◌, length, drop}
 use Rattle.latest.proofs.judge.same_bytes.Given as goal
 
 abbrev pub invariant-loop-i : goal.invariant-loop-i

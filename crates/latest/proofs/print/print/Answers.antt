@@ -1,8 +1,7 @@
 -- `latest::print::print` meets its contract. Assumes nothing.
-use borrow.Author.Rules.{rules}
 use native.Mathlib.Omega.{arith}
 use mathlib.Core.Path.{◌≡◌, sym, ap, ◌∙◌}
-use Prim.Native.Nat.{◌-◌, ◌<◌}
+use Prim.Native.Nat.{◌<◌}
 use lib.ListN.{length}
 use Rattle.chain.specs.Faults.{latest}
 use Rattle.line.specs.declared.PointLine.{PointLine}
@@ -12,7 +11,7 @@ use Rattle.line.specs.Readers.{read_point}
 use Rattle.line.proofs.Lines.{piece}
 use Rattle.latest.specs.Columns.{row_after}
 use Rattle.latest.proofs.Gathering.{read_as, ended}
-use Rattle.latest.proofs.Printing.{Printing, printing-none, printing-good, printing-malformed, printing-refused, row_inside, printing-all}
+use Rattle.latest.proofs.Printing.{printing-none, printing-good, printing-malformed, printing-refused, row_inside, printing-all}
 use Rattle.latest.proofs.print.print.Goals as goal
 
 pub loop-from-init : goal.loop-from-init

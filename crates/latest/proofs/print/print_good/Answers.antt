@@ -1,4 +1,3 @@
-use borrow.Author.Rules.{rules}
 use borrow.Author.Tests.{eq-eqb, ne_eqb}
 use Rattle.line.proofs.Texts.{nothing}
 use Rattle.latest.proofs.print.print_good.Goals as goal

@@ -14,7 +14,8 @@ pub gather-found-requires : goal.gather-found-requires
 gather-found-requires c =
     let d = c in
     let a = d.args in
-    gather-rows (length a.x.now) (length a.h.now) (length a.l.now) (length a.s.now) (length a.b.now) (length a.o.now) (length a.w.now) (length a.v.now) d.requires.0 d.requires.1
+    gather-rows (length a.x.now) (length a.h.now) (length a.l.now) (length a.s.now) (length a.b.now) (length a.o.now) (length a.w.now) (length a.v.now)
+    d.requires.0 d.requires.1
 
 pub slice_bounds-exact-end : goal.slice_bounds-exact-end
 slice_bounds-exact-end c =
@@ -22,7 +23,8 @@ slice_bounds-exact-end c =
     let a = d.args in
     let g = c.gather-found in
     let k = g.result.count in
-    let n = count-rows (length a.x.now) (length a.h.now) (length a.l.now) (length a.s.now) (length a.b.now) (length a.o.now) (length a.w.now) (length a.v.now) d.requires.0 d.requires.1 k g.ensures.few in
+    let n = count-rows (length a.x.now) (length a.h.now) (length a.l.now) (length a.s.now) (length a.b.now) (length a.o.now) (length a.w.now)
+    (length a.v.now) d.requires.0 d.requires.1 k g.ensures.few in
     let e : length g.new.h ≡ length a.h.now = g.auto.h in
     let p : k ≤ length g.new.h = omega (arith, n.0, e) in
     p
@@ -33,7 +35,8 @@ slice_bounds-exact-end-2 c =
     let a = d.args in
     let g = c.gather-found in
     let k = g.result.count in
-    let n = count-rows (length a.x.now) (length a.h.now) (length a.l.now) (length a.s.now) (length a.b.now) (length a.o.now) (length a.w.now) (length a.v.now) d.requires.0 d.requires.1 k g.ensures.few in
+    let n = count-rows (length a.x.now) (length a.h.now) (length a.l.now) (length a.s.now) (length a.b.now) (length a.o.now) (length a.w.now)
+    (length a.v.now) d.requires.0 d.requires.1 k g.ensures.few in
     let e : length g.new.h ≡ length a.h.now = g.auto.h in
     let p : k ≤ length g.new.h = omega (arith, n.0, e) in
     sym (length-take-le k g.new.h p)
@@ -44,7 +47,8 @@ slice_bounds-exact-end-3 c =
     let a = d.args in
     let g = c.gather-found in
     let k = g.result.count in
-    let n = count-rows (length a.x.now) (length a.h.now) (length a.l.now) (length a.s.now) (length a.b.now) (length a.o.now) (length a.w.now) (length a.v.now) d.requires.0 d.requires.1 k g.ensures.few in
+    let n = count-rows (length a.x.now) (length a.h.now) (length a.l.now) (length a.s.now) (length a.b.now) (length a.o.now) (length a.w.now)
+    (length a.v.now) d.requires.0 d.requires.1 k g.ensures.few in
     let e : length g.new.l ≡ length a.l.now = g.auto.l in
     let p : k ≤ length g.new.l = omega (arith, n.1, e) in
     p
@@ -55,7 +59,8 @@ slice_bounds-exact-end-4 c =
     let a = d.args in
     let g = c.gather-found in
     let k = g.result.count in
-    let n = count-rows (length a.x.now) (length a.h.now) (length a.l.now) (length a.s.now) (length a.b.now) (length a.o.now) (length a.w.now) (length a.v.now) d.requires.0 d.requires.1 k g.ensures.few in
+    let n = count-rows (length a.x.now) (length a.h.now) (length a.l.now) (length a.s.now) (length a.b.now) (length a.o.now) (length a.w.now)
+    (length a.v.now) d.requires.0 d.requires.1 k g.ensures.few in
     let e : length g.new.l ≡ length a.l.now = g.auto.l in
     let p : k ≤ length g.new.l = omega (arith, n.1, e) in
     sym (length-take-le k g.new.l p)
@@ -66,7 +71,8 @@ slice_bounds-exact-end-5 c =
     let a = d.args in
     let g = c.gather-found in
     let k = g.result.count in
-    let n = count-rows (length a.x.now) (length a.h.now) (length a.l.now) (length a.s.now) (length a.b.now) (length a.o.now) (length a.w.now) (length a.v.now) d.requires.0 d.requires.1 k g.ensures.few in
+    let n = count-rows (length a.x.now) (length a.h.now) (length a.l.now) (length a.s.now) (length a.b.now) (length a.o.now) (length a.w.now)
+    (length a.v.now) d.requires.0 d.requires.1 k g.ensures.few in
     let e : length g.new.s ≡ length a.s.now = g.auto.s in
     let p : k ≤ length g.new.s = omega (arith, n.2, e) in
     p
@@ -77,7 +83,8 @@ slice_bounds-exact-end-6 c =
     let a = d.args in
     let g = c.gather-found in
     let k = g.result.count in
-    let n = count-rows (length a.x.now) (length a.h.now) (length a.l.now) (length a.s.now) (length a.b.now) (length a.o.now) (length a.w.now) (length a.v.now) d.requires.0 d.requires.1 k g.ensures.few in
+    let n = count-rows (length a.x.now) (length a.h.now) (length a.l.now) (length a.s.now) (length a.b.now) (length a.o.now) (length a.w.now)
+    (length a.v.now) d.requires.0 d.requires.1 k g.ensures.few in
     let e : length g.new.s ≡ length a.s.now = g.auto.s in
     let p : k ≤ length g.new.s = omega (arith, n.2, e) in
     sym (length-take-le k g.new.s p)
@@ -88,7 +95,8 @@ slice_bounds-exact-end-7 c =
     let a = d.args in
     let g = c.gather-found in
     let k = g.result.count in
-    let n = count-rows (length a.x.now) (length a.h.now) (length a.l.now) (length a.s.now) (length a.b.now) (length a.o.now) (length a.w.now) (length a.v.now) d.requires.0 d.requires.1 k g.ensures.few in
+    let n = count-rows (length a.x.now) (length a.h.now) (length a.l.now) (length a.s.now) (length a.b.now) (length a.o.now) (length a.w.now)
+    (length a.v.now) d.requires.0 d.requires.1 k g.ensures.few in
     let e : length g.new.b ≡ length a.b.now = g.auto.b in
     let p : k ≤ length g.new.b = omega (arith, n.3, e) in
     p
@@ -99,7 +107,8 @@ slice_bounds-exact-end-8 c =
     let a = d.args in
     let g = c.gather-found in
     let k = g.result.count in
-    let n = count-rows (length a.x.now) (length a.h.now) (length a.l.now) (length a.s.now) (length a.b.now) (length a.o.now) (length a.w.now) (length a.v.now) d.requires.0 d.requires.1 k g.ensures.few in
+    let n = count-rows (length a.x.now) (length a.h.now) (length a.l.now) (length a.s.now) (length a.b.now) (length a.o.now) (length a.w.now)
+    (length a.v.now) d.requires.0 d.requires.1 k g.ensures.few in
     let e : length g.new.b ≡ length a.b.now = g.auto.b in
     let p : k ≤ length g.new.b = omega (arith, n.3, e) in
     sym (length-take-le k g.new.b p)
@@ -110,7 +119,8 @@ slice_bounds-exact-end-9 c =
     let a = d.args in
     let g = c.gather-found in
     let k = g.result.count in
-    let n = count-rows (length a.x.now) (length a.h.now) (length a.l.now) (length a.s.now) (length a.b.now) (length a.o.now) (length a.w.now) (length a.v.now) d.requires.0 d.requires.1 k g.ensures.few in
+    let n = count-rows (length a.x.now) (length a.h.now) (length a.l.now) (length a.s.now) (length a.b.now) (length a.o.now) (length a.w.now)
+    (length a.v.now) d.requires.0 d.requires.1 k g.ensures.few in
     n.4
 
 pub slice_bounds-exact-end-10 : goal.slice_bounds-exact-end-10
@@ -119,7 +129,8 @@ slice_bounds-exact-end-10 c =
     let a = d.args in
     let g = c.gather-found in
     let k = g.result.count in
-    let n = count-rows (length a.x.now) (length a.h.now) (length a.l.now) (length a.s.now) (length a.b.now) (length a.o.now) (length a.w.now) (length a.v.now) d.requires.0 d.requires.1 k g.ensures.few in
+    let n = count-rows (length a.x.now) (length a.h.now) (length a.l.now) (length a.s.now) (length a.b.now) (length a.o.now) (length a.w.now)
+    (length a.v.now) d.requires.0 d.requires.1 k g.ensures.few in
     sym (length-take-le k a.o.now n.4)
 
 pub slice_bounds-exact-end-11 : goal.slice_bounds-exact-end-11
@@ -128,7 +139,8 @@ slice_bounds-exact-end-11 c =
     let a = d.args in
     let g = c.gather-found in
     let k = g.result.count in
-    let n = count-rows (length a.x.now) (length a.h.now) (length a.l.now) (length a.s.now) (length a.b.now) (length a.o.now) (length a.w.now) (length a.v.now) d.requires.0 d.requires.1 k g.ensures.few in
+    let n = count-rows (length a.x.now) (length a.h.now) (length a.l.now) (length a.s.now) (length a.b.now) (length a.o.now) (length a.w.now)
+    (length a.v.now) d.requires.0 d.requires.1 k g.ensures.few in
     n.5
 
 pub slice_bounds-exact-end-12 : goal.slice_bounds-exact-end-12
@@ -137,7 +149,8 @@ slice_bounds-exact-end-12 c =
     let a = d.args in
     let g = c.gather-found in
     let k = g.result.count in
-    let n = count-rows (length a.x.now) (length a.h.now) (length a.l.now) (length a.s.now) (length a.b.now) (length a.o.now) (length a.w.now) (length a.v.now) d.requires.0 d.requires.1 k g.ensures.few in
+    let n = count-rows (length a.x.now) (length a.h.now) (length a.l.now) (length a.s.now) (length a.b.now) (length a.o.now) (length a.w.now)
+    (length a.v.now) d.requires.0 d.requires.1 k g.ensures.few in
     sym (length-take-le k a.w.now n.5)
 
 pub slice_bounds-exact-end-13 : goal.slice_bounds-exact-end-13
@@ -146,7 +159,8 @@ slice_bounds-exact-end-13 c =
     let a = d.args in
     let g = c.gather-found in
     let k = g.result.count in
-    let n = count-rows (length a.x.now) (length a.h.now) (length a.l.now) (length a.s.now) (length a.b.now) (length a.o.now) (length a.w.now) (length a.v.now) d.requires.0 d.requires.1 k g.ensures.few in
+    let n = count-rows (length a.x.now) (length a.h.now) (length a.l.now) (length a.s.now) (length a.b.now) (length a.o.now) (length a.w.now)
+    (length a.v.now) d.requires.0 d.requires.1 k g.ensures.few in
     n.6
 
 pub slice_bounds-exact-end-14 : goal.slice_bounds-exact-end-14
@@ -155,7 +169,8 @@ slice_bounds-exact-end-14 c =
     let a = d.args in
     let g = c.gather-found in
     let k = g.result.count in
-    let n = count-rows (length a.x.now) (length a.h.now) (length a.l.now) (length a.s.now) (length a.b.now) (length a.o.now) (length a.w.now) (length a.v.now) d.requires.0 d.requires.1 k g.ensures.few in
+    let n = count-rows (length a.x.now) (length a.h.now) (length a.l.now) (length a.s.now) (length a.b.now) (length a.o.now) (length a.w.now)
+    (length a.v.now) d.requires.0 d.requires.1 k g.ensures.few in
     sym (length-take-le k a.v.now n.6)
 
 pub exact-requires : goal.exact-requires
@@ -164,7 +179,8 @@ exact-requires c =
     let a = d.args in
     let g = c.gather-found in
     let k = g.result.count in
-    let n = count-rows (length a.x.now) (length a.h.now) (length a.l.now) (length a.s.now) (length a.b.now) (length a.o.now) (length a.w.now) (length a.v.now) d.requires.0 d.requires.1 k g.ensures.few in
+    let n = count-rows (length a.x.now) (length a.h.now) (length a.l.now) (length a.s.now) (length a.b.now) (length a.o.now) (length a.w.now)
+    (length a.v.now) d.requires.0 d.requires.1 k g.ensures.few in
     let eh : length g.new.h ≡ length a.h.now = g.auto.h in
     let el : length g.new.l ≡ length a.l.now = g.auto.l in
     let es : length g.new.s ≡ length a.s.now = g.auto.s in
@@ -189,7 +205,8 @@ print-requires c =
     let a = d.args in
     let g = c.gather-found in
     let k = g.result.count in
-    let n = count-rows (length a.x.now) (length a.h.now) (length a.l.now) (length a.s.now) (length a.b.now) (length a.o.now) (length a.w.now) (length a.v.now) d.requires.0 d.requires.1 k g.ensures.few in
+    let n = count-rows (length a.x.now) (length a.h.now) (length a.l.now) (length a.s.now) (length a.b.now) (length a.o.now) (length a.w.now)
+    (length a.v.now) d.requires.0 d.requires.1 k g.ensures.few in
     let eh : length g.new.h ≡ length a.h.now = g.auto.h in
     let el : length g.new.l ≡ length a.l.now = g.auto.l in
     let es : length g.new.s ≡ length a.s.now = g.auto.s in

@@ -1,3 +1,4 @@
+-- `latest::room_for` meets its contract. Assumes nothing.
 use native.Mathlib.Omega.{arith}
 use Rattle.latest.specs.Call.{room_for}
 use Rattle.latest.proofs.room_for.Goals as goal

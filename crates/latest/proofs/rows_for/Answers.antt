@@ -1,3 +1,4 @@
+-- `latest::rows_for` meets its contract. Assumes nothing.
 use native.Mathlib.Omega.{arith}
 use Rattle.latest.specs.Call.{rows_for}
 use Rattle.latest.proofs.rows_for.Goals as goal

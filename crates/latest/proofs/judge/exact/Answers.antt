@@ -1,3 +1,4 @@
+-- `latest::judge::exact` meets its contract. Assumes nothing.
 use native.Mathlib.Omega.{arith}
 use mathlib.Core.Path.{◌≡◌, ◌∙◌}
 use lib.ListN.{length}
@@ -21,7 +22,11 @@ judge-requires c =
     let y = c.sort.new.o in
     let yl : length y ≡ length x = c.sort.auto.o in
     let w = c.sort.new.w in
-    let wl : length w ≡ length a.w.now = c.sort.auto.w in record { l_len = (q.0, q.1, q.2, omega (arith, q.3, q.4), q.5, q.6); order = ordered a.h.now a.l.now a.s.now x y (length a.o.now) (omega (arith, c.well_formed.0)) q.3 xl yl c.number.ensures c.sort.ensures }
+    let wl : length w ≡ length a.w.now = c.sort.auto.w in
+    record {
+      l_len = (q.0, q.1, q.2, omega (arith, q.3, q.4), q.5, q.6);
+      order = ordered a.h.now a.l.now a.s.now x y (length a.o.now) (omega (arith, c.well_formed.0)) q.3 xl yl c.number.ensures c.sort.ensures;
+    }
 
 pub shape_of-o : goal.shape_of-o
 shape_of-o c =

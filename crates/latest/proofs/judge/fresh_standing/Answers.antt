@@ -1,3 +1,4 @@
+-- `latest::judge::fresh_standing` meets its contract. Assumes nothing.
 use borrow.Author.Tests.{eq-eqb, ne_eqb}
 use Rattle.latest.proofs.judge.fresh_standing.Goals as goal
 

@@ -1,3 +1,4 @@
+-- `latest::judge::judge` meets its contract. Assumes nothing.
 use native.Mathlib.Omega.{arith}
 use mathlib.Core.Path.{◌≡◌, sym, ◌∙◌}
 use Prim.Native.Nat.{◌<◌, ◌-◌}
@@ -107,7 +108,9 @@ loop-k-preserved c =
     let wl : Words a.l.now = λ i. omega (arith, c.type_inv.l i) in
     let ws : Words a.s.now = λ i. omega (arith, c.type_inv.s i) in
     let small : length a.h.now < 18446744073709551616 = omega (arith, c.well_formed.0) in
-    judging-more a.x.now a.h.now a.l.now a.s.now a.b.now q.0 q.1 q.2 wl ws small o d v.v k v.standing c.standing_at-standing.result c.settled.result (get_or c.marks.new.w (k - 1) 0) c.loop-k-test.true g (c.marks.ensures (k - 1) (omega (arith, g.k-in))) c.standing_at-standing.ensures c.settled.ensures
+    judging-more a.x.now a.h.now a.l.now a.s.now a.b.now q.0 q.1 q.2 wl ws small o d v.v k v.standing c.standing_at-standing.result c.settled.result
+    (get_or c.marks.new.w (k - 1) 0) c.loop-k-test.true g (c.marks.ensures (k - 1) (omega (arith, g.k-in))) c.standing_at-standing.ensures
+    c.settled.ensures
 
 pub shape_of-v : goal.shape_of-v
 shape_of-v c =

@@ -1,3 +1,4 @@
+-- `latest::judge::next_mark` meets its contract. Assumes nothing.
 use borrow.Author.Tests.{eq-eqb, ne_eqb}
 use Rattle.latest.proofs.judge.next_mark.Goals as goal
 

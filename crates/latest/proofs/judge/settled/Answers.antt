@@ -1,3 +1,4 @@
+-- `latest::judge::settled` meets its contract. Assumes nothing.
 use borrow.Author.Tests.{eq-eqb, ne_eqb}
 use Rattle.latest.proofs.judge.settled.Goals as goal
 

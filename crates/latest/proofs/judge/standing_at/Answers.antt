@@ -1,3 +1,4 @@
+-- `latest::judge::standing_at` meets its contract. Assumes nothing.
 use native.Mathlib.Omega.{arith}
 use mathlib.Core.Path.{◌≡◌, sym, ◌∙◌}
 use Prim.Native.Nat.{◌+◌}
@@ -35,4 +36,5 @@ returns-then-same_key c =
 pub returns : goal.returns
 returns c =
     let a = c.args in
-    rw (ne_eqb (a.k + 1) (length a.o.now) c.if-e-o.false, sym c.same_top.ensures ∙ c.if-same_top.false, sym c.same_key.ensures ∙ c.if-same_key.false) c.fresh_standing-2.ensures
+    rw (ne_eqb (a.k + 1) (length a.o.now) c.if-e-o.false, sym c.same_top.ensures ∙ c.if-same_top.false, sym c.same_key.ensures ∙ c.if-same_key.false)
+    c.fresh_standing-2.ensures

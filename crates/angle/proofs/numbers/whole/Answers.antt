@@ -1,4 +1,4 @@
--- `angle::units::whole` meets its contract: 2^52 and the number is an f64's pattern, and 2^52 taken off it leaves the number. Assumes nothing.
+-- `angle::numbers::whole` meets its contract: 2^52 and the number is an f64's pattern, and 2^52 taken off it leaves the number. Assumes nothing.
 use mathlib.Core.Path.{◌≡◌, sym, ◌∙◌, ap}
 use native.Mathlib.Omega.{arith}
 use lib.IntN.{ℤ, pos}
@@ -8,10 +8,9 @@ use mir.Val.{to_z, of_z}
 use Rattle.rounding.proofs.Machine.{rd}
 use Rattle.ranges.proofs.Ranges.{Natural, natural}
 use Rattle.angle.proofs.Digits52.{no_nan, taken-off}
-use Rattle.angle.proofs.units.whole.Tie as tie
-use Rattle.angle.proofs.units.whole.Lts as lts
-use Rattle.angle.proofs.units.whole.Reads as reads
-use Rattle.angle.proofs.units.whole.Goals as goal
+use Rattle.angle.proofs.numbers.whole.Lts as lts
+use Rattle.angle.proofs.numbers.whole.Reads as reads
+use Rattle.angle.proofs.numbers.whole.Goals as goal
 
 abbrev TheStart : Type 0
 TheStart = lts.Start reads.Pre reads.Post

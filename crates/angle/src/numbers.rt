@@ -4,6 +4,12 @@ ghost use Rattle.ranges.specs.Ranges.{within};
 ghost use Rattle.elementary.specs.Floats.{◌⊗◌, whole as Floats·whole};
 ghost use Rattle.angle.specs.Units.{k};
 
+// Seconds in a radian.
+pub const SECONDS: f64 = 206264.806247096355;
+
+// 90 degrees, in units of 0.00001".
+pub(crate) const QUARTER: i64 = 32400000000;
+
 // Units of 0.00001" in radians.
 pub fn radians(n: f64) -> f64
     ensures { result ≡ n ⊗ k }

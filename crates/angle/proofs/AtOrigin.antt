@@ -4,7 +4,7 @@ use mathlib.Core.Path.{◌≡◌, refl, ap, ap₂, ◌∙◌}
 use mathlib.Core.Logic.{◌⊎◌, inl, inr}
 use mathlib.Core.List.{List, [], ◌∷◌}
 use mathlib.Core.Bool.{Bool, true, false, not}
-use Prim.Native.Nat.{suc, ◌≤◌, ◌<◌, zero-le}
+use Prim.Native.Nat.{suc, ◌<◌, zero-le}
 use native.Mathlib.Nat.{zero-lt-suc}
 use borrow.Author.Tests.{not-false}
 use lib.Dec.{T, lit<, lit≤}
@@ -17,6 +17,7 @@ use Rattle.bounds.proofs.Size.{sign, sign-round, div-sign}
 use Rattle.bounds.proofs.Among.{Ends, Among, exact_ends, is_finite, num-above, closed, within}
 use Rattle.bounds.proofs.Formula.{var, over, All, none, also, value, tested, proved}
 use Rattle.bounds.proofs.Zero.{wholes, whole-among, nought, Upto, sub_self, add-zero-is}
+use Rattle.std.specs.Prelude.{Ok, Err}
 use Rattle.elementary.specs.Floats.{near, #}
 use Rattle.angle.specs.Units.{k, radians, metres}
 use Rattle.angle.specs.Ranges.{nearby, origin_tests, angles_and_meridian_tests, cassini_tests, origin_fault}
@@ -24,7 +25,7 @@ use Rattle.elementary.specs.Series.{sine_of, cosine_of}
 use Rattle.angle.specs.Ellipsoids.{ellipsoid_of, prime_vertical, meridian_arc}
 use Rattle.angle.specs.Cassini.{origin_made, cassini_with, cassini_at, cassini_of}
 use Rattle.angle.specs.declared.OriginNumbers.{OriginNumbers}
-use Rattle.angle.specs.declared.Projected.TheVariants.{Metres, Refused}
+use Rattle.angle.specs.declared.Projected.{Projected}
 use Rattle.refusal.proofs.Orders as orders
 use Rattle.refusal.proofs.Orders.{Passed, passed, both, unless-none}
 use Rattle.elementary.proofs.Formulas.{n}
@@ -95,6 +96,12 @@ kept : (z : ℤ) (x : Float) → Upto 2000000000 z → Among x nought → add bi
 kept z x h X = add-zero-is (metres z) x (metres-fits z) (is_finite (metres-among z h)) (metres-sign z h) X
 
 -- ---- the formulas at the origin
+abbrev laid_at : Float → Float → Projected
+laid_at e n = record { easting = e; northing = n }
+
+abbrev false_origin : OriginNumbers → Projected
+false_origin o = laid_at (metres o.false_easting) (metres o.false_northing)
+
 module _ (o : OriginNumbers) (p : Passed (origin_tests o)) where
   lat : Upto 2880000000 o.latitude
   lat = natural-upto (natural 0 o.latitude 2880000000 (not-false _ p.1.1.1.0))
@@ -125,14 +132,14 @@ module _ (o : OriginNumbers) (p : Passed (origin_tests o)) where
       (also (radius-among (ellipsoid_of o.ellipsoid) o.latitude E lat)
       (also (closed (radians (pos 0)) nought zero_test) (also (sub_self M (is_finite (arc-among (ellipsoid_of o.ellipsoid) o.latitude E lat))) none)))))
 
-  laid : cassini_with (origin_made o) s c ν M (radians (pos 0)) ≡ Metres (metres o.false_easting) (metres o.false_northing)
+  laid : cassini_with (origin_made o) s c ν M (radians (pos 0)) ≡ false_origin o
   unfolding value cassini_with origin_made
   laid =
-      ap₂ Metres
+      ap₂ laid_at
       (kept o.false_easting (value (e ∷ s ∷ c ∷ ν ∷ radians (pos 0) ∷ sub binary64 M M ∷ []) east_f) (upto 2000000000 1999999999 o.false_easting 2000000000 (lit≤ tt) (lit≤ tt) (not-false _ p.1.0)) (proved all east_f nought east-test))
       (kept o.false_northing (value (e ∷ s ∷ c ∷ ν ∷ radians (pos 0) ∷ sub binary64 M M ∷ []) north_f) (upto 2000000000 1999999999 o.false_northing 2000000000 (lit≤ tt) (lit≤ tt) (not-false _ p.1.1.0)) (proved all north_f nought north-test))
 
-  at : cassini_at (origin_made o) o.latitude o.longitude ≡ Metres (metres o.false_easting) (metres o.false_northing)
+  at : cassini_at (origin_made o) o.latitude o.longitude ≡ false_origin o
   unfolding cassini_at origin_made
   at = ap (λ (z : ℤ). cassini_with (origin_made o) s c ν M (radians z)) (+ℤ_invr o.longitude) ∙ laid
 
@@ -141,10 +148,10 @@ near-itself : (z : ℤ) → nearby z z ≡ true
 near-itself z = ap (up_to 1440000000) (+ℤ_invr z) ∙ up-to-holds 1440000000 (pos 0) (lit≤ tt)
 
 -- ---- the theorem
-pub at-origin : (o : OriginNumbers) → origin_fault o ≡ 0 → cassini_of o o.latitude o.longitude ≡ Metres (metres o.false_easting) (metres o.false_northing)
+pub at-origin : (o : OriginNumbers) → origin_fault o ≡ 0 → cassini_of o o.latitude o.longitude ≡ Ok (record { easting = metres o.false_easting; northing = metres o.false_northing })
 unfolding origin_fault cassini_of
 at-origin o h =
     let p : Passed (origin_tests o) = passed (origin_tests o) tt h in
     let q : Passed (angles_and_meridian_tests o.longitude o.latitude o.longitude) = (p.1.1.1.0, (p.1.1.1.1.0, (ap not (near-itself o.longitude), tt))) in
-    unless-none _ Refused (cassini_at (origin_made o) o.latitude o.longitude) (orders.none (cassini_tests o o.latitude o.longitude) (both (origin_tests o) (angles_and_meridian_tests o.longitude o.latitude o.longitude) p q))
-    ∙ at o p
+    unless-none _ Err (Ok (cassini_at (origin_made o) o.latitude o.longitude)) (orders.none (cassini_tests o o.latitude o.longitude) (both (origin_tests o) (angles_and_meridian_tests o.longitude o.latitude o.longitude) p q))
+    ∙ ap Ok (at o p)

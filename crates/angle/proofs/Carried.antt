@@ -1,13 +1,10 @@
 -- What angles and an origin are refused for cannot tell them from the same with their numbers carried another way, where the ranges can't. Assumes nothing.
-use Prim.Native.Nat.{ℕ}
 use mathlib.Core.Path.{◌≡◌}
 use mathlib.Core.Bool.{Bool, false, not}
 use lib.IntN.{ℤ}
 use borrow.Author.Tests.{not-false}
-use Rattle.refusal.specs.Order.{first}
 use Rattle.refusal.proofs.Orders as orders
 use Rattle.ranges.proofs.Carried.{Sure, Careful, Carries, sure-ellipsoid, sure-offset, sure-latitude, sure-longitude}
-use Rattle.angle.specs.declared.OriginNumbers.{OriginNumbers}
 use Rattle.angle.specs.Ranges.{angle_tests, origin_tests, angles_fault, origin_fault}
 use Rattle.angle.specs.Carried.{carried_origin}
 

@@ -3,13 +3,14 @@
 use mathlib.Core.Path.{◌≡◌, refl, sym, ap, ◌∙◌, subst}
 use mathlib.Core.List.{List, [], ◌∷◌}
 use mathlib.Core.Bool.{false}
-use Prim.Native.Nat.{ℕ, zero, suc, ◌-◌, ◌≤◌, ◌<◌}
+use Prim.Native.Nat.{ℕ, zero, suc, ◌-◌}
 use native.Mathlib.Omega.{arith}
 use borrow.Author.Tests.{not-false}
 use lib.Dec.{T, lit≤, lit<}
 use lib.IntN.{ℤ, pos, ◌-ℤ◌}
 use lib.Ieee.{Float, binary64, round, neg, sub, div}
 use lib.Ieee.Scale.{finite}
+use Rattle.std.specs.Prelude.{Result, Ok, Err}
 use Rattle.refusal.specs.Order.{first, unless}
 use Rattle.rounding.specs.Decimals.{whole_of}
 use Rattle.bounds.proofs.Among.{Ends, Among, neg-among}
@@ -24,12 +25,8 @@ use Rattle.angle.specs.Cartesian.{cartesian_at, cartesian_of, in_units, cartesia
 use Rattle.angle.specs.Cassini.{origin_made, cassini_with, cassini_at, cassini_of, in_millimetres, cassini_millimetres_of}
 use Rattle.angle.specs.declared.Ellipsoid.{Ellipsoid}
 use Rattle.angle.specs.declared.OriginNumbers.{OriginNumbers}
-use Rattle.angle.specs.declared.Cartesian.{Cartesian}
-use Rattle.angle.specs.declared.Cartesian.TheVariants as cartesian
-use Rattle.angle.specs.declared.CartesianUnits.TheVariants.{Units}
+use Rattle.angle.specs.declared.Metres.{Metres}
 use Rattle.angle.specs.declared.Projected.{Projected}
-use Rattle.angle.specs.declared.Projected.TheVariants as projected
-use Rattle.angle.specs.declared.ProjectedMillimetres.TheVariants.{Millimetres}
 use Rattle.refusal.proofs.Orders.{Passed, passed}
 use Rattle.elementary.proofs.Formulas.{sine_f, cosine_f, sine-among, cosine-among}
 use Rattle.angle.proofs.Formulas.{east_f, north_f, axis_f, polar_f}
@@ -44,9 +41,9 @@ given zero r a P R A = A refl
 given (suc f) r a P R A = R (suc f)
 
 -- ---- geodetic to Cartesian: |X| at most 3,700,000 m, |Y| at most 7,500,000 m, |Z| at most 1,000,000 m
-abbrev pub CartesianBounded : Cartesian → Type 0
-CartesianBounded (cartesian.Metres x y z) = Among x (size_up_to 3700000 1) × Among y (size_up_to 7500000 1) × Among z (size_up_to 1000000 1)
-CartesianBounded (cartesian.Refused i) = Unit {0}
+abbrev pub CartesianBounded : Result Metres ℕ → Type 0
+CartesianBounded (Ok m) = Among m.x (size_up_to 3700000 1) × Among m.y (size_up_to 7500000 1) × Among m.z (size_up_to 1000000 1)
+CartesianBounded (Err i) = Unit {0}
 
 -- a longitude past 90 degrees: up to 0.53
 past-finite : T (finite (round binary64 false 10800000000 1))
@@ -122,20 +119,20 @@ module _ (code lat lon h : ℤ) (p : Passed (cartesian_tests code lat lon h)) wh
       (also (cosine-latitude e lat E latitude)
       (also (neg-among (sine-among (size_up_to 53 100) (size_up_to 56 100) sine-test past)) (also (cosine-among (size_up_to 53 100) (size_up_to 115 100) cosine-test past) none))))))
 
-  position-bounded : CartesianBounded (cartesian_at e lat lon h)
+  position-bounded : CartesianBounded (Ok (cartesian_at e lat lon h))
   unfolding value cartesian_at
   position-bounded = (proved all (axis_f (var 5)) (size_up_to 3700000 1) x-test, proved all (axis_f (var 6)) (size_up_to 7500000 1) y-test, proved all polar_f (size_up_to 1000000 1) z-test)
 
 pub cartesian-bounded : (code lat lon h : ℤ) → CartesianBounded (cartesian_of code lat lon h)
 unfolding cartesian_of
 cartesian-bounded code lat lon h =
-    given (first (cartesian_tests code lat lon h)) cartesian.Refused (cartesian_at (ellipsoid_of code) lat lon h) CartesianBounded (λ i. tt)
+    given (first (cartesian_tests code lat lon h)) Err (Ok (cartesian_at (ellipsoid_of code) lat lon h)) CartesianBounded (λ i. tt)
     (λ (z : first (cartesian_tests code lat lon h) ≡ 0). position-bounded code lat lon h (passed (cartesian_tests code lat lon h) tt z))
 
 -- ---- Cassini: |E| at most 2,500,000 m, |N| at most 3,900,000 m
-abbrev pub ProjectedBounded : Projected → Type 0
-ProjectedBounded (projected.Metres x y) = Among x (size_up_to 2500000 1) × Among y (size_up_to 3900000 1)
-ProjectedBounded (projected.Refused i) = Unit {0}
+abbrev pub ProjectedBounded : Result Projected ℕ → Type 0
+ProjectedBounded (Ok p) = Among p.easting (size_up_to 2500000 1) × Among p.northing (size_up_to 3900000 1)
+ProjectedBounded (Err i) = Unit {0}
 
 difference-finite : T (finite (round binary64 false 1440000000 1))
 unfolding round
@@ -194,7 +191,7 @@ module _ (o : OriginNumbers) (lat lon : ℤ) (p : Passed (origin_tests o)) (q : 
       (also (cosine-latitude g lat G latitude')
       (also (radius-among g lat G latitude') (also difference (also arcs-among (also (metres-among z h) none))))))
 
-  cassini-bounded : ProjectedBounded (cassini_at (origin_made o) lat lon)
+  cassini-bounded : ProjectedBounded (Ok (cassini_at (origin_made o) lat lon))
   unfolding value cassini_at cassini_with origin_made
   cassini-bounded = (
     proved (laid o.false_easting (upto 2000000000 1999999999 o.false_easting 2000000000 (lit≤ tt) (lit≤ tt) (not-false _ p.1.0))) (plus (var 6) east_f) (size_up_to 2500000 1) east-test,
@@ -204,7 +201,7 @@ module _ (o : OriginNumbers) (lat lon : ℤ) (p : Passed (origin_tests o)) (q : 
 pub projected-bounded : (o : OriginNumbers) (lat lon : ℤ) → ProjectedBounded (cassini_of o lat lon)
 unfolding cassini_of
 projected-bounded o lat lon =
-    given (first (cassini_tests o lat lon)) projected.Refused (cassini_at (origin_made o) lat lon) ProjectedBounded (λ i. tt)
+    given (first (cassini_tests o lat lon)) Err (Ok (cassini_at (origin_made o) lat lon)) ProjectedBounded (λ i. tt)
     (λ (z : first (cassini_tests o lat lon) ≡ 0).
     let p : Passed (cassini_tests o lat lon) = passed (cassini_tests o lat lon) tt z in
     cassini-bounded o lat lon (p.0, (p.1.0, (p.1.1.0, (p.1.1.1.0, (p.1.1.1.1.0, tt))))) p.1.1.1.1.1)
@@ -230,17 +227,17 @@ bound-n : Bound 3900000
 unfolding round
 bound-n = record { is = refl; unit = refl; low = lit< tt }
 
-pub units-answered : (code lat lon h : ℤ) (x y z : Float)
-    → cartesian_of code lat lon h ≡ cartesian.Metres x y z → cartesian_units_of code lat lon h ≡ Units (whole_of x 5) (whole_of y 5) (whole_of z 5)
+pub units-answered : (code lat lon h : ℤ) (m : Metres)
+    → cartesian_of code lat lon h ≡ Ok m → cartesian_units_of code lat lon h ≡ Ok (record { x = whole_of m.x 5; y = whole_of m.y 5; z = whole_of m.z 5 })
 unfolding cartesian_units_of in_units
-units-answered code lat lon h x y z e =
-    let b : CartesianBounded (cartesian.Metres x y z) = subst CartesianBounded e (cartesian-bounded code lat lon h) in
+units-answered code lat lon h m e =
+    let b : CartesianBounded (Ok m) = subst CartesianBounded e (cartesian-bounded code lat lon h) in
     ap in_units e
-    ∙ rw (whole-answer x 5 bound-x (lit≤ tt) b.0.most, whole-answer y 5 bound-y (lit≤ tt) b.1.most, whole-answer z 5 bound-z (lit≤ tt) b.2.most)
+    ∙ rw (whole-answer m.x 5 bound-x (lit≤ tt) b.0.most, whole-answer m.y 5 bound-y (lit≤ tt) b.1.most, whole-answer m.z 5 bound-z (lit≤ tt) b.2.most)
 
-pub millimetres-answered : (o : OriginNumbers) (lat lon : ℤ) (x y : Float)
-    → cassini_of o lat lon ≡ projected.Metres x y → cassini_millimetres_of o lat lon ≡ Millimetres (whole_of x 3) (whole_of y 3)
+pub millimetres-answered : (o : OriginNumbers) (lat lon : ℤ) (p : Projected)
+    → cassini_of o lat lon ≡ Ok p → cassini_millimetres_of o lat lon ≡ Ok (record { easting = whole_of p.easting 3; northing = whole_of p.northing 3 })
 unfolding cassini_millimetres_of in_millimetres
-millimetres-answered o lat lon x y e =
-    let b : ProjectedBounded (projected.Metres x y) = subst ProjectedBounded e (projected-bounded o lat lon) in
-    ap in_millimetres e ∙ rw (whole-answer x 3 bound-e (lit≤ tt) b.0.most, whole-answer y 3 bound-n (lit≤ tt) b.1.most)
+millimetres-answered o lat lon p e =
+    let b : ProjectedBounded (Ok p) = subst ProjectedBounded e (projected-bounded o lat lon) in
+    ap in_millimetres e ∙ rw (whole-answer p.easting 3 bound-e (lit≤ tt) b.0.most, whole-answer p.northing 3 bound-n (lit≤ tt) b.1.most)

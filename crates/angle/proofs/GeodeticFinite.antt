@@ -9,6 +9,7 @@ use lib.Dec.{T, lit≤, lit<}
 use lib.IntN.{ℤ, pos, negsuc, ◌+ℤ◌}
 use lib.Ieee.{binary64, round, neg, div, of_int}
 use lib.Ieee.Scale.{finite}
+use Rattle.std.specs.Prelude.{Err}
 use Rattle.refusal.specs.Order.{first, unless}
 use Rattle.rounding.specs.Decimals.{whole_of}
 use Rattle.refusal.proofs.Orders.{Passed, passed}
@@ -23,7 +24,6 @@ use Rattle.angle.specs.Ranges.{position_tests}
 use Rattle.angle.specs.Ellipsoids.{ellipsoid_of}
 use Rattle.angle.specs.Geodetic.{found_at, in_ranges, from_rounded, in_angles, geodetic_units_of}
 use Rattle.angle.specs.declared.Found.{Found}
-use Rattle.angle.specs.declared.GeodeticUnits.TheVariants.{Refused}
 use Rattle.angle.proofs.WholeAnswers.{Bound, whole-answer}
 use Rattle.angle.proofs.GeodeticFormulas.{latitude_f, longitude_f, height_f, given, found-is}
 use Rattle.angle.proofs.Sizes.{above, size_up_to, axis, flattening, eccentricity, shaped}
@@ -133,5 +133,5 @@ unfolding geodetic_units_of in_angles from_rounded
 none-refused code X Y Z h =
     let f = found_at (ellipsoid_of code) X Y Z in
     let b = found-bounded code X Y Z h in
-    ap (λ (i : ℕ). unless i Refused (in_angles f)) h
+    ap (λ (i : ℕ). unless i Err (in_angles f)) h
     ∙ rw (whole-answer f.latitude 5 bound-latitude (lit≤ tt) b.latitude.most, whole-answer f.longitude 5 bound-longitude (lit≤ tt) b.longitude.most, whole-answer f.height 5 bound-height (lit≤ tt) b.height.most)

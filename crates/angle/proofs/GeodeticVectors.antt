@@ -5,6 +5,7 @@ use mathlib.Core.List.{List, [], ◌∷◌}
 use Prim.Native.Nat.{ℕ}
 use lib.IntN.{pos, negsuc}
 use lib.Ieee.{Float, binary64, round, neg, sub, add, mul, div, of_int, of_bits}
+use Rattle.std.specs.Prelude.{Result, Ok, Err}
 use Rattle.elementary.specs.Floats.{◌⊗◌, ◌⊘◌, ◌⊕◌, #, whole}
 use Rattle.elementary.specs.Series.{arctan_small_of}
 use Rattle.elementary.specs.Root.{root_of}
@@ -14,8 +15,7 @@ use Rattle.angle.specs.Worked.{open_angles}
 use Rattle.angle.specs.Units.{seconds}
 use Rattle.angle.specs.Ellipsoids.{ellipsoid_of}
 use Rattle.angle.specs.Geodetic.{tangent_of, height_of, in_ranges, from_rounded, in_angles, geodetic_units_of}
-use Rattle.angle.specs.declared.GeodeticUnits.{GeodeticUnits}
-use Rattle.angle.specs.declared.GeodeticUnits.TheVariants.{Units, Refused}
+use Rattle.angle.specs.declared.Angles.{Angles}
 
 abbrev f64 : ℕ → Float
 f64 n = of_bits binary64 n
@@ -43,7 +43,7 @@ unfolding found expected tangent_of height_of open_angles round neg sub add mul 
 worked = refl
 
 -- in units; and a code, a position and a result that are refused
-answers : List GeodeticUnits
+answers : List (Result Angles ℕ)
 answers =
     in_angles (record { latitude = f64 0x40d6ad246bf29556; longitude = f64 0x40e211e19fd58e4e; height = f64 0x403213fb1c380000 })
     ∷ geodetic_units_of (pos 5) (pos 0) (pos 0) (pos 0)
@@ -51,6 +51,6 @@ answers =
     ∷ in_angles (record { latitude = # 28800; longitude = # 32400; height = # 9001 })
     ∷ []
 
-answered : answers ≡ (Units (pos 2322056909) (pos 36100705076) (pos 1807805) ∷ Refused range ∷ Refused numbers.area ∷ Refused geodetic ∷ [])
+answered : answers ≡ (Ok (record { latitude = pos 2322056909; longitude = pos 36100705076; height = pos 1807805 }) ∷ Err range ∷ Err numbers.area ∷ Err geodetic ∷ [])
 unfolding answers geodetic_units_of in_angles from_rounded in_ranges open_angles round of_bits
 answered = refl

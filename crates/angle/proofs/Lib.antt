@@ -3,6 +3,7 @@ pub mod Arcs
 pub mod AtOrigin
 pub mod Codes
 pub mod Digits52
+pub mod Exits
 pub mod Finite
 pub mod Formulas
 pub mod GeodeticFinite

@@ -7,8 +7,8 @@ use native.Mathlib.Omega.{arith}
 use lib.Ieee.{Float, nan, inf, fin, up, down}
 use lib.Ieee.Fits.{down_pos}
 use lib.Ieee.Positive.{num, den}
+use Rattle.std.specs.Prelude.{Ok}
 use Rattle.rounding.specs.Decimals.{too_large, whole_of, rounded_of}
-use Rattle.rounding.specs.declared.decimals.Rounded.TheVariants.{Whole}
 use Rattle.rounding.proofs.Places.{few, not-large}
 use Rattle.bounds.proofs.Size.{Under}
 use Rattle.elementary.specs.Floats.{#}
@@ -30,5 +30,5 @@ pub record Bound (b : ℕ) : Type 0 where
   pub unit : den (# b) ≡ 1
   pub low : b < 10000000
 
-pub whole-answer : {b : ℕ} (x : Float) (p : ℕ) → Bound b → p ≤ 5 → Under x (# b) → rounded_of x p ≡ Whole (whole_of x p)
+pub whole-answer : {b : ℕ} (x : Float) (p : ℕ) → Bound b → p ≤ 5 → Under x (# b) → rounded_of x p ≡ Ok (whole_of x p)
 whole-answer {b} x p B h k = few x p h (under-large b x (# b) B.is B.unit B.low k)

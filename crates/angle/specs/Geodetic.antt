@@ -1,12 +1,9 @@
 -- Cartesian to geodetic: the circular's reverse without iteration, in the order of docs/ORDERS.md, section 4.
-use Rattle.std.specs.Prelude.{ℤ, pos, ◌+ℤ◌, Float}
+use Rattle.std.specs.Prelude.{ℕ, ℤ, pos, ◌+ℤ◌, Float, Result, Ok, Err}
 use Rattle.std.specs.Float.Ieee.{neg}
 use Rattle.refusal.specs.Numbers.{geodetic}
 use Rattle.refusal.specs.Order.{first, unless}
-use Rattle.rounding.specs.Decimals.{rounded_of}
-use Rattle.rounding.specs.declared.decimals.Rounded.{Rounded}
-use Rattle.rounding.specs.declared.decimals.Rounded.TheVariants.{Whole}
-use Rattle.rounding.specs.declared.decimals.Rounded.TheVariants as rounded
+use Rattle.rounding.specs.Decimals.{Rounded, rounded_of}
 use Rattle.elementary.specs.Floats.{◌⊗◌, ◌⊘◌, ◌⊕◌, ◌⊖◌, #, whole}
 use Rattle.elementary.specs.Series.{sine_of, cosine_of, arctan_small_of}
 use Rattle.elementary.specs.Root.{root_of}
@@ -15,8 +12,7 @@ use Rattle.angle.specs.Ranges.{position_tests, geodetic_tests}
 use Rattle.angle.specs.Ellipsoids.{ellipsoid_of, prime_vertical}
 use Rattle.angle.specs.declared.Ellipsoid.{Ellipsoid}
 use Rattle.angle.specs.declared.Found.{Found}
-use Rattle.angle.specs.declared.GeodeticUnits.{GeodeticUnits}
-use Rattle.angle.specs.declared.GeodeticUnits.TheVariants.{Units, Refused}
+use Rattle.angle.specs.declared.Angles.{Angles}
 
 -- the tangent of the latitude, of P = √(X² + Y²) and Z in metres: tan u, cos u and sin u first. ε is e2/(1 - e2), and is not squared again.
 unfoldable pub tangent_of : Ellipsoid → Float → Float → Float
@@ -50,23 +46,23 @@ found_at e X Y Z =
     record { latitude = φ ⊗ seconds; longitude = w ⊗ seconds; height = height_of e P z φ }
 
 -- a result in its ranges, or 12
-unfoldable pub in_ranges : ℤ → ℤ → ℤ → GeodeticUnits
-in_ranges lat lon h = unless (first (geodetic_tests lat lon h)) Refused (Units lat lon h)
+unfoldable pub in_ranges : ℤ → ℤ → ℤ → Result Angles ℕ
+in_ranges lat lon h = unless (first (geodetic_tests lat lon h)) Err (Ok (record { latitude = lat; longitude = lon; height = h }))
 
 -- all three rounded, 90 degrees added to the longitude in whole units; what a rounding refuses is 12
-unfoldable pub from_rounded : Rounded → Rounded → Rounded → GeodeticUnits
+unfoldable pub from_rounded : Rounded → Rounded → Rounded → Result Angles ℕ
 unfolding in_ranges
-from_rounded (rounded.Refused n) w h = Refused geodetic
-from_rounded (Whole lat) (rounded.Refused n) h = Refused geodetic
-from_rounded (Whole lat) (Whole w) (rounded.Refused n) = Refused geodetic
-from_rounded (Whole lat) (Whole w) (Whole h) = in_ranges lat (w +ℤ pos 32400000000) h
+from_rounded (Err n) w h = Err geodetic
+from_rounded (Ok lat) (Err n) h = Err geodetic
+from_rounded (Ok lat) (Ok w) (Err n) = Err geodetic
+from_rounded (Ok lat) (Ok w) (Ok h) = in_ranges lat (w +ℤ pos 32400000000) h
 
 -- each at 5 places
-unfoldable pub in_angles : Found → GeodeticUnits
+unfoldable pub in_angles : Found → Result Angles ℕ
 unfolding from_rounded
 in_angles p = from_rounded (rounded_of p.latitude 5) (rounded_of p.longitude 5) (rounded_of p.height 5)
 
 -- refused: 2, 10, 12
-unfoldable pub geodetic_units_of : ℤ → ℤ → ℤ → ℤ → GeodeticUnits
+unfoldable pub geodetic_units_of : ℤ → ℤ → ℤ → ℤ → Result Angles ℕ
 unfolding ellipsoid_of found_at in_angles
-geodetic_units_of code X Y Z = unless (first (position_tests code X Y Z)) Refused (in_angles (found_at (ellipsoid_of code) X Y Z))
+geodetic_units_of code X Y Z = unless (first (position_tests code X Y Z)) Err (in_angles (found_at (ellipsoid_of code) X Y Z))

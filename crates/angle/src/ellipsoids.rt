@@ -1,9 +1,9 @@
 // The four ellipsoids, the prime vertical radius and the meridian's length.
 ghost use Rattle.std.specs.Prelude.{◌≡◌};
-ghost use Rattle.angle.specs.Ellipsoids.{figure_of, ellipsoid_of, prime_vertical, arc_with, meridian_arc};
+ghost use Rattle.angle.specs.Ellipsoids.{shape, ellipsoid_of, prime_vertical, arc_with, meridian_arc};
 ghost use Rattle.angle.specs.Terms.{terms_of};
 
-use crate::{Ellipsoid, Figure, Terms};
+use crate::{Ellipsoid, Figure, Known, Terms};
 use elementary::sine;
 
 // Codes 1 to 4: GRS80, WGS84, Everest 1830 Modified, Everest 1967.
@@ -26,45 +26,35 @@ const ELLIPSOIDS: [Figure; 4] = [
     },
 ];
 
-// Of the table each arm takes a row that is known, so that the compiler works it out: by an index it would store the table anew at each call, and divide. A code that is
-// not of the table has values that nobody uses: its caller refuses the code.
+// What a code that is not of the table has: nobody uses it, since its caller refuses the code.
+const NO_FIGURE: Figure = Figure {
+    a: 0.0,
+    inverse_flattening: 0.0,
+};
 
-// The semi-major axis of a code, in metres.
-fn axis(code: i64) -> f64
-    ensures { result ≡ (figure_of code).a }
+// The ellipsoid of a row.
+fn shape(r: Figure) -> Ellipsoid
+    ensures { result ≡ shape r }
 {
-    match code {
-        1 => ELLIPSOIDS[0].a,
-        2 => ELLIPSOIDS[1].a,
-        3 => ELLIPSOIDS[2].a,
-        4 => ELLIPSOIDS[3].a,
-        _ => 0.0,
+    let f = 1.0 / r.inverse_flattening;
+    Ellipsoid {
+        a: r.a,
+        f,
+        e2: f * (2.0 - f),
     }
 }
 
-// The flattening of a code.
-fn flattening(code: i64) -> f64
-    ensures { result ≡ (ellipsoid_of code).f }
-{
-    match code {
-        1 => 1.0 / ELLIPSOIDS[0].inverse_flattening,
-        2 => 1.0 / ELLIPSOIDS[1].inverse_flattening,
-        3 => 1.0 / ELLIPSOIDS[2].inverse_flattening,
-        4 => 1.0 / ELLIPSOIDS[3].inverse_flattening,
-        _ => 1.0 / 0.0,
-    }
-}
-
-// The ellipsoid of a code from 1 to 4. Any other code has an ellipsoid of no use, which its caller refuses.
+// The ellipsoid of a code from 1 to 4. Any other code has an ellipsoid of no use, which its caller refuses. Each arm takes a row that is
+// known, so that the compiler works it out: by an index it would store the table anew at each call, and divide.
 pub fn ellipsoid(code: i64) -> Ellipsoid
     ensures { result ≡ ellipsoid_of code }
 {
-    let a = axis(code);
-    let f = flattening(code);
-    Ellipsoid {
-        a,
-        f,
-        e2: f * (2.0 - f),
+    match code {
+        1 => shape(ELLIPSOIDS[0]),
+        2 => shape(ELLIPSOIDS[1]),
+        3 => shape(ELLIPSOIDS[2]),
+        4 => shape(ELLIPSOIDS[3]),
+        _ => shape(NO_FIGURE),
     }
 }
 
@@ -77,7 +67,7 @@ pub fn prime_vertical(e: Ellipsoid, sine: f64) -> f64
 }
 
 // What e2 alone decides.
-pub(crate) fn terms_from(e: Ellipsoid) -> Terms
+fn terms_from(e: Ellipsoid) -> Terms
     ensures { result ≡ terms_of e }
 {
     let e2 = e.e2;
@@ -92,34 +82,41 @@ pub(crate) fn terms_from(e: Ellipsoid) -> Terms
     }
 }
 
+// An ellipsoid with its own terms.
+pub(crate) fn known(ellipsoid: Ellipsoid) -> Known
+    ensures { result.ellipsoid ≡ ellipsoid }
+{
+    let terms = terms_from(ellipsoid);
+    Known { ellipsoid, terms }
+}
+
 // The same of a code. The compiler works each arm out, so that nothing of it is left to a call.
-pub(crate) fn terms_of(code: i64) -> Terms
-    ensures { result ≡ terms_of (ellipsoid_of code) }
+pub(crate) fn known_of(code: i64) -> Known
+    ensures { result.ellipsoid ≡ ellipsoid_of code }
 {
     match code {
-        1 => terms_from(ellipsoid(1)),
-        2 => terms_from(ellipsoid(2)),
-        3 => terms_from(ellipsoid(3)),
-        4 => terms_from(ellipsoid(4)),
-        _ => terms_from(ellipsoid(0)),
+        1 => known(ellipsoid(1)),
+        2 => known(ellipsoid(2)),
+        3 => known(ellipsoid(3)),
+        4 => known(ellipsoid(4)),
+        _ => known(ellipsoid(0)),
     }
 }
 
 // The meridian's length from the equator in metres, by the sines of twice, four and six times the latitude in radians.
-fn arc_with(e: Ellipsoid, t: Terms, latitude: f64, s2: f64, s4: f64, s6: f64) -> f64
-    requires { t ≡ terms_of e }
-    ensures { result ≡ arc_with e latitude s2 s4 s6 }
+fn arc_with(k: Known, latitude: f64, s2: f64, s4: f64, s6: f64) -> f64
+    ensures { result ≡ arc_with k.ellipsoid latitude s2 s4 s6 }
 {
-    e.a * (t.m0 * latitude - t.m2 * s2 + t.m4 * s4 - t.m6 * s6)
+    let t = k.terms;
+    k.ellipsoid.a * (t.m0 * latitude - t.m2 * s2 + t.m4 * s4 - t.m6 * s6)
 }
 
 // The meridian's length from the equator to a latitude in radians, in metres.
-pub(crate) fn meridian_arc(e: Ellipsoid, t: Terms, latitude: f64) -> f64
-    requires { t ≡ terms_of e }
-    ensures { result ≡ meridian_arc e latitude }
+pub(crate) fn meridian_arc(k: Known, latitude: f64) -> f64
+    ensures { result ≡ meridian_arc k.ellipsoid latitude }
 {
     let s2 = sine(2.0 * latitude);
     let s4 = sine(4.0 * latitude);
     let s6 = sine(6.0 * latitude);
-    arc_with(e, t, latitude, s2, s4, s6)
+    arc_with(k, latitude, s2, s4, s6)
 }

@@ -1,18 +1,15 @@
 // Cartesian to geodetic: the circular's reverse without iteration, in the order of docs/ORDERS.md, section 4.
 ghost use Rattle.std.specs.Prelude.{◌≡◌, true, pos, ◌+ℤ◌};
+ghost use Rattle.refusal.specs.Refusals.{told};
 ghost use Rattle.ranges.specs.Ranges.{area};
-ghost use Rattle.angle.specs.Geodetic.{tangent_of, height_of, found_at, in_ranges, from_rounded, in_angles, geodetic_units_of};
+ghost use Rattle.angle.specs.Geodetic.{tangent_of, height_of, found_at, in_ranges, in_angles, geodetic_units_of};
 
 use crate::ellipsoids::{ellipsoid, prime_vertical};
-use crate::{Ellipsoid, Found, GeodeticUnits};
+use crate::numbers::{QUARTER, SECONDS};
+use crate::{Angles, Ellipsoid, Found};
 use elementary::{arctan_small, cosine, root, sine};
-use rounding::{Rounded, round_places};
-
-// Seconds in a radian.
-const SECONDS: f64 = 206264.806247096355;
-
-// 90 degrees, in units of 0.00001".
-const QUARTER: i64 = 32400000000;
+use refusal::Refusal;
+use rounding::round_places;
 
 // The range of longitudes, less 90 degrees.
 const PAST_LOW: i64 = 3240000000;
@@ -64,59 +61,48 @@ fn found(e: Ellipsoid, x: i64, y: i64, z: i64) -> Found
     }
 }
 
-// Latitude, longitude past 90 degrees and height in whole units, each tested: GEODETIC outside its range.
-fn in_ranges(latitude: i64, past: i64, height: i64) -> GeodeticUnits
-    ensures { result ≡ in_ranges latitude (past +ℤ pos 32400000000) height }
+// Latitude, longitude past 90 degrees and height in whole units, each tested: Geodetic outside its range.
+fn in_ranges(latitude: i64, past: i64, height: i64) -> Result<Angles, Refusal>
+    ensures { told result ≡ in_ranges latitude (past +ℤ pos 32400000000) height }
 {
     if !ranges::is_latitude(latitude) {
-        return GeodeticUnits::Refused(refusal::GEODETIC);
+        return Err(Refusal::Geodetic);
     }
     if !ranges::within(PAST_LOW, past, PAST_HIGH) {
-        return GeodeticUnits::Refused(refusal::GEODETIC);
+        return Err(Refusal::Geodetic);
     }
     if !ranges::is_height(height) {
-        return GeodeticUnits::Refused(refusal::GEODETIC);
+        return Err(Refusal::Geodetic);
     }
     let longitude = past + QUARTER;
-    GeodeticUnits::Units(latitude, longitude, height)
+    Ok(Angles {
+        latitude,
+        longitude,
+        height,
+    })
 }
 
-// The same of what the roundings answered. What they refuse is GEODETIC.
-fn from_rounded(latitude: Rounded, past: Rounded, height: Rounded) -> GeodeticUnits
-    ensures { result ≡ from_rounded latitude past height }
+// Each rounded at 5 places by itself, and only then tested. What a rounding refuses is Geodetic.
+fn in_angles(f: Found) -> Result<Angles, Refusal>
+    ensures { told result ≡ in_angles f }
 {
-    match latitude {
-        Rounded::Refused(_) => GeodeticUnits::Refused(refusal::GEODETIC),
-        Rounded::Whole(a) => match past {
-            Rounded::Refused(_) => GeodeticUnits::Refused(refusal::GEODETIC),
-            Rounded::Whole(b) => match height {
-                Rounded::Refused(_) => GeodeticUnits::Refused(refusal::GEODETIC),
-                Rounded::Whole(c) => in_ranges(a, b, c),
-            },
-        },
-    }
+    let latitude = round_places(f.latitude, 5).or(Err(Refusal::Geodetic))?;
+    let past = round_places(f.longitude, 5).or(Err(Refusal::Geodetic))?;
+    let height = round_places(f.height, 5).or(Err(Refusal::Geodetic))?;
+    in_ranges(latitude, past, height)
 }
 
-// Each rounded at 5 places by itself, and only then tested.
-fn in_angles(f: Found) -> GeodeticUnits
-    ensures { result ≡ in_angles f }
-{
-    let latitude = round_places(f.latitude, 5);
-    let past = round_places(f.longitude, 5);
-    let height = round_places(f.height, 5);
-    from_rounded(latitude, past, height)
-}
-
-// Latitude and longitude in units of 0.00001" and height in units of 0.00001 m, of X, Y and Z in units of 0.00001 m on the ellipsoid of a code (1 to 4). Refused: RANGE for
-// the code, then AREA for a position outside the area, whatever its size, then GEODETIC for a rounded result outside its range.
-pub fn geodetic_units(code: i64, x: i64, y: i64, z: i64) -> GeodeticUnits
-    ensures { result ≡ geodetic_units_of code x y z }
+// Latitude and longitude in units of 0.00001" and height in units of 0.00001 m, of X, Y and Z in units of 0.00001 m on the ellipsoid of a code
+// (1 to 4). Refused: Range for the code, then Area for a position outside the area, whatever its size, then Geodetic for a rounded result
+// outside its range.
+pub fn geodetic_units(code: i64, x: i64, y: i64, z: i64) -> Result<Angles, Refusal>
+    ensures { told result ≡ geodetic_units_of code x y z }
 {
     if !ranges::is_ellipsoid(code) {
-        return GeodeticUnits::Refused(refusal::RANGE);
+        return Err(Refusal::Range);
     }
     if !ranges::in_area(x, y, z) {
-        return GeodeticUnits::Refused(refusal::AREA);
+        return Err(Refusal::Area);
     }
     in_angles(found(ellipsoid(code), x, y, z))
 }

@@ -1,20 +1,19 @@
 // Geodetic to Cartesian.
-ghost use Rattle.std.specs.Prelude.{◌≡◌, true};
+ghost use Rattle.std.specs.Prelude.{◌≡◌, true, Ok};
+ghost use Rattle.refusal.specs.Refusals.{told};
 ghost use Rattle.ranges.specs.Ranges.{latitude_range, longitude_range, height_range};
-ghost use Rattle.angle.specs.Cartesian.{cartesian_at, cartesian_of, three, in_units, cartesian_units_of};
+ghost use Rattle.angle.specs.Cartesian.{cartesian_at, cartesian_of, in_units, cartesian_units_of};
 
 use crate::ellipsoids::{ellipsoid, prime_vertical};
 use crate::faults::angles_fault;
-use crate::units::{radians, whole};
-use crate::{Cartesian, CartesianUnits, Ellipsoid};
+use crate::numbers::{QUARTER, radians, whole};
+use crate::{Ellipsoid, Metres, Units};
 use elementary::{cosine, sine};
-use rounding::{Rounded, round_places};
-
-// 90 degrees.
-const QUARTER: i64 = 32400000000;
+use refusal::Refusal;
+use rounding::round_places;
 
 // The formulas, for numbers in their ranges.
-fn position(e: Ellipsoid, latitude: i64, longitude: i64, height: i64) -> Cartesian
+fn position(e: Ellipsoid, latitude: i64, longitude: i64, height: i64) -> Metres
     requires { (latitude_range latitude ≡ true) × (longitude_range longitude ≡ true) × (height_range height ≡ true) }
     ensures { result ≡ cartesian_at e latitude longitude height }
 {
@@ -27,60 +26,50 @@ fn position(e: Ellipsoid, latitude: i64, longitude: i64, height: i64) -> Cartesi
     let cos_phi = cosine(phi);
     let nu = prime_vertical(e, sin_phi);
     let d = (nu + h) * cos_phi;
-    Cartesian::Metres(d * cos_l, d * sin_l, ((1.0 - e.e2) * nu + h) * sin_phi)
+    Metres {
+        x: d * cos_l,
+        y: d * sin_l,
+        z: ((1.0 - e.e2) * nu + h) * sin_phi,
+    }
 }
 
-// X, Y and Z in metres. Refused: RANGE for the code, then GEODETIC for the latitude, longitude or height.
-pub fn cartesian_metres(code: i64, latitude: i64, longitude: i64, height: i64) -> Cartesian
-    ensures { result ≡ cartesian_of code latitude longitude height }
+// X, Y and Z in metres. Refused: Range for the code, then Geodetic for the latitude, longitude or height.
+pub fn cartesian_metres(
+    code: i64,
+    latitude: i64,
+    longitude: i64,
+    height: i64,
+) -> Result<Metres, Refusal>
+    ensures { told result ≡ cartesian_of code latitude longitude height }
 {
     if !ranges::is_ellipsoid(code) {
-        return Cartesian::Refused(refusal::RANGE);
+        return Err(Refusal::Range);
     }
-    let fault = angles_fault(latitude, longitude);
-    if fault != 0 {
-        return Cartesian::Refused(fault);
-    }
+    angles_fault(latitude, longitude)?;
     if !ranges::is_height(height) {
-        return Cartesian::Refused(refusal::GEODETIC);
+        return Err(Refusal::Geodetic);
     }
-    position(ellipsoid(code), latitude, longitude, height)
+    Ok(position(ellipsoid(code), latitude, longitude, height))
 }
 
-// All three, or the first refusal.
-fn all_three(x: Rounded, y: Rounded, z: Rounded) -> CartesianUnits
-    ensures { result ≡ three x y z }
+// Each coordinate to the nearest whole unit of 0.00001 m, half away from zero. All three, or the first refusal.
+fn in_units(m: Metres) -> Result<Units, Refusal>
+    ensures { told result ≡ in_units (Ok m) }
 {
-    match x {
-        Rounded::Refused(n) => CartesianUnits::Refused(n),
-        Rounded::Whole(a) => match y {
-            Rounded::Refused(n) => CartesianUnits::Refused(n),
-            Rounded::Whole(b) => match z {
-                Rounded::Refused(n) => CartesianUnits::Refused(n),
-                Rounded::Whole(c) => CartesianUnits::Units(a, b, c),
-            },
-        },
-    }
+    let x = round_places(m.x, 5)?;
+    let y = round_places(m.y, 5)?;
+    let z = round_places(m.z, 5)?;
+    Ok(Units { x, y, z })
 }
 
-// Each coordinate to the nearest whole unit of 0.00001 m, half away from zero.
-fn in_units(c: Cartesian) -> CartesianUnits
-    ensures { result ≡ in_units c }
+// X, Y and Z in whole units of 0.00001 m, each rounded by itself. Refused as cartesian_metres refuses, and then Size by a rounding.
+pub fn cartesian_units(
+    code: i64,
+    latitude: i64,
+    longitude: i64,
+    height: i64,
+) -> Result<Units, Refusal>
+    ensures { told result ≡ cartesian_units_of code latitude longitude height }
 {
-    match c {
-        Cartesian::Refused(n) => CartesianUnits::Refused(n),
-        Cartesian::Metres(x, y, z) => {
-            let a = round_places(x, 5);
-            let b = round_places(y, 5);
-            let c = round_places(z, 5);
-            all_three(a, b, c)
-        }
-    }
-}
-
-// X, Y and Z in whole units of 0.00001 m, each rounded by itself. Refused as cartesian_metres refuses, and then SIZE by a rounding.
-pub fn cartesian_units(code: i64, latitude: i64, longitude: i64, height: i64) -> CartesianUnits
-    ensures { result ≡ cartesian_units_of code latitude longitude height }
-{
-    in_units(cartesian_metres(code, latitude, longitude, height))
+    in_units(cartesian_metres(code, latitude, longitude, height)?)
 }

@@ -2,19 +2,23 @@
 // heights whole units of 0.00001 m, false eastings and northings whole millimetres. Every call answers for every input.
 #![tactic(auto)]
 
+ghost use Rattle.std.specs.Prelude.{◌≡◌, true};
+ghost use Rattle.ranges.specs.Ranges.{latitude_range};
+ghost use Rattle.angle.specs.Terms.{terms_of};
+
 mod ellipsoids;
 mod faults;
 mod from_xyz;
 mod geodetic;
+mod numbers;
 mod projection;
-mod units;
 
 pub use ellipsoids::ellipsoid as ellipsoid_of;
 pub use faults::{angles_fault, origin_fault};
 pub use from_xyz::geodetic_units;
 pub use geodetic::{cartesian_metres, cartesian_units};
+pub use numbers::{SECONDS, radians};
 pub use projection::{cassini, cassini_millimetres, cassini_millimetres_from, make_origin};
-pub use units::radians;
 
 // An ellipsoid: the semi-major axis in metres, the flattening, and the first eccentricity squared.
 #[derive(Clone, Copy)]
@@ -39,6 +43,21 @@ struct Terms {
     m4: f64,
     m6: f64,
     second: f64,
+}
+
+// An ellipsoid with its own terms.
+#[derive(Clone, Copy)]
+struct Known {
+    ellipsoid: Ellipsoid,
+    terms: Terms,
+    ghost own: { terms ≡ terms_of ellipsoid },
+}
+
+// A latitude in its range.
+#[derive(Clone, Copy)]
+struct Latitude {
+    units: i64,
+    ghost in_range: { latitude_range units ≡ true },
 }
 
 // What a latitude alone decides: itself in radians, its sine and cosine, and the radius of curvature in the prime vertical there, in metres.
@@ -71,25 +90,20 @@ pub struct Origin {
     pub false_northing: f64,
 }
 
-// An origin, or the refusal number.
+// X, Y and Z in metres.
 #[derive(Clone, Copy)]
-pub enum OriginAnswer {
-    Made(Origin),
-    Refused(u8),
+pub struct Metres {
+    pub x: f64,
+    pub y: f64,
+    pub z: f64,
 }
 
-// X, Y and Z in metres, or the refusal number.
+// X, Y and Z in whole units of 0.00001 m.
 #[derive(Clone, Copy)]
-pub enum Cartesian {
-    Metres(f64, f64, f64),
-    Refused(u8),
-}
-
-// X, Y and Z in whole units of 0.00001 m, or the refusal number.
-#[derive(Clone, Copy)]
-pub enum CartesianUnits {
-    Units(i64, i64, i64),
-    Refused(u8),
+pub struct Units {
+    pub x: i64,
+    pub y: i64,
+    pub z: i64,
 }
 
 // What the formulas from X, Y and Z give: latitude in seconds, longitude in seconds past 90 degrees, height in metres.
@@ -100,23 +114,24 @@ struct Found {
     height: f64,
 }
 
-// Latitude and longitude in whole units of 0.00001" and height in whole units of 0.00001 m, or the refusal number.
+// Latitude and longitude in whole units of 0.00001" and height in whole units of 0.00001 m.
 #[derive(Clone, Copy)]
-pub enum GeodeticUnits {
-    Units(i64, i64, i64),
-    Refused(u8),
+pub struct Angles {
+    pub latitude: i64,
+    pub longitude: i64,
+    pub height: i64,
 }
 
-// Easting and northing in metres, or the refusal number.
+// Easting and northing in metres.
 #[derive(Clone, Copy)]
-pub enum Projected {
-    Metres(f64, f64),
-    Refused(u8),
+pub struct Projected {
+    pub easting: f64,
+    pub northing: f64,
 }
 
-// Easting and northing in whole millimetres, or the refusal number.
+// Easting and northing in whole millimetres.
 #[derive(Clone, Copy)]
-pub enum ProjectedMillimetres {
-    Millimetres(i64, i64),
-    Refused(u8),
+pub struct Millimetres {
+    pub easting: i64,
+    pub northing: i64,
 }

@@ -10,7 +10,7 @@ use lib.IntN.{ℤ, pos}
 use lib.ListN.{length}
 use Rattle.chain.specs.declared.Point.{Point}
 use Rattle.chain.specs.declared.Chain.{Chain}
-use Rattle.chain.specs.declared.Answer.{Answer}
+use Rattle.chain.specs.Convert.{Answer}
 use Rattle.capi.specs.Outcome.{Returns}
 use Rattle.chain.specs.Numbers.{chain_from}
 use Rattle.capi.specs.Chains.{point_from, whole_steps}

@@ -10,7 +10,8 @@ use lib.Dec.{eqb}
 use lib.IntN.{ℤ, pos, neg_ℤ}
 use lib.ListN.{length, drop, set, length-append, length-take}
 use lib.Seq.{sets, sets-eq}
-use Rattle.chain.specs.declared.Joined.{Joined}
+use Rattle.std.specs.Prelude.{Ok, Err}
+use Rattle.chain.specs.declared.Chain.{Chain}
 use Rattle.chain.specs.Join.{join_of}
 use Rattle.chain.proofs.Joins.{accepted-lengths}
 use Rattle.chain.specs.Numbers.{eight_from, chain_from}
@@ -41,9 +42,9 @@ module _ (first second out : ℕ) (sized : room_for_eight first second out ≡ t
       (eqb-true (first % 13) 0 q.0, eqb-true (second % 13) 0 q.1, eqb-true out 104 p.1)
 
 -- what is accepted has at most 104 numbers
-pub few : (y z : ℤ) (first second : List ℤ) → length first % 13 ≡ 0 → length second % 13 ≡ 0 → (join_of (chain_from y first) (chain_from z second)).refusal ≡ 0 → length first + length second ≤ 104
-few y z first second hf hs e =
-    let a = accepted-lengths (chain_from y first) (chain_from z second) e in
+pub few : (y z : ℤ) (first second : List ℤ) → length first % 13 ≡ 0 → length second % 13 ≡ 0 → {c : Chain} → Ok c ≡ join_of (chain_from y first) (chain_from z second) → length first + length second ≤ 104
+few y z first second hf hs {c} e =
+    let a = accepted-lengths (chain_from y first) (chain_from z second) c (sym e) in
     omega (arith, a.0, a.1, a.2, length-take (length first / 13) (eight_from first), length-take (length second / 13) (eight_from second), eight-steps first, eight-steps second)
 
 module _ (y z : ℤ) (first second out : List ℤ) where
@@ -51,15 +52,15 @@ module _ (y z : ℤ) (first second out : List ℤ) where
   unfolding join_call
   unsized e = rw e (record { status = refl; out = refl })
 
-  module _ (sized : room_for_eight (length first) (length second) (length out) ≡ true) {j : Joined} (is : j ≡ join_of (chain_from y first) (chain_from z second)) where
-    pub refused-call : (j.refusal ≡ 0 → ⊥) → {r : ℤ} → r ≡ neg_ℤ (pos j.refusal) → Counted (join_call y first z second out) out out r
+  module _ (sized : room_for_eight (length first) (length second) (length out) ≡ true) where
+    pub refused-call : {n : ℕ} → Err n ≡ join_of (chain_from y first) (chain_from z second) → {r : ℤ} → r ≡ neg_ℤ (pos n) → Counted (join_call y first z second out) out out r
     unfolding join_call
-    refused-call h e = rw (sized, ← is, ne_eqb j.refusal 0 h) (record { status = e; out = refl })
+    refused-call is e = rw (sized, ← is) (record { status = e; out = refl })
 
-    pub given-call : j.refusal ≡ 0 → {after : List ℤ} {r : ℤ} → after ≡ sets (sets out 0 first) (length first) second → r ≡ pos (length first + length second) → Counted (join_call y first z second out) out after r
+    pub given-call : {c : Chain} → Ok c ≡ join_of (chain_from y first) (chain_from z second) → {after : List ℤ} {r : ℤ} → after ≡ sets (sets out 0 first) (length first) second → r ≡ pos (length first + length second) → Counted (join_call y first z second out) out after r
     unfolding join_call
-    given-call h f e =
+    given-call is f e =
         let w = whole (length first) (length second) (length out) sized in
-        let k = few y z first second w.0 w.1 (ap (λ (x : Joined). x.refusal) (sym is) ∙ h) in
-        rw (sized, ← is, eq-eqb j.refusal 0 h)
+        let k = few y z first second w.0 w.1 is in
+        rw (sized, ← is)
         (record { status = e ∙ ap pos (sym (length-append first second)); out = f ∙ one-after-another out first second (omega (arith, w.2)) })

@@ -39,6 +39,10 @@ module _ {A : Type 0} {o : CallOutcome A} {before : List A} where
   pub given : {vs : List A} → o ≡ gives vs → length before ≡ length vs → Returns o before (sets before 0 vs) (pos 0)
   given {vs} e f = rw e (record { status = refl; out = filled before vs f })
 
+  -- and so where a function is handed them
+  pub handed : {vs after : List A} {r s : ℤ} → Returns (gives vs) before after r → o ≡ gives vs → s ≡ r → Returns o before after s
+  handed a e f = by a e f
+
 -- ---- whole numbers: an array holds what the machine stores of each
 abbrev pub stored : ℤ → ℤ
 stored z = to_z w64 (of_z w64 z)
@@ -50,6 +54,9 @@ Fit (z ∷ zs) = (mag z < 9223372036854775808) × Fit zs
 all-stored : (zs : List ℤ) → Fit zs → zs ≡ map stored zs
 all-stored [] f = refl
 all-stored (z ∷ zs) f = ap₂ ◌∷◌ (sym (told f.0)) (all-stored zs f.1)
+
+pub handed-whole : {o : CallOutcome ℤ} {before vs after : List ℤ} {r s : ℤ} → Returns (gives (map stored vs)) before after r → o ≡ gives vs → Fit vs → s ≡ r → Returns o before after s
+handed-whole a e f t = by a (e ∙ ap gives (all-stored _ f)) t
 
 pub numbers : {o : CallOutcome ℤ} {before vs : List ℤ} → o ≡ gives vs → Fit vs → length before ≡ length vs → Returns o before (sets before 0 (map stored vs)) (pos 0)
 numbers {vs = vs} e f l = given (e ∙ ap gives (all-stored vs f)) (l ∙ ap length (all-stored vs f))

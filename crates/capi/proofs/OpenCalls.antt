@@ -14,13 +14,13 @@ use Rattle.line.specs.Lines.{line_end}
 use Rattle.sheet_rules.specs.OneLine.{sound_standing}
 use Rattle.sheet_stream.specs.declared.Fed.{Fed}
 use Rattle.sheet_stream.specs.declared.Stream.{Stream}
-use Rattle.sheet_stream.specs.declared.Outcome.TheVariants.{Open}
+use Rattle.std.specs.Prelude.{Ok, None}
 use Rattle.sheet_stream.specs.Fragments.{sound, state_of, fed, fed_at, feed_of}
 use Rattle.sheet_stream.proofs.Laws.{sound-parts, sound-is, feed-state}
 use Rattle.sheet_stream.proofs.Scanning.{Going, fed-open}
 use Rattle.chain.specs.Numbers.{number, chain_from}
 use Rattle.capi.specs.Fragments.{state_range, is_flag, flag, bit, chain_in, standing_in, stream_from, head_of, numbers_with, OpenCall}
-use Rattle.capi.proofs.Streams.{counts, size_of, countable, two, no_line, no-new-step}
+use Rattle.capi.proofs.Streams.{counts, size_of, countable, no_line, no-new-step}
 
 -- ---- the first seven numbers, stored as they were but for the second
 head-stored : (ns : List ℤ) → length ns ≡ 111 → (c : ℤ) {a d e f g h : ℤ} → a ≡ number ns 0 → d ≡ number ns 2 → e ≡ number ns 3 → f ≡ number ns 4 → g ≡ number ns 5 → h ≡ number ns 6 → set ns 1 c ≡ sets ns 0 (a ∷ c ∷ d ∷ e ∷ f ∷ g ∷ h ∷ [])
@@ -80,13 +80,13 @@ module _ (ns : List ℤ) (bytes : List ℕ) (long : length ns ≡ 111) (ranged :
     pub open-state : sound here ≡ false → {r : ℤ} → r ≡ neg_ℤ (pos refusal.state) → OpenCall f ns ns bytes bytes told told r
     open-state e q = record { state = λ out. rw (feed-state here f e) (record { status = q; state = refl; line = refl; written = refl }); tells = rw (feed-state here f e) }
 
-    pub open_kept : length bytes ≡ 200 → length told ≡ 2 → (n : ℕ) → n ≡ line_end f 0 → fed_at f n ≡ false → sound here ≡ true → (c : ℕ) (kept : List ℕ) → c ≡ min (nat_abs (number ns 1) + length f) (length bytes) → kept ≡ sets bytes (nat_abs (number ns 1)) (take (length bytes - nat_abs (number ns 1)) f) → OpenCall f ns (set ns 1 (pos c)) bytes kept told (set (set told 0 (pos n)) 1 (pos 0)) (pos 0)
+    pub open_kept : length bytes ≡ 200 → (n : ℕ) → n ≡ line_end f 0 → fed_at f n ≡ false → sound here ≡ true → (c : ℕ) (kept : List ℕ) → c ≡ min (nat_abs (number ns 1) + length f) (length bytes) → kept ≡ sets bytes (nat_abs (number ns 1)) (take (length bytes - nat_abs (number ns 1)) f) → OpenCall f ns (set ns 1 (pos c)) bytes kept told (pos n ∷ pos 0 ∷ []) (pos 0)
     unfolding stream_from
-    open_kept room two-told n e q ok c kept ec ek =
+    open_kept room n e q ok c kept ec ek =
         let p = sound-parts here ok in
         let g : Going here = record { going = p.going; count = p.count } in
-        let o : feed_of here f ≡ fed (state_of (standing_in ns) c kept false) n Open = sym (fed-open here g f n e room f c kept ec ek q refl ok) in
+        let o : feed_of here f ≡ fed (state_of (standing_in ns) c kept false) n (Ok None) = sym (fed-open here g f n e room f c kept ec ek q refl ok) in
         record {
-          state = λ out. rw o (no_line (state_of (standing_in ns) c kept false) Open ns bytes out (stored p.going c kept) refl refl);
-          tells = rw o (two told (pos n) (pos 0) two-told);
+          state = λ out. rw o (no_line (state_of (standing_in ns) c kept false) (Ok None) ns bytes out (stored p.going c kept) refl refl);
+          tells = rw o;
         }

@@ -22,23 +22,22 @@ use Rattle.line.specs.Lines.{line_end}
 use Rattle.sheet_rules.specs.declared.LentPoint.{LentPoint}
 use Rattle.sheet_rules.specs.declared.Reply.{Reply}
 use Rattle.sheet_rules.specs.declared.Standing.{Standing}
-use Rattle.sheet_rules.specs.declared.Response.TheVariants as response
 use Rattle.sheet_rules.specs.OneLine.{most_lines, counted, sound_standing, reply_to, after_line, answered, PointAnswer, point_answered, PointPrinted}
 use Rattle.sheet_rules.proofs.Answers.{counted-holds}
 use Rattle.sheet_rules.proofs.Points.{point-unsound, point-replied, unsound-printed, replied-printed}
 use Rattle.sheet_rules.proofs.Room.{answer-short}
 use Rattle.sheet_stream.specs.declared.Fed.{Fed}
 use Rattle.sheet_stream.specs.declared.Stream.{Stream}
-use Rattle.sheet_stream.specs.declared.Outcome.{Outcome}
-use Rattle.sheet_stream.specs.declared.Outcome.TheVariants.{Line, Refused}
+use Rattle.std.specs.Prelude.{Option, Some, None, Ok, Err}
+use Rattle.refusal.specs.declared.Refusal.TheVariants.{State}
 use Rattle.sheet_stream.specs.Fragments.{no_bytes, between, fed, unsound, ends_with, fed_at, feed_of, Short}
 use Rattle.sheet_stream.proofs.Scanning.{Going, closing-room, fed-line, ended-unsound, ended-replied}
 use Rattle.capi.specs.Fragments.{state_range, is_flag, flag, bit, chain_in, standing_in, stream_from, head_of, numbers_with, point_time, point_passed, FedCall}
-use Rattle.capi.proofs.Streams.{counts, size_of, countable, two, head, no-new-step, declined, line-ended}
+use Rattle.capi.proofs.Streams.{counts, size_of, countable, head, no-new-step, declined, line-ended}
 use Rattle.capi.proofs.OpenCalls.{flag-back, count-back, flags, steps-in, profile-in}
 
 -- what the rules are asked
-pub asked-so : {c d : Chain} {l m : ℕ} {a b : Bool} (text : List ℕ) {before : List ℕ} {at : ℕ} {after : List ℕ} {r : LentPoint} → PointPrinted (point_answered c l a text) before at after r → c ≡ d → l ≡ m → a ≡ b → PointPrinted (point_answered d m b text) before at after r
+pub asked-so : {c d : Chain} {l m : ℕ} {a b : Bool} (text : List ℕ) {before : List ℕ} {at : ℕ} {after : List ℕ} {r : Option LentPoint} → PointPrinted (point_answered c l a text) before at after r → c ≡ d → l ≡ m → a ≡ b → PointPrinted (point_answered d m b text) before at after r
 asked-so text e f g h = rw (← f, ← g, ← h) e
 
 module _ (ns : List ℤ) (bytes : List ℕ) (long : length ns ≡ 111) (ranged : state_range ns ≡ true) (time : point_time ns ≡ true) where
@@ -106,46 +105,46 @@ module _ (ns : List ℤ) (bytes : List ℕ) (long : length ns ≡ 111) (ranged :
     unfolding chain_in
     eight = eight-steps _
 
-    bad : answer.response ≡ response.Unsound → unsound here ≡ ends_with here text end false
+    bad : answer.response ≡ None → unsound here ≡ ends_with here text end false
     unfolding stream_from
-    bad e = ended-unsound here text end false (answered (standing_in ns) response.Unsound) (point-unsound (standing_in ns) text p far few {x = answer} refl e) refl
+    bad e = ended-unsound here text end false (answered (standing_in ns) None) (point-unsound (standing_in ns) text p far few {x = answer} refl e) refl
 
-    good : (r : Reply) → answer.response ≡ response.Replied r → fed (between (point_passed ns answer.closes) false) end (Line r) ≡ ends_with here text end false
+    good : (r : Reply) → answer.response ≡ Some r → fed (between (point_passed ns answer.closes) false) end (Ok (Some r)) ≡ ends_with here text end false
     unfolding stream_from
-    good r e = ended-replied here text end false (answered (point_passed ns answer.closes) (response.Replied r)) (point-replied (standing_in ns) text p far few {x = answer} refl r e eight) r refl
+    good r e = ended-replied here text end false (answered (point_passed ns answer.closes) (Some r)) (point-replied (standing_in ns) text p far few {x = answer} refl r e eight) r refl
 
     short : Short (ends_with here text end false).outcome
     unfolding stream_from
     short = go (sound_standing (standing_in ns))
       where
-        go : (b : Bool) → Short (pick {A = Fed} b (fed (between (after_line (standing_in ns) text) false) end (Line (reply_to (standing_in ns) text))) (unsound here)).outcome
+        go : (b : Bool) → Short (pick {A = Fed} b (fed (between (after_line (standing_in ns) text) false) end (Ok (Some (reply_to (standing_in ns) text)))) (unsound here)).outcome
         go true = answer-short (standing_in ns) text (omega (arith, far))
         go false = tt
 
     -- as it was printed
-    module _ (out : List ℕ) (told : List ℤ) {out' : List ℕ} {r : LentPoint} (w : PointPrinted answer out 0 out' r) where
-      pub point-state : r.sound ≡ false → {k : ℤ} → k ≡ neg_ℤ (pos refusal.state) → FedCall (ends_with here text end false) ns ns bytes bytes out out' told told k
+    module _ (out : List ℕ) (told : List ℤ) {out' : List ℕ} {r : Option LentPoint} (w : PointPrinted answer out 0 out' r) where
+      pub point-state : r ≡ None → {k : ℤ} → k ≡ neg_ℤ (pos refusal.state) → FedCall (ends_with here text end false) ns ns bytes bytes out out' told told k
       point-state e f =
           let u = unsound-printed w e in
-          rw (u.1, ← bad u.0) (record { state = declined here (Refused refusal.state) ns bytes out refusal.state refl f; tells = refl })
+          rw (u.1, ← bad u.0) (record { state = declined here (Err State) ns bytes out State refl f; tells = refl })
 
       -- an answer is short
-      pub point-fits : r.sound ≡ true → r.at < 9223372036854775808
-      point-fits e =
-          let a = replied-printed w e in
-          let s : Short (Line a.0) = subst Short (sym (ap (λ (y : Fed). y.outcome) (good a.0 a.1))) short in
+      pub point-fits : (p : LentPoint) → r ≡ Some p → p.at < 9223372036854775808
+      point-fits p e =
+          let a = replied-printed w p e in
+          let s : Short (Ok (Some a.0)) = subst Short (sym (ap (λ (y : Fed). y.outcome) (good a.0 a.1))) short in
           omega (arith, a.3.place, s)
 
       pub point-told :
-          r.sound ≡ true → 200 ≤ length out → length told ≡ 2 → {ns' : List ℤ} {bytes' : List ℕ} {told' : List ℤ} →
-          ns' ≡ numbers_with ns (between (point_passed ns r.closes) false) → bytes' ≡ no_bytes → told' ≡ pos end ∷ pos 1 ∷ [] →
-          FedCall (ends_with here text end false) ns ns' bytes bytes' out out' told told' (to_z w64 r.at)
-      point-told e room two-told f g t =
-          let a = replied-printed w e in
+          (p : LentPoint) → r ≡ Some p → 200 ≤ length out → {ns' : List ℤ} {bytes' : List ℕ} {told' : List ℤ} →
+          ns' ≡ numbers_with ns (between (point_passed ns p.closes) false) → bytes' ≡ no_bytes → told' ≡ pos end ∷ pos 1 ∷ [] →
+          FedCall (ends_with here text end false) ns ns' bytes bytes' out out' told told' (to_z w64 p.at)
+      point-told p e room f g t =
+          let a = replied-printed w p e in
           let h = good a.0 a.1 in
           let o = ap (λ (y : Fed). y.outcome) h in
           rw (← h)
           (record {
-            state = line-ended (between (point_passed ns answer.closes) false) (Line a.0) ns bytes out (f ∙ ap (λ (b : Bool). numbers_with ns (between (point_passed ns b) false)) a.2) g a.0 refl (subst Short (sym o) short) room a.3;
+            state = line-ended (between (point_passed ns answer.closes) false) (Ok (Some a.0)) ns bytes out (f ∙ ap (λ (b : Bool). numbers_with ns (between (point_passed ns b) false)) a.2) g a.0 refl (subst Short (sym o) short) room a.3;
             tells = t;
           })

@@ -4,18 +4,19 @@ use mathlib.Core.Bool.{Bool, true, false}
 use mathlib.Core.List.{List, [], ◌∷◌, ◌++◌}
 use Prim.Native.Nat.{ℕ, zero, suc, ◌+◌, ◌-◌, ◌*◌, ◌/◌, ◌≤◌, ◌<◌}
 use native.Mathlib.Omega.{arith}
-use borrow.Author.Tests.{ltb-false}
+use borrow.Author.Tests.{ltb-false, lt-ltb, le-ltb}
 use lib.Dec.{ltb}
 use lib.IntN.{ℤ, pos}
 use lib.ListN.{length, drop, length-append}
 use lib.Seq.{sets, sets-eq, drop-drop}
-use Rattle.refusal.specs.Order.{first, unless}
+use Rattle.refusal.specs.Numbers as refusal
+use Rattle.refusal.specs.Order.{first, pick, unless}
 use Rattle.refusal.proofs.Orders.{passed, stop, on, step-passed, unless-some, unless-none}
 use Rattle.chain.specs.declared.Point.{Point}
 use Rattle.chain.specs.declared.Chain.{Chain}
 use Rattle.chain.specs.declared.ReadyChain.{ReadyChain}
-use Rattle.chain.specs.declared.Answer.{Answer}
-use Rattle.chain.specs.declared.Answer.TheVariants.{Converted, Refused}
+use Rattle.std.specs.Prelude.{Option, Some, None, Ok, Err}
+use Rattle.chain.specs.Convert.{Answer}
 use Rattle.chain.specs.declared.Direction.{Direction}
 use Rattle.chain.specs.Faults.{chain_tests}
 use Rattle.chain.specs.PointRow.{convert_of, ready_chain_of, convert_ready}
@@ -23,14 +24,14 @@ use Rattle.chain.proofs.Readying.{ready-converts}
 use Rattle.capi.specs.Outcome.{CallOutcome, refused, gives as writes, Returns}
 use Rattle.chain.specs.Numbers.{chain_from}
 use Rattle.capi.specs.Chains.{point_from, point_numbers}
-use Rattle.capi.specs.PointRow.{answer_numbers, answers_of, direction_from, whole_rows, lent_tests, row_call}
+use Rattle.capi.specs.PointRow.{answer_numbers, answers_of, direction_from, direction_range, whole_rows, lent_tests, row_call}
 use Rattle.capi.proofs.Laws.{wrong, declined}
 use Rattle.capi.proofs.Joinings.{sets-append}
 
 pub answer-length : (a : Answer) → length (answer_numbers a) ≡ 8
 unfolding point_numbers
-answer-length (Converted p) = refl
-answer-length (Refused n) = refl
+answer-length (Ok p) = refl
+answer-length (Err n) = refl
 
 module _ (f : Point → Answer) where
   pub answers-length : (n : ℕ) (ns : List ℤ) → length (answers_of f n ns) ≡ n * 8
@@ -69,6 +70,15 @@ unfolding answers_of
 same-answers f g h zero ns = refl
 same-answers f g h (suc n) ns = ap₂ ◌++◌ (ap answer_numbers (h (point_from ns))) (same-answers f g h n (drop 7 ns))
 
+-- ---- a direction that may be none
+pub none-is : (b : Bool) (x : Direction) → ◌≡◌ {A = Option Direction} None (pick b (Some x) None) → b ≡ false
+none-is true x e = absurd (let z : ◌≡◌ {A = ℕ} 0 1 = cc in omega arith)
+none-is false x e = refl
+
+pub some-is : (b : Bool) (x y : Direction) → ◌≡◌ {A = Option Direction} (Some y) (pick b (Some x) None) → (b ≡ true) × (y ≡ x)
+some-is true x y e = (refl, cc)
+some-is false x y e = absurd (let z : ◌≡◌ {A = ℕ} 0 1 = cc in omega arith)
+
 -- ---- how the call ends
 module _ (y d : ℤ) (chain points out : List ℤ) where
   abbrev c : Chain
@@ -80,6 +90,16 @@ module _ (y d : ℤ) (chain points out : List ℤ) where
   -- what is written where nothing is refused
   abbrev all : CallOutcome ℤ
   all = writes (answers_of (convert_of c (direction_from d)) (length points / 7) points ++ drop (length points / 7 * 8) out)
+
+  -- fewer answers than points; and then a direction that is neither, or one
+  pub too_few : length out / 8 < length points / 7 → lent ≡ refusal.row
+  too_few h = rw (lt-ltb (length out / 8) (length points / 7) h)
+
+  pub no-way : length points / 7 ≤ length out / 8 → direction_range d ≡ false → lent ≡ refusal.range
+  no-way h e = rw (le-ltb (length out / 8) (length points / 7) h, e)
+
+  pub a-way : length points / 7 ≤ length out / 8 → direction_range d ≡ true → lent ≡ 0
+  a-way h e = rw (le-ltb (length out / 8) (length points / 7) h, e)
 
   pub unsized : whole_rows (length chain) (length points) (length out) ≡ false → Returns (row_call y chain d points out) out out (pos 255)
   unfolding row_call

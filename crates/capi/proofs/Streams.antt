@@ -15,6 +15,9 @@ use mir.Val.{to_z}
 use mir.ValLaws.{to_z_pos}
 use Rattle.refusal.specs.Numbers as refusal
 use Rattle.refusal.specs.Order.{pick}
+use Rattle.refusal.specs.Refusals as refusals
+use Rattle.refusal.specs.declared.Refusal.{Refusal}
+use Rattle.std.specs.Prelude.{Option, Some, None, Ok, Err}
 use Rattle.ranges.specs.Ranges.{within}
 use Rattle.ranges.proofs.Ranges.{both, all, Natural, natural, natural-holds, equal-self}
 use Rattle.chain.specs.declared.Step.{Step}
@@ -33,9 +36,7 @@ use Rattle.sheet_rules.specs.OneLine.{sound_at, sound_standing}
 use Rattle.sheet_rules.proofs.Answers.{sound-is}
 use Rattle.sheet_stream.specs.declared.Fed.{Fed}
 use Rattle.sheet_stream.specs.declared.Stream.{Stream}
-use Rattle.sheet_stream.specs.declared.Outcome.{Outcome}
-use Rattle.sheet_stream.specs.declared.Outcome.TheVariants.{Open, Line, Refused}
-use Rattle.sheet_stream.specs.Fragments.{Countable, Short}
+use Rattle.sheet_stream.specs.Fragments.{Outcome, Countable, Short}
 use Rattle.chain.specs.Numbers.{number, chain_from}
 use Rattle.chain.proofs.LentSteps.{eight-none}
 use Rattle.capi.specs.Fragments.{FreshFromC, sized_state, state_range, is_flag, chain_in, standing_in, stream_from, flag, bit, head_of, convention_number, step_numbers, with_new_step, numbers_with, Called, of_outcome, called, state_call, told_of, told_after, Stated}
@@ -97,20 +98,6 @@ pub fresh-from-c : FreshFromC
 unfolding stream_from chain_in
 fresh-from-c = rw (equal-self (pos 0), eight-none)
 
--- ---- bytes copied one after the other
-pub one_more : (to from : List ℕ) (i : ℕ) → i < length to → i < length from → take i to ≡ take i from → take (i + 1) (set to i (get_or from i 0)) ≡ take (i + 1) from
-one_more to from i h k e = rw (add-one, take-suc-set to i (get_or from i 0) h, take-suc from i 0 k, e)
-
-pub all-copied : (to from : List ℕ) (n : ℕ) → length to ≡ n → length from ≡ n → take n to ≡ take n from → to ≡ from
-all-copied to from n h k e = sym (take_all n to (omega arith)) ∙ e ∙ take_all n from (omega arith)
-
--- two numbers stored
-pub two : (l : List ℤ) (a b : ℤ) → length l ≡ 2 → set (set l 0 a) 1 b ≡ a ∷ b ∷ []
-two [] a b e = absurd (omega arith)
-two (x ∷ []) a b e = absurd (omega arith)
-two (x ∷ y ∷ []) a b e = refl
-two (x ∷ y ∷ z ∷ l) a b e = absurd (omega arith)
-
 -- ---- a step's row, number by number
 module _ (s : Step) {p q r u : ℤ} (hp : p ≡ s.before.datum) (hq : q ≡ s.before.epoch) (hr : r ≡ s.after.datum) (hu : u ≡ s.after.epoch) where
   pub shift-row : {t : Shift} → s.kind ≡ kind.Shift t → {a b c : ℤ} → a ≡ t.dx → b ≡ t.dy → c ≡ t.dz → (pos letter_t ∷ pos 0 ∷ p ∷ q ∷ r ∷ u ∷ a ∷ b ∷ c ∷ pos 0 ∷ pos 0 ∷ pos 0 ∷ pos 0 ∷ []) ≡ step_numbers s
@@ -135,14 +122,14 @@ head s hl hk ha hb hf hy hn = rw (hl, hk, ha, hb, hf, hy, hn)
 
 -- ---- how a call ends
 module _ (s : Stream) (o : Outcome) (ns : List ℤ) (bytes out : List ℕ) where
-  pub declined : (n : ℕ) → o ≡ Refused n → {r : ℤ} → r ≡ neg_ℤ (pos n) → Stated (of_outcome s o) ns ns bytes bytes out out r
+  pub declined : (e : Refusal) → o ≡ Err e → {r : ℤ} → r ≡ neg_ℤ (pos (refusals.number e)) → Stated (of_outcome s o) ns ns bytes bytes out out r
   declined n e f = rw e (record { status = f; state = refl; line = refl; written = refl })
 
   module _ {ns' : List ℤ} {bytes' : List ℕ} (f : ns' ≡ numbers_with ns s) (g : bytes' ≡ s.kept) where
-    pub no_line : o ≡ Open → Stated (of_outcome s o) ns ns' bytes bytes' out out (pos 0)
+    pub no_line : o ≡ Ok None → Stated (of_outcome s o) ns ns' bytes bytes' out out (pos 0)
     no_line e = rw e (record { status = refl; state = f; line = g; written = refl })
 
-    pub line-ended : (r : Reply) → o ≡ Line r → Short o → 200 ≤ length out → {out' : List ℕ} {k : ℕ} → Wrote out 0 (reply_text r) out' k → Stated (of_outcome s o) ns ns' bytes bytes' out out' (to_z w64 k)
+    pub line-ended : (r : Reply) → o ≡ Ok (Some r) → Short o → 200 ≤ length out → {out' : List ℕ} {k : ℕ} → Wrote out 0 (reply_text r) out' k → Stated (of_outcome s o) ns ns' bytes bytes' out out' (to_z w64 k)
     line-ended r e t h {k = k} w =
         let m : length (reply_text r) ≤ 100 = rw e at t in
         let z : 0 + length (reply_text r) ≡ length (reply_text r) = omega arith in

@@ -1,40 +1,29 @@
--- The calls of the C interface: what each answers, by the definitions of the libraries. An answer is an enum of a library: its refusals give their number,
--- its other case gives its numbers in order.
-use Rattle.std.specs.Prelude.{ℕ, List, [], ◌∷◌, eqb, ℤ, pos, Float, length}
-use Rattle.rounding.specs.declared.decimals.Rounded.{Rounded}
-use Rattle.rounding.specs.declared.decimals.Rounded.TheVariants as rounded
-use Rattle.rounding.specs.Decimals.{rounded_of}
+-- The calls of the C interface: what each answers, by the definitions of the libraries. A refusal gives its number, an answer its
+-- numbers in order.
+use Rattle.std.specs.Prelude.{ℕ, List, [], ◌∷◌, eqb, ℤ, pos, Float, length, Result, Ok, Err}
+use Rattle.rounding.specs.Decimals.{Rounded, rounded_of}
 use Rattle.chain.specs.declared.Point.{Point}
 use Rattle.chain.specs.declared.Chain.{Chain}
-use Rattle.chain.specs.declared.Answer.{Answer}
-use Rattle.chain.specs.declared.Answer.TheVariants as answer
-use Rattle.chain.specs.Convert.{forward_of, inverse_of}
+use Rattle.chain.specs.Convert.{Answer, forward_of, inverse_of}
 use Rattle.angle.specs.declared.OriginNumbers.{OriginNumbers}
-use Rattle.angle.specs.declared.Cartesian.{Cartesian}
-use Rattle.angle.specs.declared.Cartesian.TheVariants as cartesian
-use Rattle.angle.specs.declared.CartesianUnits.{CartesianUnits}
-use Rattle.angle.specs.declared.CartesianUnits.TheVariants as units
-use Rattle.angle.specs.declared.GeodeticUnits.{GeodeticUnits}
-use Rattle.angle.specs.declared.GeodeticUnits.TheVariants as geodetic
+use Rattle.angle.specs.declared.Metres.{Metres}
+use Rattle.angle.specs.declared.Units.{Units}
+use Rattle.angle.specs.declared.Angles.{Angles}
 use Rattle.angle.specs.declared.Projected.{Projected}
-use Rattle.angle.specs.declared.Projected.TheVariants as projected
-use Rattle.angle.specs.declared.ProjectedMillimetres.{ProjectedMillimetres}
-use Rattle.angle.specs.declared.ProjectedMillimetres.TheVariants as millimetres
+use Rattle.angle.specs.declared.Millimetres.{Millimetres}
 use Rattle.angle.specs.Cartesian.{cartesian_of, cartesian_units_of}
 use Rattle.angle.specs.Geodetic.{geodetic_units_of}
 use Rattle.angle.specs.Cassini.{cassini_of, cassini_millimetres_of}
-use Rattle.line.specs.declared.LaterFault.{LaterFault}
-use Rattle.line.specs.declared.Verdict.{Verdict}
-use Rattle.line.specs.declared.Verdict.TheVariants as verdict
-use Rattle.line.specs.Later.{later_of, later_fault_of}
+use Rattle.line.specs.Later as verdict
+use Rattle.line.specs.Later.{LaterFault, Verdict, later_of, later_fault_of}
 use Rattle.capi.specs.Outcome.{CallOutcome, refused, gives, if_sized}
 use Rattle.chain.specs.Numbers.{chain_from}
 use Rattle.capi.specs.Chains.{point_from, point_numbers, whole_steps}
 
 -- ---- conversions under a profile, forward and inverse: a point
 abbrev pub of_answer : Answer → CallOutcome ℤ
-of_answer (answer.Converted p) = gives (point_numbers p)
-of_answer (answer.Refused n) = refused n
+of_answer (Ok p) = gives (point_numbers p)
+of_answer (Err n) = refused n
 
 unfoldable pub conversion_call : (Chain → Point → Answer) → ℤ → List ℤ → List ℤ → List ℤ → CallOutcome ℤ
 conversion_call convert profile chain point out =
@@ -47,13 +36,13 @@ abbrev pub inverse_call : ℤ → List ℤ → List ℤ → List ℤ → CallOut
 inverse_call = conversion_call inverse_of
 
 -- ---- geodetic to Cartesian: X, Y, Z
-abbrev pub of_cartesian : Cartesian → CallOutcome Float
-of_cartesian (cartesian.Metres x y z) = gives (x ∷ y ∷ z ∷ [])
-of_cartesian (cartesian.Refused n) = refused n
+abbrev pub of_cartesian : Result Metres ℕ → CallOutcome Float
+of_cartesian (Ok p) = gives (p.x ∷ p.y ∷ p.z ∷ [])
+of_cartesian (Err n) = refused n
 
-abbrev pub of_units : CartesianUnits → CallOutcome ℤ
-of_units (units.Units x y z) = gives (x ∷ y ∷ z ∷ [])
-of_units (units.Refused n) = refused n
+abbrev pub of_units : Result Units ℕ → CallOutcome ℤ
+of_units (Ok p) = gives (p.x ∷ p.y ∷ p.z ∷ [])
+of_units (Err n) = refused n
 
 unfoldable pub cartesian_call : ℤ → ℤ → ℤ → ℤ → List Float → CallOutcome Float
 cartesian_call code latitude longitude height out = if_sized (eqb (length out) 3) (of_cartesian (cartesian_of code latitude longitude height))
@@ -62,21 +51,21 @@ unfoldable pub units_call : ℤ → ℤ → ℤ → ℤ → List ℤ → CallOut
 units_call code latitude longitude height out = if_sized (eqb (length out) 3) (of_units (cartesian_units_of code latitude longitude height))
 
 -- ---- Cartesian to geodetic: latitude, longitude, height
-abbrev pub of_geodetic : GeodeticUnits → CallOutcome ℤ
-of_geodetic (geodetic.Units latitude longitude height) = gives (latitude ∷ longitude ∷ height ∷ [])
-of_geodetic (geodetic.Refused n) = refused n
+abbrev pub of_geodetic : Result Angles ℕ → CallOutcome ℤ
+of_geodetic (Ok p) = gives (p.latitude ∷ p.longitude ∷ p.height ∷ [])
+of_geodetic (Err n) = refused n
 
 unfoldable pub geodetic_call : ℤ → ℤ → ℤ → ℤ → List ℤ → CallOutcome ℤ
 geodetic_call code x y z out = if_sized (eqb (length out) 3) (of_geodetic (geodetic_units_of code x y z))
 
 -- ---- Cassini: easting, northing
-abbrev pub of_projected : Projected → CallOutcome Float
-of_projected (projected.Metres e n) = gives (e ∷ n ∷ [])
-of_projected (projected.Refused n) = refused n
+abbrev pub of_projected : Result Projected ℕ → CallOutcome Float
+of_projected (Ok p) = gives (p.easting ∷ p.northing ∷ [])
+of_projected (Err n) = refused n
 
-abbrev pub of_millimetres : ProjectedMillimetres → CallOutcome ℤ
-of_millimetres (millimetres.Millimetres e n) = gives (e ∷ n ∷ [])
-of_millimetres (millimetres.Refused n) = refused n
+abbrev pub of_millimetres : Result Millimetres ℕ → CallOutcome ℤ
+of_millimetres (Ok p) = gives (p.easting ∷ p.northing ∷ [])
+of_millimetres (Err n) = refused n
 
 -- an origin by its numbers: ellipsoid, latitude, longitude, false easting, false northing
 abbrev pub origin_from : ℤ → ℤ → ℤ → ℤ → ℤ → OriginNumbers
@@ -96,8 +85,8 @@ millimetres_call o latitude longitude out = if_sized (eqb (length out) 2) (of_mi
 
 -- ---- rounding: one number
 abbrev pub of_rounded : Rounded → CallOutcome ℤ
-of_rounded (rounded.Whole n) = gives (n ∷ [])
-of_rounded (rounded.Refused n) = refused n
+of_rounded (Ok n) = gives (n ∷ [])
+of_rounded (Err n) = refused n
 
 unfoldable pub round_call : Float → ℕ → List ℤ → CallOutcome ℤ
 round_call x places out = if_sized (eqb (length out) 1) (of_rounded (rounded_of x places))

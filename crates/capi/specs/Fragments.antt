@@ -1,8 +1,9 @@
 -- A sheet in fragments: its state out of numbers and bytes and back, in the order that include/swivelcrane.h gives, and what the two calls answer.
-use Rattle.std.specs.Prelude.{ℕ, suc, ◌+◌, ◌-◌, ◌*◌, ◌≡◌, Bool, true, false, not, ◌&&◌, ◌||◌, List, [], ◌∷◌, ◌++◌, eqb, leb, ltb, ℤ, pos, neg_ℤ, nat_abs, length, get_or, take, drop, replicate}
+use Rattle.std.specs.Prelude.{ℕ, suc, ◌+◌, ◌-◌, ◌*◌, ◌≡◌, Bool, true, false, not, ◌&&◌, ◌||◌, List, [], ◌∷◌, ◌++◌, eqb, leb, ltb, ℤ, pos, neg_ℤ, nat_abs, length, get_or, take, drop, replicate, Some, None, Ok, Err}
 use Rattle.std.proofs.lemmas.List.Edits.{sets}
 use Rattle.refusal.specs.Numbers as refusal
 use Rattle.refusal.specs.Order.{pick}
+use Rattle.refusal.specs.Refusals as refusals
 use Rattle.ranges.specs.Ranges.{within, equal}
 use Rattle.chain.specs.declared.Convention.{Convention}
 use Rattle.chain.specs.declared.Convention.TheVariants.{PositionVector, CoordinateFrame}
@@ -16,10 +17,8 @@ use Rattle.line.specs.Bytes.{letter_b, letter_c, letter_f, letter_p, letter_t, l
 use Rattle.sheet_rules.specs.declared.Standing.{Standing}
 use Rattle.sheet_rules.specs.Sheet.{reply_text}
 use Rattle.sheet_stream.specs.declared.Stream.{Stream}
-use Rattle.sheet_stream.specs.declared.Outcome.{Outcome}
-use Rattle.sheet_stream.specs.declared.Outcome.TheVariants.{Open, Line, Refused}
 use Rattle.sheet_stream.specs.declared.Fed.{Fed}
-use Rattle.sheet_stream.specs.Fragments.{no_bytes, fresh, feed_of, finish_of}
+use Rattle.sheet_stream.specs.Fragments.{Outcome, no_bytes, fresh, feed_of, finish_of}
 use Rattle.chain.specs.Numbers.{number, chain_from}
 use Rattle.chain.specs.Numbers.{no_step}
 
@@ -119,9 +118,9 @@ pub data Called : Type 0 where
   answers : Stream → List ℕ → Called
 
 abbrev pub of_outcome : Stream → Outcome → Called
-of_outcome s Open = answers s []
-of_outcome s (Line r) = answers s (reply_text r)
-of_outcome s (Refused n) = refused n
+of_outcome s (Ok None) = answers s []
+of_outcome s (Ok (Some r)) = answers s (reply_text r)
+of_outcome s (Err refusal) = refused (refusals.number refusal)
 
 abbrev pub called : Fed → Called
 called r = of_outcome r.stream r.outcome
@@ -161,9 +160,9 @@ pub record Stated (c : Called) (numbers numbers' : List ℤ) (bytes bytes' out o
 
 -- ---- what is told of a call with a fragment: the bytes taken, and 1 where a line was answered, 0 where none ended
 abbrev pub told_of : ℕ → Outcome → List ℤ → List ℤ
-told_of n Open before = pos n ∷ pos 0 ∷ []
-told_of n (Line r) before = pos n ∷ pos 1 ∷ []
-told_of n (Refused k) before = before
+told_of n (Ok None) before = pos n ∷ pos 0 ∷ []
+told_of n (Ok (Some r)) before = pos n ∷ pos 1 ∷ []
+told_of n (Err refusal) before = before
 
 -- how the code gets there: a call whose lengths and ranges are good, and which prints nothing
 pub record OpenCall (fragment : List ℕ) (numbers numbers' : List ℤ) (bytes bytes' : List ℕ) (told told' : List ℤ) (r : ℤ) : Type 0 where

@@ -1,7 +1,6 @@
 -- Two chains joined, from C: their numbers one after the other, at the start of the array.
-use Rattle.std.specs.Prelude.{◌≡◌, Bool, ◌&&◌, List, ◌++◌, ℕ, ◌%◌, eqb, ℤ, pos, neg_ℤ, length, drop}
-use Rattle.refusal.specs.Order.{pick}
-use Rattle.chain.specs.declared.Joined.{Joined}
+use Rattle.std.specs.Prelude.{◌≡◌, Bool, ◌&&◌, List, ◌++◌, ℕ, ◌%◌, eqb, ℤ, pos, neg_ℤ, length, drop, Result, Ok, Err}
+use Rattle.chain.specs.declared.Chain.{Chain}
 use Rattle.chain.specs.Join.{join_of}
 use Rattle.capi.specs.Outcome.{CallOutcome, wrong_length, refused, gives, if_sized}
 use Rattle.chain.specs.Numbers.{chain_from}
@@ -11,8 +10,9 @@ unfoldable pub room_for_eight : ℕ → ℕ → ℕ → Bool
 room_for_eight first second out = eqb (first % 13) 0 && eqb (second % 13) 0 && eqb out 104
 
 -- the steps as they were given
-abbrev pub of_joined : List ℤ → List ℤ → Joined → CallOutcome ℤ
-of_joined first second j = pick (eqb j.refusal 0) (gives (first ++ second)) (refused j.refusal)
+abbrev pub of_joined : List ℤ → List ℤ → Result Chain ℕ → CallOutcome ℤ
+of_joined first second (Ok chain) = gives (first ++ second)
+of_joined first second (Err n) = refused n
 
 unfoldable pub join_call : ℤ → List ℤ → ℤ → List ℤ → List ℤ → CallOutcome ℤ
 join_call y first z second out =

@@ -1,10 +1,9 @@
 -- A day's points from C: rows of numbers, seven to a point and eight to an answer.
-use Rattle.std.specs.Prelude.{ℕ, zero, suc, ◌*◌, ◌/◌, ◌%◌, Bool, not, ◌&&◌, ◌||◌, List, [], ◌∷◌, ◌++◌, eqb, ltb, ℤ, pos, length, drop, replicate}
+use Rattle.std.specs.Prelude.{ℕ, zero, suc, ◌*◌, ◌/◌, ◌%◌, Bool, not, ◌&&◌, ◌||◌, List, [], ◌∷◌, ◌++◌, eqb, ltb, ℤ, pos, length, drop, replicate, Ok, Err}
 use Rattle.refusal.specs.Numbers as refusal
 use Rattle.refusal.specs.Order.{Test, ◌gives◌, first, pick, unless}
 use Rattle.chain.specs.declared.Point.{Point}
-use Rattle.chain.specs.declared.Answer.{Answer}
-use Rattle.chain.specs.declared.Answer.TheVariants as answer
+use Rattle.chain.specs.Convert.{Answer}
 use Rattle.chain.specs.declared.Direction.{Direction}
 use Rattle.chain.specs.declared.Direction.TheVariants.{Forward, Inverse}
 use Rattle.chain.specs.Faults.{chain_tests}
@@ -16,8 +15,8 @@ use Rattle.capi.specs.Chains.{point_from, point_numbers}
 -- ---- the answers
 -- the refusal number or 0, then the point's numbers: zeros beside a refusal
 abbrev pub answer_numbers : Answer → List ℤ
-answer_numbers (answer.Converted p) = pos 0 ∷ point_numbers p
-answer_numbers (answer.Refused n) = pos n ∷ replicate 7 (pos 0)
+answer_numbers (Ok p) = pos 0 ∷ point_numbers p
+answer_numbers (Err n) = pos n ∷ replicate 7 (pos 0)
 
 -- of n points, one after the other
 unfoldable pub answers_of : (Point → Answer) → ℕ → List ℤ → List ℤ

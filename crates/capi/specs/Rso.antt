@@ -1,8 +1,7 @@
 -- The calls of RSO from C: a projection's eight parameters from a row of numbers, and what each call answers.
-use Rattle.std.specs.Prelude.{◌&&◌, List, [], ◌∷◌, eqb, ℤ, Float, length}
+use Rattle.std.specs.Prelude.{◌&&◌, List, [], ◌∷◌, eqb, ℕ, ℤ, Float, length, Result, Ok, Err}
 use Rattle.oblique_mercator.specs.declared.Parameters.{Parameters}
-use Rattle.oblique_mercator.specs.declared.Angles.{Angles}
-use Rattle.oblique_mercator.specs.declared.Angles.TheVariants as angles
+use Rattle.oblique_mercator.specs.declared.Place.{Place}
 use Rattle.oblique_mercator.specs.Forward.{forward_of}
 use Rattle.oblique_mercator.specs.Reverse.{reverse_of}
 use Rattle.capi.specs.Outcome.{CallOutcome, refused, gives, if_sized}
@@ -27,9 +26,9 @@ unfoldable pub rso_forward_call : List ℤ → ℤ → ℤ → List Float → Ca
 rso_forward_call ns latitude longitude out = if_sized (eqb (length ns) 8 && eqb (length out) 2) (of_projected (forward_of (parameters_from ns) latitude longitude))
 
 -- reverse: latitude, longitude
-abbrev pub of_angles : Angles → CallOutcome ℤ
-of_angles (angles.Units a o) = gives (a ∷ o ∷ [])
-of_angles (angles.Refused n) = refused n
+abbrev pub of_angles : Result Place ℕ → CallOutcome ℤ
+of_angles (Ok p) = gives (p.latitude ∷ p.longitude ∷ [])
+of_angles (Err n) = refused n
 
 unfoldable pub rso_reverse_call : List ℤ → Float → Float → List ℤ → CallOutcome ℤ
 rso_reverse_call ns e n out = if_sized (eqb (length ns) 8 && eqb (length out) 2) (of_angles (reverse_of (parameters_from ns) e n))

@@ -1,12 +1,14 @@
 // Conversion of a point by a chain, forward and inverse.
 ghost use Rattle.std.specs.Prelude.{◌≡◌, ◌≤◌, length};
+ghost use Rattle.refusal.specs.Refusals.{told};
 ghost use Rattle.capi.specs.Outcome.{Returns};
-ghost use Rattle.capi.specs.Chains.{whole_steps, point_from};
+ghost use Rattle.capi.specs.Chains.{whole_steps, point_from, point_numbers};
 ghost use Rattle.capi.specs.Calls.{of_answer, forward_call, inverse_call};
 
 use crate::WRONG_LENGTH;
-use crate::status::status;
-use chain::{Answer, Id, Label, Point, Position, Realization};
+use crate::status::{give, status};
+use chain::{Id, Label, Point, Position, Realization};
+use refusal::Refusal;
 
 // Whether the chain has whole steps, the point its seven numbers, and the output room for seven.
 fn are_sized(chain: usize, point: usize, out: usize) -> bool
@@ -38,30 +40,29 @@ pub(crate) fn point_from(n: &[i64]) -> Point
     }
 }
 
+// Its seven numbers again.
+pub(crate) fn point_numbers(p: Point) -> [i64; 7]
+    ensures { result ≡ point_numbers p }
+{
+    [
+        p.label.issue,
+        p.label.order,
+        p.realization.datum,
+        p.realization.epoch,
+        p.position.x,
+        p.position.y,
+        p.position.z,
+    ]
+}
+
 // Writes a converted point, or answers the refusal.
-fn give(answer: Answer, out: &mut [i64]) -> i64
+fn give_point(answer: Result<Point, Refusal>, out: &mut [i64]) -> i64
     requires { length out.old ≡ 7 }
-    ensures { Returns (of_answer answer) out.old out.new result }
+    ensures { Returns (of_answer (told answer)) out.old out.new result }
 {
     match answer {
-        Answer::Refused(n) => status(n),
-        Answer::Converted(p) => {
-            let issue = p.label.issue;
-            let order = p.label.order;
-            let datum = p.realization.datum;
-            let epoch = p.realization.epoch;
-            let x = p.position.x;
-            let y = p.position.y;
-            let z = p.position.z;
-            out[0] = issue;
-            out[1] = order;
-            out[2] = datum;
-            out[3] = epoch;
-            out[4] = x;
-            out[5] = y;
-            out[6] = z;
-            0
-        }
+        Err(refusal) => status(refusal),
+        Ok(p) => give(&point_numbers(p), out),
     }
 }
 
@@ -72,7 +73,7 @@ pub fn swivelcrane_forward(profile: i64, chain: &[i64], point: &[i64], out: &mut
     if !are_sized(chain.len(), point.len(), out.len()) {
         return WRONG_LENGTH;
     }
-    give(chain::forward_by(profile, chain, point_from(point)), out)
+    give_point(chain::forward_by(profile, chain, point_from(point)), out)
 }
 
 // A point inverse by a chain of a profile, 2009 or 2021 (document 01: back).
@@ -82,5 +83,5 @@ pub fn swivelcrane_inverse(profile: i64, chain: &[i64], point: &[i64], out: &mut
     if !are_sized(chain.len(), point.len(), out.len()) {
         return WRONG_LENGTH;
     }
-    give(chain::inverse_by(profile, chain, point_from(point)), out)
+    give_point(chain::inverse_by(profile, chain, point_from(point)), out)
 }

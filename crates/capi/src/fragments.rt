@@ -4,13 +4,12 @@ ghost use Rattle.line.specs.Lines.{line_end};
 ghost use Rattle.sheet_stream.specs.Fragments.{Countable, Short, fed_at, feed_of};
 ghost use Rattle.capi.specs.Fragments.{sized_state, state_range, called, told_of, stream_from, Stated, OpenCall, FedCall, Streamed, Ended};
 
-use crate::joining::minus;
-use crate::{point_line, state};
+use crate::status::minus;
+use crate::{NO_ROOM, point_line, state};
 use line::LINE_FEED;
-use sheet_stream::{Fed, Outcome};
-
-// Minus the number of a wrong length: a length is never below 0.
-const NO_ROOM: i64 = -255;
+use refusal::Refusal;
+use sheet_rules::Reply;
+use sheet_stream::Fed;
 
 // Whether the state's arrays are as long as the calls ask, with room for an answer.
 fn are_sized(numbers: usize, bytes: usize, out: usize) -> bool
@@ -26,37 +25,26 @@ fn give(fed: Fed, numbers: &mut [i64], bytes: &mut [u8], out: &mut [u8]) -> i64
 {
     let stream = fed.stream;
     let kept = stream.kept;
-    let outcome = fed.outcome;
-    match outcome {
-        Outcome::Refused(n) => minus(n),
-        Outcome::Open => {
+    match fed.outcome {
+        Err(refusal) => minus(refusal),
+        Ok(ended) => {
             state::put_numbers(numbers, stream);
-            state::put_bytes(&kept, bytes);
-            0
-        }
-        Outcome::Line(reply) => {
-            state::put_numbers(numbers, stream);
-            state::put_bytes(&kept, bytes);
-            sheet_rules::write_reply(out, 0, reply) as i64
+            bytes.copy_from_slice(&kept);
+            match ended {
+                None => 0,
+                Some(reply) => sheet_rules::write_reply(out, 0, reply) as i64,
+            }
         }
     }
 }
 
 // Tells how many bytes were taken, and whether a line was answered.
-fn tell(taken: usize, outcome: Outcome, told: &mut [i64])
+fn tell(taken: usize, outcome: Result<Option<Reply>, Refusal>, told: &mut [i64])
     requires { (length told.old ≡ 2) × (taken < 9223372036854775808) }
     ensures { told.new ≡ told_of taken outcome told.old }
 {
-    match outcome {
-        Outcome::Refused(_n) => {}
-        Outcome::Open => {
-            told[0] = taken as i64;
-            told[1] = 0;
-        }
-        Outcome::Line(_reply) => {
-            told[0] = taken as i64;
-            told[1] = 1;
-        }
+    if let Ok(ended) = outcome {
+        told.copy_from_slice(&[taken as i64, state::bit(ended.is_some())]);
     }
 }
 
@@ -80,12 +68,11 @@ fn feed_open(
     ensures { OpenCall fragment.now numbers.old numbers.new bytes.old bytes.new told.old told.new result }
 {
     if !state::is_answered(numbers) {
-        return minus(refusal::STATE);
+        return minus(Refusal::State);
     }
     let kept = sheet_stream::keep_bytes(bytes, state::kept_in(numbers), fragment);
     numbers[1] = kept as i64;
-    told[0] = end as i64;
-    told[1] = 0;
+    told.copy_from_slice(&[end as i64, 0]);
     0
 }
 
@@ -146,7 +133,7 @@ pub fn swivelcrane_feed(
         return NO_ROOM;
     }
     if !state::in_range(numbers) {
-        return minus(refusal::STATE);
+        return minus(Refusal::State);
     }
     let end = first_end(fragment);
     if !sheet_stream::is_fed(fragment, end) {
@@ -163,7 +150,7 @@ pub fn swivelcrane_finish(numbers: &mut [i64], bytes: &mut [u8], out: &mut [u8])
         return NO_ROOM;
     }
     if !state::in_range(numbers) {
-        return minus(refusal::STATE);
+        return minus(Refusal::State);
     }
     let fed = sheet_stream::finish(state::stream_from(numbers, bytes));
     give(fed, numbers, bytes, out)

@@ -1,12 +1,11 @@
 // Two chains made one.
-ghost use Rattle.std.specs.Prelude.{◌≡◌, ◌+◌, ◌≤◌, pos, neg_ℤ, length};
+ghost use Rattle.std.specs.Prelude.{◌≡◌, ◌+◌, ◌≤◌, length};
 ghost use Rattle.std.proofs.lemmas.List.Edits.{sets};
 ghost use Rattle.capi.specs.Joining.{room_for_eight, join_call, Counted};
 
+use crate::NO_ROOM;
+use crate::status::minus;
 use chain::chain_from;
-
-// Minus the number of a wrong length: a count is never below 0.
-const NO_ROOM: i64 = -255;
 
 // Whether both chains have whole steps, and the output room for eight.
 fn are_sized(first: usize, second: usize, out: usize) -> bool
@@ -15,23 +14,12 @@ fn are_sized(first: usize, second: usize, out: usize) -> bool
     (first % 13 == 0) & (second % 13 == 0) & (out == 104)
 }
 
-// A refusal number as this call returns it.
-pub(crate) fn minus(number: u8) -> i64
-    ensures { result ≡ neg_ℤ (pos number) }
-{
-    0 - (number as i64)
-}
-
 // All of a row into another, from an index on.
 pub(crate) fn copy(from: &[i64], out: &mut [i64], at: usize)
     requires { at + length from.now ≤ length out.old }
     ensures { out.new ≡ sets out.old at from.now }
 {
-    let mut i: usize = 0;
-    while i < from.len() {
-        out[at + i] = from[i];
-        i += 1;
-    }
+    out[at..at + from.len()].copy_from_slice(from);
 }
 
 // The steps of the first chain and then of the second, at the start of `out`. The answer is the count of their numbers, or minus the refusal, or NO_ROOM.
@@ -51,9 +39,8 @@ pub fn swivelcrane_join(
         chain_from(first_profile, first),
         chain_from(second_profile, second),
     );
-    let fault = joined.refusal;
-    if fault != 0 {
-        return minus(fault);
+    if let Err(refusal) = joined {
+        return minus(refusal);
     }
     copy(first, out, 0);
     copy(second, out, first.len());

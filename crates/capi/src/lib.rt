@@ -20,3 +20,6 @@ mod status;
 
 // An array that has not the number of elements that its call asks for. It comes before every refusal.
 const WRONG_LENGTH: i64 = 255;
+
+// Minus its number, where a call answers with a length or a count, which is never below 0.
+const NO_ROOM: i64 = -255;

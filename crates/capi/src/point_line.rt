@@ -6,8 +6,10 @@ ghost use Rattle.sheet_rules.specs.OneLine.{point_answered, PointPrinted};
 ghost use Rattle.sheet_stream.specs.Fragments.{between, ends_with};
 ghost use Rattle.capi.specs.Fragments.{state_range, flag as Fragments·flag, chain_in, stream_from, numbers_with, point_time, point_passed, FedCall};
 
-use crate::joining::{copy, minus};
+use crate::joining::copy;
 use crate::state;
+use crate::status::minus;
+use refusal::Refusal;
 use sheet_rules::LentPoint;
 
 // At most so many lines of a sheet are answered.
@@ -25,7 +27,7 @@ pub(crate) fn can_come(n: &[i64]) -> bool
 }
 
 // What the line is answered by the state's chain, printed.
-fn print_in(n: &[i64], text: &[u8], out: &mut [u8]) -> LentPoint
+fn print_in(n: &[i64], text: &[u8], out: &mut [u8]) -> Option<LentPoint>
     requires { (length n.now ≡ 111) × (state_range n.now ≡ true) }
     ensures { PointPrinted (point_answered (chain_in n.now) (nat_abs (number n.now 0) + 1) (Fragments·flag (number n.now 2)) text.now) out.old 0 out.new result }
 {
@@ -60,15 +62,11 @@ pub(crate) fn feed_point(
         × (end < 9223372036854775808) × (point_time numbers.old ≡ true) × (eqb (get_or text.now 0 0) letter_p ≡ true) }
     ensures { FedCall (ends_with (stream_from numbers.old bytes.old) text.now end false) numbers.old numbers.new bytes.old bytes.new out.old out.new told.old told.new result }
 {
-    let printed = print_in(numbers, text, out);
-    if !printed.sound {
-        return minus(refusal::STATE);
-    }
-    let none = [0u8; 200];
+    let Some(printed) = print_in(numbers, text, out) else {
+        return minus(Refusal::State);
+    };
     put_passed(numbers, printed.closes);
-    state::put_bytes(&none, bytes);
-    told[0] = end as i64;
-    told[1] = 1;
-    let past = printed.at;
-    past as i64
+    bytes.fill(0);
+    told.copy_from_slice(&[end as i64, 1]);
+    printed.at as i64
 }

@@ -3,8 +3,7 @@ ghost use Rattle.sheet_rules.specs.Sheet.{sheet_of};
 ghost use Rattle.plan_rules.specs.Plan.{plan_of};
 ghost use Rattle.capi.specs.Printing.{Printed};
 
-// Minus the number of a wrong length: a length is never below 0.
-const NO_ROOM: i64 = -255;
+use crate::NO_ROOM;
 
 // What a whole sheet prints, at the start of `out`. The answer is the place past it, or NO_ROOM.
 pub fn swivelcrane_sheet(input: &[u8], out: &mut [u8]) -> i64

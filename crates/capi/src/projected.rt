@@ -1,39 +1,22 @@
 // Cassini-Soldner eastings and northings.
 ghost use Rattle.std.specs.Prelude.{◌≡◌, length};
+ghost use Rattle.refusal.specs.Refusals.{told};
 ghost use Rattle.capi.specs.Outcome.{Returns};
-ghost use Rattle.capi.specs.Calls.{of_projected, of_millimetres, origin_from, cassini_call, millimetres_call};
+ghost use Rattle.capi.specs.Calls.{of_projected, origin_from, cassini_call, millimetres_call};
 
 use crate::WRONG_LENGTH;
-use crate::status::status;
-use angle::{OriginNumbers, Projected, ProjectedMillimetres};
+use crate::status::{give, status};
+use angle::{OriginNumbers, Projected};
+use refusal::Refusal;
 
 // Writes easting and northing, or answers the refusal.
-pub(crate) fn give_metres(answer: Projected, out: &mut [f64]) -> i64
+pub(crate) fn give_metres(answer: Result<Projected, Refusal>, out: &mut [f64]) -> i64
     requires { length out.old ≡ 2 }
-    ensures { Returns (of_projected answer) out.old out.new result }
+    ensures { Returns (of_projected (told answer)) out.old out.new result }
 {
     match answer {
-        Projected::Refused(n) => status(n),
-        Projected::Metres(east, north) => {
-            out[0] = east;
-            out[1] = north;
-            0
-        }
-    }
-}
-
-// The same in whole millimetres.
-fn give_millimetres(answer: ProjectedMillimetres, out: &mut [i64]) -> i64
-    requires { length out.old ≡ 2 }
-    ensures { Returns (of_millimetres answer) out.old out.new result }
-{
-    match answer {
-        ProjectedMillimetres::Refused(n) => status(n),
-        ProjectedMillimetres::Millimetres(east, north) => {
-            out[0] = east;
-            out[1] = north;
-            0
-        }
+        Err(refusal) => status(refusal),
+        Ok(p) => give(&[p.easting, p.northing], out),
     }
 }
 
@@ -104,5 +87,8 @@ pub fn swivelcrane_cassini_millimetres(
         false_easting,
         false_northing,
     );
-    give_millimetres(angle::cassini_millimetres(origin, latitude, longitude), out)
+    match angle::cassini_millimetres(origin, latitude, longitude) {
+        Err(refusal) => status(refusal),
+        Ok(m) => give(&[m.easting, m.northing], out),
+    }
 }

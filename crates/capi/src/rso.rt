@@ -1,12 +1,12 @@
 // RSO: latitude and longitude to easting and northing, and back.
 ghost use Rattle.std.specs.Prelude.{◌≡◌, length};
 ghost use Rattle.capi.specs.Outcome.{Returns};
-ghost use Rattle.capi.specs.Rso.{parameters_from, of_angles, rso_forward_call, rso_reverse_call};
+ghost use Rattle.capi.specs.Rso.{parameters_from, rso_forward_call, rso_reverse_call};
 
 use crate::WRONG_LENGTH;
 use crate::projected::give_metres;
-use crate::status::status;
-use oblique_mercator::{Angles, Parameters};
+use crate::status::{give, status};
+use oblique_mercator::Parameters;
 
 // A projection's eight numbers: ellipsoid, centre's latitude and longitude, azimuth, rectified angle, scale, false easting, false northing.
 fn parameters_from(n: &[i64]) -> Parameters
@@ -22,21 +22,6 @@ fn parameters_from(n: &[i64]) -> Parameters
         scale: n[5],
         false_easting: n[6],
         false_northing: n[7],
-    }
-}
-
-// Writes latitude and longitude, or answers the refusal.
-fn give_angles(answer: Angles, out: &mut [i64]) -> i64
-    requires { length out.old ≡ 2 }
-    ensures { Returns (of_angles answer) out.old out.new result }
-{
-    match answer {
-        Angles::Refused(n) => status(n),
-        Angles::Units(latitude, longitude) => {
-            out[0] = latitude;
-            out[1] = longitude;
-            0
-        }
     }
 }
 
@@ -75,5 +60,8 @@ pub fn swivelcrane_rso_reverse(
         return WRONG_LENGTH;
     }
     let p = parameters_from(parameters);
-    give_angles(oblique_mercator::reverse(p, easting, northing), out)
+    match oblique_mercator::reverse(p, easting, northing) {
+        Err(refusal) => status(refusal),
+        Ok(p) => give(&[p.latitude, p.longitude], out),
+    }
 }

@@ -53,11 +53,7 @@ pub(crate) fn bytes_from(bytes: &[u8]) -> [u8; 200]
     ensures { result ≡ bytes.now }
 {
     let mut kept = [0u8; 200];
-    let mut i: usize = 0;
-    while i < 200 {
-        kept[i] = bytes[i];
-        i += 1;
-    }
+    kept.copy_from_slice(bytes);
     kept
 }
 
@@ -130,13 +126,13 @@ pub(crate) fn stream_from(n: &[i64], bytes: &[u8]) -> Stream
     Stream {
         standing: Standing {
             line: lines as u64 + 1,
-            chain: chain,
-            refused: refused,
-            closed: closed,
+            chain,
+            refused,
+            closed,
         },
         count: kept_count,
-        kept: kept,
-        finished: finished,
+        kept,
+        finished,
     }
 }
 
@@ -209,14 +205,16 @@ fn row_of(step: Step) -> [i64; 13]
     }
 }
 
-// A step that was taken in, past those that were there.
+// A step that was taken in stands past those that were there; where the chain has no more steps than before, none was.
 fn put_new_step(n: &mut [i64], chain: Chain)
-    requires { (length n.old ≡ 111) × (state_range n.old ≡ true) × (chain.length ≤ 8) × (nat_abs (number n.old 6) < chain.length) }
+    requires { (length n.old ≡ 111) × (state_range n.old ≡ true) × (chain.length ≤ 8) }
     ensures { n.new ≡ with_new_step n.old chain }
 {
-    let steps = count(n[6]);
-    let step = chain.steps[steps];
-    let row = row_of(step);
+    let steps = steps_in(n);
+    if chain.length <= steps {
+        return;
+    }
+    let row = row_of(chain.steps[steps]);
     copy(&row, n, HEAD + STEP * steps);
 }
 
@@ -225,25 +223,6 @@ pub(crate) fn put_numbers(n: &mut [i64], stream: Stream)
     requires { (length n.old ≡ 111) × (state_range n.old ≡ true) × Countable stream }
     ensures { n.new ≡ numbers_with n.old stream }
 {
-    let head = head_of(stream);
-    let standing = stream.standing;
-    let chain = standing.chain;
-    if steps_in(n) < chain.length {
-        put_new_step(n, chain);
-        copy(&head, n, 0);
-        return;
-    }
-    copy(&head, n, 0);
-}
-
-// The open line's bytes after a call.
-pub(crate) fn put_bytes(kept: &[u8], bytes: &mut [u8])
-    requires { (length kept.now ≡ 200) × (length bytes.old ≡ 200) }
-    ensures { bytes.new ≡ kept.now }
-{
-    let mut i: usize = 0;
-    while i < 200 {
-        bytes[i] = kept[i];
-        i += 1;
-    }
+    put_new_step(n, stream.standing.chain);
+    copy(&head_of(stream), n, 0);
 }

@@ -1,16 +1,29 @@
-// The small numbers of a refusal, as a call hands them over.
-ghost use Rattle.std.specs.Prelude.{◌≡◌, pos};
+// What a call returns, and what it writes.
+ghost use Rattle.std.specs.Prelude.{◌≡◌, pos, neg_ℤ, length};
+ghost use Rattle.refusal.specs.Refusals.{number};
+ghost use Rattle.capi.specs.Outcome.{Returns, gives};
 
-// A refusal number as a call returns it; and what a call writes of the line and the place.
-pub(crate) fn status(number: u8) -> i64
-    ensures { result ≡ pos number }
+use refusal::Refusal;
+
+// A refusal as a call returns it.
+pub(crate) fn status(refusal: Refusal) -> i64
+    ensures { result ≡ pos (number refusal) }
 {
-    number as i64
+    i64::from(refusal.number())
 }
 
-// The number of a line likewise.
-pub(crate) fn line_number(line: u16) -> i64
-    ensures { result ≡ pos line }
+// Minus its number, as a call returns it that else answers with a length or a count.
+pub(crate) fn minus(refusal: Refusal) -> i64
+    ensures { result ≡ neg_ℤ (pos (number refusal)) }
 {
-    line as i64
+    -i64::from(refusal.number())
+}
+
+// Writes the numbers that a call gives, which are all of its array.
+pub(crate) fn give<T: Copy>(numbers: &[T], out: &mut [T]) -> i64
+    requires { length out.old ≡ length numbers.now }
+    ensures { Returns (gives numbers.now) out.old out.new result }
+{
+    out.copy_from_slice(numbers);
+    0
 }

@@ -1,14 +1,13 @@
 -- Cases that pin the figures of the steps, worked out from document 01 in exact fractions: the ITRF row of each datum that takes one, at its own epoch and at
 -- another; the epoch that the rates count from; the rotation's factor to its last digit; three candidates and no other number of them; and the area, asked of
 -- the last one alone.
-use Rattle.std.specs.Prelude.{◌≡◌, List, [], ◌∷◌, map, ℕ, ℤ, pos}
+use Rattle.std.specs.Prelude.{◌≡◌, List, [], ◌∷◌, map, ℕ, ℤ, pos, Err}
 use Rattle.refusal.specs.Numbers as refusal
 use Rattle.chain.specs.declared.Position.{Position}
 use Rattle.chain.specs.declared.Convention.{Convention}
 use Rattle.chain.specs.declared.Convention.TheVariants.{PositionVector, CoordinateFrame}
 use Rattle.chain.specs.declared.Kind.{Kind}
 use Rattle.chain.specs.declared.Kind.TheVariants.{BursaWolf, Frame}
-use Rattle.chain.specs.declared.Answer.TheVariants.{Refused}
 use Rattle.chain.specs.Case.{less, on, xyz, forward, inverse, Case, answer, expected, case}
 use Rattle.cases.specs.Cases.{a1}
 
@@ -84,4 +83,4 @@ pub record FigureCases : Type 0 where
   pub frames : map answer frame_cases ≡ map expected frame_cases
   pub factor : map answer factor_cases ≡ map expected factor_cases
   pub candidates : map answer candidate_cases ≡ map expected candidate_cases
-  pub last : answer leaving ≡ Refused refusal.left
+  pub last : answer leaving ≡ Err refusal.left

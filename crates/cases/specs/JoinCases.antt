@@ -1,6 +1,6 @@
 -- The orders of refusals that go by a whole chain: joining two, and a row of points. A case for each place of an order, in which that test fails and every later
 -- one that can.
-use Rattle.std.specs.Prelude.{◌≡◌, List, [], ◌∷◌, map, ℕ, pos, replicate}
+use Rattle.std.specs.Prelude.{◌≡◌, List, [], ◌∷◌, map, ℕ, pos, replicate, Result, Ok, Err}
 use Rattle.refusal.specs.Numbers as refusal
 use Rattle.chain.specs.declared.Realization.{Realization}
 use Rattle.chain.specs.declared.Kind.{Kind}
@@ -53,8 +53,12 @@ abbrev wanted_of_bad : List ℕ
 wanted_of_bad = refusal.range ∷ refusal.ninth ∷ refusal.range ∷ refusal.epoch ∷ refusal.profile ∷ refusal.kind ∷ refusal.join ∷ []
 
 -- ---- two chains: the first's own, the second's own, then 5, 6 and 25 of the two
+abbrev number_in : Result Chain ℕ → ℕ
+number_in (Ok c) = fine
+number_in (Err n) = n
+
 abbrev joined : Chain → Chain → ℕ
-joined c d = (join_of c d).refusal
+joined c d = number_in (join_of c d)
 
 abbrev pub pair_cases : List RangeCase
 pair_cases =

@@ -1,14 +1,13 @@
 -- More worked cases beside the ten, worked out by the independent program of compare/: every figure of both ITRF rows, on every axis and at an epoch where its
 -- rate counts; Bursa-Wolf with all seven numbers by either convention; and both ends of the area.
-use Rattle.std.specs.Prelude.{◌≡◌, List, [], ◌∷◌, map, ℤ, pos}
+use Rattle.std.specs.Prelude.{◌≡◌, List, [], ◌∷◌, map, ℤ, pos, Ok, Err}
 use Rattle.refusal.specs.Numbers as refusal
 use Rattle.chain.specs.declared.Position.{Position}
 use Rattle.chain.specs.declared.Convention.{Convention}
 use Rattle.chain.specs.declared.Convention.TheVariants.{PositionVector, CoordinateFrame}
 use Rattle.chain.specs.declared.Kind.{Kind}
 use Rattle.chain.specs.declared.Kind.TheVariants.{BursaWolf, Frame}
-use Rattle.chain.specs.declared.Answer.{Answer}
-use Rattle.chain.specs.declared.Answer.TheVariants.{Converted, Refused}
+use Rattle.chain.specs.Convert.{Answer}
 use Rattle.chain.specs.Case.{less, on, xyz, point, shift, velocity, Way, forward, inverse, Case, answer, expected, case}
 use Rattle.cases.specs.Cases.{a1}
 
@@ -87,10 +86,10 @@ abbrev stays : Way → Position → Trial
 stays way p = trial (moved way p (pos 0) (pos 0) (pos 0)) (expected (case way (shift (pos 0) (pos 0) (pos 0)) (on 8 2010000) (on 8 2020000) p p))
 
 abbrev outside : Position → Trial
-outside p = trial (moved forward p (pos 0) (pos 0) (pos 0)) (Refused refusal.area)
+outside p = trial (moved forward p (pos 0) (pos 0) (pos 0)) (Err refusal.area)
 
 abbrev leaves : Way → Position → ℤ → ℤ → ℤ → Trial
-leaves way p dx dy dz = trial (moved way p dx dy dz) (Refused refusal.left)
+leaves way p dx dy dz = trial (moved way p dx dy dz) (Err refusal.left)
 
 abbrev pub area_cases : List Trial
 area_cases =

@@ -1,5 +1,5 @@
 -- The order of refusals by value: a case for each test of the order, in which that one fails and every later one that can; and what the edition of 2009 has.
-use Rattle.std.specs.Prelude.{◌≡◌, List, [], ◌∷◌, map, ℕ, ℤ, pos, replicate}
+use Rattle.std.specs.Prelude.{◌≡◌, List, [], ◌∷◌, map, ℕ, ℤ, pos, replicate, Ok, Err}
 use Rattle.refusal.specs.Numbers as refusal
 use Rattle.chain.specs.declared.Position.{Position}
 use Rattle.chain.specs.declared.Realization.{Realization}
@@ -7,9 +7,7 @@ use Rattle.chain.specs.declared.Point.{Point}
 use Rattle.chain.specs.declared.Kind.{Kind}
 use Rattle.chain.specs.declared.Kind.TheVariants.{Frame}
 use Rattle.chain.specs.declared.Step.{Step}
-use Rattle.chain.specs.declared.Answer.{Answer}
-use Rattle.chain.specs.declared.Answer.TheVariants.{Converted, Refused}
-use Rattle.chain.specs.Convert.{forward_of, inverse_of}
+use Rattle.chain.specs.Convert.{Answer, forward_of, inverse_of}
 use Rattle.chain.specs.Prepared.{chain_of}
 use Rattle.chain.specs.Case.{less, on, xyz, shift, velocity}
 use Rattle.cases.specs.Cases.{a1}
@@ -88,51 +86,51 @@ back ss p = back_under (pos 2021) ss p
 
 abbrev pub order_cases : List Trial
 order_cases =
-    trial (over (replicate 9 out_of_range) out_of_range_too) (Refused refusal.ninth)
-    ∷ trial (over (good ∷ out_of_range ∷ wrong_epoch ∷ []) out_of_range_too) (Refused refusal.range)
-    ∷ trial (over (good ∷ wrong_epoch ∷ out_of_range ∷ []) out_of_range_too) (Refused refusal.epoch)
-    ∷ trial (over (good ∷ wrong_kind ∷ out_of_range ∷ []) out_of_range_too) (Refused refusal.kind)
-    ∷ trial (over (good ∷ joins_nothing ∷ out_of_range ∷ []) out_of_range_too) (Refused refusal.join)
-    ∷ trial (over (away ∷ []) out_of_range_too) (Refused refusal.range)
-    ∷ trial (over (away ∷ []) wrong_epoch_too) (Refused refusal.epoch)
-    ∷ trial (over (away ∷ []) elsewhere) (Refused refusal.start)
-    ∷ trial (over (away ∷ []) (far (pos 2010000))) (Refused refusal.area)
-    ∷ trial (over (away ∷ []) (at_end (pos 2010000) (less 90000000000))) (Refused refusal.left)
-    ∷ trial (back (replicate 9 out_of_range) out_of_range_too) (Refused refusal.ninth)
-    ∷ trial (back (good ∷ out_of_range ∷ wrong_epoch ∷ []) out_of_range_too) (Refused refusal.range)
-    ∷ trial (back (good ∷ wrong_epoch ∷ out_of_range ∷ []) out_of_range_too) (Refused refusal.epoch)
-    ∷ trial (back (good ∷ wrong_kind ∷ out_of_range ∷ []) out_of_range_too) (Refused refusal.kind)
-    ∷ trial (back (good ∷ joins_nothing ∷ out_of_range ∷ []) out_of_range_too) (Refused refusal.join)
-    ∷ trial (back (away ∷ []) out_of_range_too) (Refused refusal.range)
-    ∷ trial (back (away ∷ []) wrong_epoch_too) (Refused refusal.epoch)
-    ∷ trial (back (away ∷ []) (far (pos 2010000))) (Refused refusal.start)
-    ∷ trial (back (away ∷ []) (far (pos 2020000))) (Refused refusal.area)
-    ∷ trial (back (away ∷ []) (at_end (pos 2020000) (less 330000000000))) (Refused refusal.left)
+    trial (over (replicate 9 out_of_range) out_of_range_too) (Err refusal.ninth)
+    ∷ trial (over (good ∷ out_of_range ∷ wrong_epoch ∷ []) out_of_range_too) (Err refusal.range)
+    ∷ trial (over (good ∷ wrong_epoch ∷ out_of_range ∷ []) out_of_range_too) (Err refusal.epoch)
+    ∷ trial (over (good ∷ wrong_kind ∷ out_of_range ∷ []) out_of_range_too) (Err refusal.kind)
+    ∷ trial (over (good ∷ joins_nothing ∷ out_of_range ∷ []) out_of_range_too) (Err refusal.join)
+    ∷ trial (over (away ∷ []) out_of_range_too) (Err refusal.range)
+    ∷ trial (over (away ∷ []) wrong_epoch_too) (Err refusal.epoch)
+    ∷ trial (over (away ∷ []) elsewhere) (Err refusal.start)
+    ∷ trial (over (away ∷ []) (far (pos 2010000))) (Err refusal.area)
+    ∷ trial (over (away ∷ []) (at_end (pos 2010000) (less 90000000000))) (Err refusal.left)
+    ∷ trial (back (replicate 9 out_of_range) out_of_range_too) (Err refusal.ninth)
+    ∷ trial (back (good ∷ out_of_range ∷ wrong_epoch ∷ []) out_of_range_too) (Err refusal.range)
+    ∷ trial (back (good ∷ wrong_epoch ∷ out_of_range ∷ []) out_of_range_too) (Err refusal.epoch)
+    ∷ trial (back (good ∷ wrong_kind ∷ out_of_range ∷ []) out_of_range_too) (Err refusal.kind)
+    ∷ trial (back (good ∷ joins_nothing ∷ out_of_range ∷ []) out_of_range_too) (Err refusal.join)
+    ∷ trial (back (away ∷ []) out_of_range_too) (Err refusal.range)
+    ∷ trial (back (away ∷ []) wrong_epoch_too) (Err refusal.epoch)
+    ∷ trial (back (away ∷ []) (far (pos 2010000))) (Err refusal.start)
+    ∷ trial (back (away ∷ []) (far (pos 2020000))) (Err refusal.area)
+    ∷ trial (back (away ∷ []) (at_end (pos 2020000) (less 330000000000))) (Err refusal.left)
     -- the empty chain starts wherever the point is: the area decides
-    ∷ trial (over [] (far (pos 2010000))) (Refused refusal.area)
-    ∷ trial (back [] (far (pos 2010000))) (Refused refusal.area)
+    ∷ trial (over [] (far (pos 2010000))) (Err refusal.area)
+    ∷ trial (back [] (far (pos 2010000))) (Err refusal.area)
     -- the mark before the length; a step's 25 after 2 and 3, before 4
-    ∷ trial (under (pos 2010) (replicate 9 out_of_range) out_of_range_too) (Refused refusal.range)
-    ∷ trial (back_under (pos 2010) (replicate 9 out_of_range) out_of_range_too) (Refused refusal.range)
-    ∷ trial (under (pos 2009) (replicate 9 out_of_range) out_of_range_too) (Refused refusal.ninth)
-    ∷ trial (under (pos 2009) (out_of_range ∷ []) out_of_range_too) (Refused refusal.range)
-    ∷ trial (under (pos 2009) (wrong_epoch ∷ []) out_of_range_too) (Refused refusal.epoch)
-    ∷ trial (under (pos 2009) (wrong_kind ∷ []) out_of_range_too) (Refused refusal.profile)
-    ∷ trial (under (pos 2009) (between 5 7 ∷ joins_nothing ∷ []) out_of_range_too) (Refused refusal.profile)
-    ∷ trial (under (pos 2009) (frame ∷ []) (there 5)) (Refused refusal.profile)
-    ∷ trial (under (pos 2009) (between 6 7 ∷ []) (there 6)) (Refused refusal.profile)
-    ∷ trial (under (pos 2009) (between 7 8 ∷ []) (there 7)) (Refused refusal.profile)
+    ∷ trial (under (pos 2010) (replicate 9 out_of_range) out_of_range_too) (Err refusal.range)
+    ∷ trial (back_under (pos 2010) (replicate 9 out_of_range) out_of_range_too) (Err refusal.range)
+    ∷ trial (under (pos 2009) (replicate 9 out_of_range) out_of_range_too) (Err refusal.ninth)
+    ∷ trial (under (pos 2009) (out_of_range ∷ []) out_of_range_too) (Err refusal.range)
+    ∷ trial (under (pos 2009) (wrong_epoch ∷ []) out_of_range_too) (Err refusal.epoch)
+    ∷ trial (under (pos 2009) (wrong_kind ∷ []) out_of_range_too) (Err refusal.profile)
+    ∷ trial (under (pos 2009) (between 5 7 ∷ joins_nothing ∷ []) out_of_range_too) (Err refusal.profile)
+    ∷ trial (under (pos 2009) (frame ∷ []) (there 5)) (Err refusal.profile)
+    ∷ trial (under (pos 2009) (between 6 7 ∷ []) (there 6)) (Err refusal.profile)
+    ∷ trial (under (pos 2009) (between 7 8 ∷ []) (there 7)) (Err refusal.profile)
     -- a point's after 3, before 9, also under an empty chain
-    ∷ trial (under (pos 2009) (between 5 7 ∷ []) out_of_range_too) (Refused refusal.range)
-    ∷ trial (under (pos 2009) (between 5 7 ∷ []) wrong_epoch_too) (Refused refusal.epoch)
-    ∷ trial (under (pos 2009) (between 5 7 ∷ []) (there 6)) (Refused refusal.profile)
-    ∷ trial (under (pos 2009) (between 5 7 ∷ []) elsewhere) (Refused refusal.start)
-    ∷ trial (under (pos 2009) [] (there 6)) (Refused refusal.profile)
-    ∷ trial (back_under (pos 2009) [] (there 9)) (Refused refusal.profile)
+    ∷ trial (under (pos 2009) (between 5 7 ∷ []) out_of_range_too) (Err refusal.range)
+    ∷ trial (under (pos 2009) (between 5 7 ∷ []) wrong_epoch_too) (Err refusal.epoch)
+    ∷ trial (under (pos 2009) (between 5 7 ∷ []) (there 6)) (Err refusal.profile)
+    ∷ trial (under (pos 2009) (between 5 7 ∷ []) elsewhere) (Err refusal.start)
+    ∷ trial (under (pos 2009) [] (there 6)) (Err refusal.profile)
+    ∷ trial (back_under (pos 2009) [] (there 9)) (Err refusal.profile)
     -- what it has
-    ∷ trial (under (pos 2009) (between 3 4 ∷ between 4 5 ∷ between 5 7 ∷ []) (there 3)) (Converted (there 7))
-    ∷ trial (back_under (pos 2009) (between 5 7 ∷ []) (there 7)) (Converted (there 5))
-    ∷ trial (under (pos 2021) (between 6 9 ∷ []) (there 6)) (Converted (there 9))
+    ∷ trial (under (pos 2009) (between 3 4 ∷ between 4 5 ∷ between 5 7 ∷ []) (there 3)) (Ok (there 7))
+    ∷ trial (back_under (pos 2009) (between 5 7 ∷ []) (there 7)) (Ok (there 5))
+    ∷ trial (under (pos 2021) (between 6 9 ∷ []) (there 6)) (Ok (there 9))
     ∷ []
 
 abbrev pub OrderCases : Type 0

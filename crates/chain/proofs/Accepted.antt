@@ -3,7 +3,6 @@ use mathlib.Core.Path.{◌≡◌, refl, sym, ◌∙◌, ap}
 use mathlib.Core.Bool.{true}
 use mathlib.Core.List.{List, [], ◌∷◌, ◌++◌}
 use Prim.Native.Nat.{ℕ, zero, suc, ◌≤◌}
-use native.Mathlib.Omega.{arith}
 use lib.IntN.{ℤ}
 use borrow.Author.Tests.{ltb-false}
 use lib.Dec.{T, ltb}
@@ -15,8 +14,8 @@ use Rattle.chain.specs.declared.Point.{Point}
 use Rattle.chain.specs.declared.Step.{Step}
 use Rattle.chain.specs.declared.Chain.{Chain}
 use Rattle.chain.specs.declared.Arrival.{Arrival}
-use Rattle.chain.specs.declared.Answer.{Answer}
-use Rattle.chain.specs.declared.Answer.TheVariants.{Converted, Refused}
+use Rattle.chain.specs.Convert.{Answer}
+use Rattle.std.specs.Prelude.{Ok, Err}
 use Rattle.chain.specs.Faults.{same_realization, in_area, has_step, point_tests, step_tests, StepOk, step_fault, join_test, later_tests, steps_tests, chain_tests, steps_of}
 use Rattle.ranges.specs.Ranges.{profile_range}
 use Rattle.chain.proofs.Sizes.{step_ok, step-had}
@@ -106,41 +105,42 @@ module _ (c : Chain) (p : Point) (wanted reached : Realization) (w : Walk) where
   chain-silent : first (chain_tests c) ≡ 0 → first (conversion_tests c p wanted) ≡ entry c.profile p wanted
   chain-silent e = on (chain_tests c) (point_tests c.profile p ++ realization_and_area_tests p wanted) (passed (chain_tests c) all-numbered e)
 
-  pub by_chain : (first (chain_tests c) ≡ 0 → ⊥) → Refused (first (chain_tests c)) ≡ convert c p wanted reached w
+  pub by_chain : (first (chain_tests c) ≡ 0 → ⊥) → Err (first (chain_tests c)) ≡ convert c p wanted reached w
   unfolding convert
   by_chain h =
-      sym (unless-some (first (chain_tests c)) Refused (answer_of p reached w) h)
-      ∙ ap (λ (n : ℕ). unless n Refused (answer_of p reached w)) (sym (stop (chain_tests c) (point_tests c.profile p ++ realization_and_area_tests p wanted) h))
+      sym (unless-some (first (chain_tests c)) Err (answer_of p reached w) h)
+      ∙ ap (λ (n : ℕ). unless n Err (answer_of p reached w)) (sym (stop (chain_tests c) (point_tests c.profile p ++ realization_and_area_tests p wanted) h))
 
-  pub by-point : first (chain_tests c) ≡ 0 → (entry c.profile p wanted ≡ 0 → ⊥) → Refused (entry c.profile p wanted) ≡ convert c p wanted reached w
+  pub by-point : first (chain_tests c) ≡ 0 → (entry c.profile p wanted ≡ 0 → ⊥) → Err (entry c.profile p wanted) ≡ convert c p wanted reached w
   unfolding convert
   by-point e h =
-      sym (unless-some (entry c.profile p wanted) Refused (answer_of p reached w) h)
-      ∙ ap (λ (n : ℕ). unless n Refused (answer_of p reached w)) (sym (chain-silent e))
+      sym (unless-some (entry c.profile p wanted) Err (answer_of p reached w) h)
+      ∙ ap (λ (n : ℕ). unless n Err (answer_of p reached w)) (sym (chain-silent e))
 
   pub by-walk : first (chain_tests c) ≡ 0 → entry c.profile p wanted ≡ 0 → answer_of p reached w ≡ convert c p wanted reached w
   unfolding convert
-  by-walk e h = ap (λ (n : ℕ). unless n Refused (answer_of p reached w)) (sym h ∙ sym (chain-silent e))
+  by-walk e h = ap (λ (n : ℕ). unless n Err (answer_of p reached w)) (sym h ∙ sym (chain-silent e))
 
 -- ---- an answer from where the point arrives
-pub arrival-refused : (p : Point) (a : Answer) {r : Arrival} → r ≡ arrival_of p a → (r.refusal ≡ 0 → ⊥) → Refused r.refusal ≡ a
-arrival-refused p (Converted q) e h = absurd (h (ap (λ (r : Arrival). r.refusal) e))
-arrival-refused p (Refused n) e h = ap (λ (r : Arrival). Refused r.refusal) e
+pub arrival-refused : (a : Answer) {n : ℕ} → Err n ≡ arrival_of a → Err n ≡ a
+arrival-refused (Ok q) e = cc
+arrival-refused (Err m) e = cc
 
-pub walk-arrived : (n : ℕ) (p : Point) (reached : Realization) (w : Walk) {r : Arrival} → r ≡ arrival_of p (unless n Refused (answer_of p reached w))
-    → r.refusal ≡ 0 → Converted (moved_to p r.realization r.position) ≡ unless n Refused (answer_of p reached w)
+walk-arrived : (n : ℕ) (p : Point) (reached : Realization) (w : Walk) {r : Arrival} → Ok r ≡ arrival_of (unless n Err (answer_of p reached w))
+    → Ok (moved_to p r.realization r.position) ≡ unless n Err (answer_of p reached w)
 unfolding answer_of
-walk-arrived zero p reached (at q) e h = rw e
-walk-arrived zero p reached left e h = absurd (let z = sym (ap (λ (r : Arrival). r.refusal) e) ∙ h in omega arith)
-walk-arrived (suc n) p reached w e h = absurd (let z = sym (ap (λ (r : Arrival). r.refusal) e) ∙ h in omega arith)
+walk-arrived zero p reached (at q) {r} e =
+    let f : r ≡ record { realization = reached; position = q } = cc in
+    ap (λ (r : Arrival). Ok (moved_to p r.realization r.position)) f
+walk-arrived zero p reached left e = cc
+walk-arrived (suc n) p reached w e = cc
 
-pub forward-arrived : (c : Chain) (p : Point) {r : Arrival} → r ≡ arrival_of p (forward_of c p) → r.refusal ≡ 0
-    → Converted (moved_to p r.realization r.position) ≡ forward_of c p
+pub forward-arrived : (c : Chain) (p : Point) {r : Arrival} → Ok r ≡ arrival_of (forward_of c p) → Ok (moved_to p r.realization r.position) ≡ forward_of c p
 unfolding forward_of convert
-forward-arrived c p e h =
+forward-arrived c p e =
     let r = p.realization in
     let ss = steps_of c in
-    walk-arrived (first (conversion_tests c p (start_of r ss))) p (end_of r ss) (walk forward_step ss p.position) e h
+    walk-arrived (first (conversion_tests c p (start_of r ss))) p (end_of r ss) (walk forward_step ss p.position) e
 
 -- ---- a converted point
 pub record Conversion (c : Chain) (p : Point) (wanted reached : Realization) (w : Walk) (q : Point) : Type 0 where
@@ -149,7 +149,7 @@ pub record Conversion (c : Chain) (p : Point) (wanted reached : Realization) (w 
   pub is : q ≡ moved_to p reached q.position
 
 module _ (c : Chain) (p : Point) (wanted reached : Realization) where
-  answered : (n : ℕ) (w : Walk) (q : Point) → unless n Refused (answer_of p reached w) ≡ Converted q → (n ≡ 0) × (w ≡ at q.position) × (q ≡ moved_to p reached q.position)
+  answered : (n : ℕ) (w : Walk) (q : Point) → unless n Err (answer_of p reached w) ≡ Ok q → (n ≡ 0) × (w ≡ at q.position) × (q ≡ moved_to p reached q.position)
   unfolding answer_of
   answered zero (at x) q e =
       let f : moved_to p reached x ≡ q = cc in
@@ -157,7 +157,7 @@ module _ (c : Chain) (p : Point) (wanted reached : Realization) where
   answered zero left q e = (refl, cc, cc)
   answered (suc n) w q e = (cc, cc, cc)
 
-  pub converted : (w : Walk) (q : Point) → convert c p wanted reached w ≡ Converted q → Conversion c p wanted reached w q
+  pub converted : (w : Walk) (q : Point) → convert c p wanted reached w ≡ Ok q → Conversion c p wanted reached w q
   unfolding convert
   converted w q e =
       let f = answered (first (conversion_tests c p wanted)) w q e in

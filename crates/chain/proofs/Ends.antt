@@ -8,7 +8,7 @@ use Rattle.chain.specs.declared.Kind.{Kind}
 use Rattle.chain.specs.declared.Point.{Point}
 use Rattle.chain.specs.declared.Step.{Step}
 use Rattle.chain.specs.declared.Chain.{Chain}
-use Rattle.chain.specs.declared.Answer.TheVariants.{Converted}
+use Rattle.std.specs.Prelude.{Ok}
 use Rattle.chain.specs.Faults.{same_realization, steps_of}
 use Rattle.chain.specs.Case as cases
 use Rattle.chain.specs.Case.{answer}
@@ -38,13 +38,13 @@ forward-case k r a p q = refl
 -- ---- what a conversion that was not refused went by
 module _ (c : Chain) (p q : Point) where
   pub forward-went :
-      forward_of c p ≡ Converted q →
+      forward_of c p ≡ Ok q →
       Conversion c p (start_of p.realization (steps_of c)) (end_of p.realization (steps_of c)) (walk forward_step (steps_of c) p.position) q
   unfolding forward_of
   forward-went e = converted c p _ _ _ q e
 
   pub inverse-went :
-      inverse_of c p ≡ Converted q →
+      inverse_of c p ≡ Ok q →
       Conversion c p (end_of p.realization (steps_of c)) (start_of p.realization (steps_of c)) (walk inverse_step (reverse (steps_of c)) p.position) q
   unfolding inverse_of
   inverse-went e = converted c p _ _ _ q e

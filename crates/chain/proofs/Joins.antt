@@ -1,25 +1,23 @@
--- Two chains joined: what decides, and what stands at each index. Assumes nothing.
-use mathlib.Core.Path.{◌≡◌, refl, sym, ◌∙◌, ap}
+-- Two chains joined: what decides, and how many steps there are. Assumes nothing.
+use mathlib.Core.Path.{◌≡◌, refl, sym, ◌∙◌}
 use mathlib.Core.Bool.{true}
 use mathlib.Core.List.{List, [], ◌∷◌, ◌++◌}
-use Prim.Native.Nat.{ℕ, zero, suc, ◌+◌, ◌-◌, ◌<◌, ◌≤◌}
-use native.Mathlib.Nat as NatL
+use Prim.Native.Nat.{ℕ, zero, suc, ◌+◌, ◌≤◌}
 use native.Mathlib.Omega.{arith}
-use borrow.Author.Tests.{ltb-false, le-ltb, eq-eqb, ne_eqb}
+use borrow.Author.Tests.{ltb-false, le-ltb}
 use lib.Dec.{T, ltb}
-use lib.ListN.{length, get_or, drop, length-take, length-append, length-drop}
-use lib.Seq.{get_or-append-add, get_or-take, get_or-drop}
-use Rattle.refusal.specs.Order.{first}
-use Rattle.refusal.proofs.Orders.{numbered, passed, stop, on, first-append, both-pass, head-holds, step-passed}
+use lib.ListN.{length, length-take}
+use Rattle.std.specs.Prelude.{Ok, Err}
+use Rattle.refusal.specs.Order.{first, unless}
+use Rattle.refusal.proofs.Orders.{numbered, passed, stop, on, first-append, both-pass, head-holds, step-passed, unless-some, unless-none}
 use Rattle.ranges.specs.Ranges.{equal}
 use Rattle.ranges.proofs.Ranges.{equal_is, equal-self}
 use Rattle.chain.specs.declared.Realization.{Realization}
 use Rattle.chain.specs.declared.Step.{Step}
 use Rattle.chain.specs.declared.Chain.{Chain}
-use Rattle.chain.specs.declared.Joined.{Joined}
 use Rattle.chain.specs.Faults.{same_realization, chain_tests, steps_of}
 use Rattle.chain.specs.Convert.{start_of, end_of}
-use Rattle.chain.specs.Join.{past_steps, meet, together, pair_tests, join_tests, joined_steps, joined_of, none_of, join_fault, join_of}
+use Rattle.chain.specs.Join.{meet, together, pair_tests, join_tests, joined_of, join_fault, join_of}
 use Rattle.chain.proofs.Within.{same_self}
 use Rattle.chain.proofs.Accepted.{numbered-steps, chain-passed}
 
@@ -30,6 +28,10 @@ met z ss [] = same_self (end_of z ss)
 met z ss (t ∷ ts) = refl
 
 -- ---- what decides
+unless-ok : (n : ℕ) (x y : Chain) → unless n (λ (k : ℕ). Err k) (Ok x) ≡ Ok y → (n ≡ 0) × (x ≡ y)
+unless-ok zero x y e = (refl, cc)
+unless-ok (suc n) x y e = absurd cc
+
 -- two chains without fault that meet, of at most eight steps together and of one profile
 pub record Joinable (c d : Chain) : Type 0 where
   pub good : first (chain_tests c) ≡ 0
@@ -84,93 +86,39 @@ module _ (c d : Chain) where
       first-append (chain_tests c) _ all_first
       ∙ rw p.good (first-append (chain_tests d) _ all-second ∙ rw (p.other, p.meets, le-ltb 8 (together c d) p.few, ← p.like, equal-self c.profile))
 
-  pub accepted : (join_of c d).refusal ≡ 0 → Joinable c d
+  pub refused-is : (join_fault c d ≡ 0 → ⊥) → join_of c d ≡ Err (join_fault c d)
   unfolding join_of
-  accepted e = joinable e
+  refused-is h = unless-some (join_fault c d) Err (Ok (joined_of c d)) h
 
-  pub accepts : Joinable c d → (join_of c d).refusal ≡ 0
+  pub accepted-is : join_fault c d ≡ 0 → join_of c d ≡ Ok (joined_of c d)
   unfolding join_of
-  accepts p = unrefused p
+  accepted-is e = unless-none (join_fault c d) Err (Ok (joined_of c d)) e
+
+  pub accepts : Joinable c d → join_of c d ≡ Ok (joined_of c d)
+  accepts p = accepted-is (unrefused p)
+
+  -- where a chain is given there is no fault, and it is that of both chains' steps
+  module _ (j : Chain) (e : join_of c d ≡ Ok j) where
+    pub unfaulted : (join_fault c d ≡ 0) × (joined_of c d ≡ j)
+    unfolding join_of
+    unfaulted = unless-ok (join_fault c d) (joined_of c d) j e
+
+    pub accepted : Joinable c d
+    accepted = joinable unfaulted.0
+
+    pub is-joined : joined_of c d ≡ j
+    is-joined = unfaulted.1
 
   -- each has at most eight steps, and so have the two
   pub accepted-few : join_fault c d ≡ 0 → (c.length ≤ 8) × (d.length ≤ 8) × (together c d ≤ 8)
   accepted-few e = let p = joinable e in ((chain-passed c p.good).0, (chain-passed d p.other).0, p.few)
 
-  pub accepted-lengths : (join_of c d).refusal ≡ 0 → (c.length ≤ 8) × (d.length ≤ 8) × (together c d ≤ 8)
-  unfolding join_of
-  accepted-lengths e = accepted-few e
+  pub accepted-lengths : (j : Chain) → join_of c d ≡ Ok j → (c.length ≤ 8) × (d.length ≤ 8) × (together c d ≤ 8)
+  accepted-lengths j e = accepted-few (unfaulted j e).0
 
-  pub refused-is : (join_fault c d ≡ 0 → ⊥) → join_of c d ≡ record { chain = none_of c; refusal = join_fault c d }
-  unfolding join_of
-  refused-is h = rw (ne_eqb (join_fault c d) 0 h)
-
-  pub accepted-is : join_fault c d ≡ 0 → join_of c d ≡ record { chain = joined_of c d; refusal = join_fault c d }
-  unfolding join_of
-  accepted-is e = rw (eq-eqb (join_fault c d) 0 e)
-
-  pub is-joined : Joinable c d → (join_of c d).chain ≡ joined_of c d
-  is-joined p = ap (λ (j : Joined). j.chain) (accepted-is (unrefused p))
-
--- ---- what stands where
-append-below : (xs ys : List Step) (i : ℕ) → i < length xs → get_or (xs ++ ys) i past_steps ≡ get_or xs i past_steps
-append-below [] ys i h = absurd (NatL.not-suc-le-zero h)
-append-below (x ∷ xs) ys zero h = refl
-append-below (x ∷ xs) ys (suc i) h = append-below xs ys i (NatL.le_of_suc-le-suc h)
-
+-- ---- how many steps there are
 pub within : (c : Chain) → length c.steps ≡ 8 → c.length ≤ 8 → length (steps_of c) ≡ c.length
 within c l h = omega (arith, length-take c.length c.steps)
-
-module _ (c d : Chain) (lc : length c.steps ≡ 8) (ld : length d.steps ≡ 8) (few : c.length + d.length ≤ 8) where
-  nc : length (steps_of c) ≡ c.length
-  nc = within c lc (omega arith)
-
-  nd : length (steps_of d) ≡ d.length
-  nd = within d ld (omega arith)
-
-  pub counted : c.length + d.length ≡ together c d
-  counted = omega (arith, nc, nd)
-
-  pub eight-steps : length (joined_steps c d) ≡ 8
-  unfolding joined_steps
-  eight-steps =
-      omega (arith, length-append (steps_of c) (steps_of d ++ drop (together c d) c.steps), length-append (steps_of d) (drop (together c d) c.steps), length-drop (together c d) c.steps, nc, nd)
-
-  module _ (i : ℕ) where
-    pub in-first : i < c.length → get_or c.steps i past_steps ≡ get_or (joined_steps c d) i past_steps
-    unfolding joined_steps
-    in-first h = sym (append-below (steps_of c) _ i (omega (arith, nc)) ∙ get_or-take c.length c.steps i past_steps h)
-
-    -- past the first chain's steps
-    beyond : c.length ≤ i → get_or (joined_steps c d) i past_steps ≡ get_or (steps_of d ++ drop (together c d) c.steps) (i - c.length) past_steps
-    unfolding joined_steps
-    beyond h =
-        let e : i ≡ length (steps_of c) + (i - c.length) = omega (arith, nc) in
-        ap (λ (k : ℕ). get_or (steps_of c ++ (steps_of d ++ drop (together c d) c.steps)) k past_steps) e ∙ get_or-append-add (steps_of c) _ (i - c.length) past_steps
-
-    pub in-second : c.length ≤ i → i - c.length < d.length → get_or d.steps (i - c.length) past_steps ≡ get_or (joined_steps c d) i past_steps
-    in-second h l = sym (beyond h ∙ append-below (steps_of d) _ (i - c.length) (omega (arith, nd)) ∙ get_or-take d.length d.steps (i - c.length) past_steps l)
-
-    pub in-neither : c.length ≤ i → d.length ≤ i - c.length → get_or c.steps i past_steps ≡ get_or (joined_steps c d) i past_steps
-    in-neither h l =
-        let e : i - c.length ≡ length (steps_of d) + (i - c.length - d.length) = omega (arith, nd) in
-        let f : together c d + (i - c.length - d.length) ≡ i = omega (arith, nc, nd) in
-        sym (beyond h
-        ∙ ap (λ (k : ℕ). get_or (steps_of d ++ drop (together c d) c.steps) k past_steps) e ∙ get_or-append-add (steps_of d) _ (i - c.length - d.length) past_steps
-        ∙ get_or-drop (together c d) c.steps (i - c.length - d.length) past_steps ∙ ap (λ (k : ℕ). get_or c.steps k past_steps) f)
-
--- eight steps, one by one
-pub each : (l : List Step) → length l ≡ 8
-    → get_or l 0 past_steps ∷ get_or l 1 past_steps ∷ get_or l 2 past_steps ∷ get_or l 3 past_steps ∷ get_or l 4 past_steps ∷ get_or l 5 past_steps ∷ get_or l 6 past_steps ∷ get_or l 7 past_steps ∷ [] ≡ l
-each [] e = absurd (omega arith)
-each (a ∷ []) e = absurd (omega arith)
-each (a ∷ b ∷ []) e = absurd (omega arith)
-each (a ∷ b ∷ c ∷ []) e = absurd (omega arith)
-each (a ∷ b ∷ c ∷ d ∷ []) e = absurd (omega arith)
-each (a ∷ b ∷ c ∷ d ∷ f ∷ []) e = absurd (omega arith)
-each (a ∷ b ∷ c ∷ d ∷ f ∷ g ∷ []) e = absurd (omega arith)
-each (a ∷ b ∷ c ∷ d ∷ f ∷ g ∷ h ∷ []) e = absurd (omega arith)
-each (a ∷ b ∷ c ∷ d ∷ f ∷ g ∷ h ∷ i ∷ []) e = refl
-each (a ∷ b ∷ c ∷ d ∷ f ∷ g ∷ h ∷ i ∷ j ∷ l) e = absurd (omega arith)
 
 -- two chains that are accepted have at most eight steps by their lengths
 pub few-together : (c d : Chain) → length c.steps ≡ 8 → length d.steps ≡ 8 → join_fault c d ≡ 0 → c.length + d.length ≤ 8

@@ -13,12 +13,12 @@ use Rattle.refusal.specs.Numbers as refusal
 use Rattle.refusal.specs.Order.{Test, ◌gives◌, first, unless}
 use Rattle.refusal.proofs.Orders.{or_else, first-append, both-pass, head-holds, step-passed}
 use Rattle.ranges.specs.Ranges.{within, equal, profile_range}
-use Rattle.ranges.proofs.Ranges.{all, above, natural-holds, equal-self}
+use Rattle.ranges.proofs.Ranges.{above, natural-holds, equal-self}
 use Rattle.chain.specs.declared.Realization.{Realization}
 use Rattle.chain.specs.declared.Point.{Point}
 use Rattle.chain.specs.declared.Step.{Step}
-use Rattle.chain.specs.declared.Answer.{Answer}
-use Rattle.chain.specs.declared.Answer.TheVariants.{Refused}
+use Rattle.chain.specs.Convert.{Answer}
+use Rattle.std.specs.Prelude.{Err}
 use Rattle.chain.specs.Faults.{StepOk, latest, step_fault, point_fault, profile_fault, same_realization, point_tests, step_tests, join_test, later_tests, steps_tests, chain_tests}
 use Rattle.chain.specs.Parts.{forward_by, inverse_by}
 use Rattle.chain.specs.Convert.{forward_step, inverse_step, start_of, end_of, joins, more_tests, realization_and_area_tests, convert, forward_of, inverse_of}
@@ -117,7 +117,7 @@ module _ (y : ℤ) (l : List ℤ) (ss : List Step) (holds : Holds y l ss) where
     prepared-forward fault =
         let g = rw (take-length ss) at holds.sound in
         rw (take-length ss, holds.count, reached-end ss holds.ends)
-        (ap₂ (λ (m : ℕ) (a : Answer). unless m Refused a)
+        (ap₂ (λ (m : ℕ) (a : Answer). unless m Err a)
         (tests (length ss) (start_in l) (start_of p.realization ss) short (wanted-start ss holds.ends) ∙ sym (point-then (length ss) (start_of p.realization ss) g fault))
         (carried-walk forward_by forward_step forward-same p (end_of p.realization ss) ss (rows_of l 1 (length ss)) p.position holds.rows))
 
@@ -126,7 +126,7 @@ module _ (y : ℤ) (l : List ℤ) (ss : List Step) (holds : Holds y l ss) where
     prepared-inverse fault =
         let g = rw (take-length ss) at holds.sound in
         rw (take-length ss, holds.count, reached-start ss holds.ends)
-        (ap₂ (λ (m : ℕ) (a : Answer). unless m Refused a)
+        (ap₂ (λ (m : ℕ) (a : Answer). unless m Err a)
         (tests (length ss) (end_in l) (end_of p.realization ss) short (wanted-end ss holds.ends) ∙ sym (point-then (length ss) (end_of p.realization ss) g fault))
         (carried-walk inverse_by inverse_step inverse-same p (start_of p.realization ss) (reverse ss) (reverse (rows_of l 1 (length ss))) p.position (readied-back ss (rows_of l 1 (length ss)) holds.rows)))
 

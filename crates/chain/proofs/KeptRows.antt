@@ -12,14 +12,13 @@ use lib.ListN.{length, get_or, set, length-set}
 use lib.Seq.{sets, get_or-set_same, get_or-set_other}
 use mir.Syntax.{w64}
 use mir.Val.{Fits}
-use Rattle.refusal.specs.Order.{first}
 use Rattle.ranges.specs.Ranges.{equal, up_to, shift_range, scale_range}
 use Rattle.ranges.proofs.Ranges.{natural-holds, both, all, above, equal-self, up-to, up-to-holds}
 use Rattle.chain.specs.declared.Realization.{Realization}
 use Rattle.chain.specs.declared.Step.{Step}
 use Rattle.chain.specs.declared.steps.Ready.{Ready}
 use Rattle.chain.specs.declared.steps.Ready.TheVariants.{Fixed, Turned, Scaled}
-use Rattle.chain.specs.declared.steps.kept.rows.Row.{Row}
+use Rattle.chain.specs.Prepared.{Row}
 use Rattle.chain.specs.Axes.{Axis, on_x, on_y, on_z, coordinate}
 use Rattle.chain.specs.Ready.{ReadyOk, Prepares}
 use Rattle.chain.specs.Prepared.{number, form_range, numbers_of, ready_of, ready_at, ready_range, row_at, rows_of, first_row, Readied}

@@ -13,8 +13,8 @@ use Rattle.chain.specs.declared.Realization.{Realization}
 use Rattle.chain.specs.declared.Point.{Point}
 use Rattle.chain.specs.declared.Step.{Step}
 use Rattle.chain.specs.declared.Chain.{Chain}
-use Rattle.chain.specs.declared.Answer.{Answer}
-use Rattle.chain.specs.declared.Answer.TheVariants.{Converted, Refused}
+use Rattle.chain.specs.Convert.{Answer}
+use Rattle.std.specs.Prelude.{Ok, Err}
 use Rattle.chain.specs.Faults.{in_area, same_realization, point_tests, point_fault, chain_tests, steps_of}
 use Rattle.chain.specs.Convert.{Walk, at, left, onward, walk, forward_step, inverse_step, start_of, end_of, realization_and_area_tests, moved_to, answer_of, convert, forward_of, inverse_of}
 use Rattle.chain.specs.Join.{joined_of}
@@ -29,20 +29,20 @@ use Rattle.chain.proofs.JoinedLaws.{joined-steps, joined-good}
 
 -- an answer that is another's refusal, or what a second conversion makes of the point that the other gave
 pub record Legs (whole leg : Answer) (second : Point → Answer) : Type 0 where
-  pub refused : (n : ℕ) → leg ≡ Refused n → whole ≡ Refused n
-  pub converted : (q : Point) → leg ≡ Converted q → whole ≡ second q
+  pub refused : (n : ℕ) → leg ≡ Err n → whole ≡ Err n
+  pub converted : (q : Point) → leg ≡ Ok q → whole ≡ second q
 
 module _ {whole leg : Answer} {second : Point → Answer} where
-  both-refuse : (m : ℕ) → whole ≡ Refused m → leg ≡ Refused m → Legs whole leg second
+  both-refuse : (m : ℕ) → whole ≡ Err m → leg ≡ Err m → Legs whole leg second
   both-refuse m e f = record { refused = λ n g. e ∙ sym f ∙ g; converted = λ q g. cc }
 
-  goes_on : (x : Point) → whole ≡ second x → leg ≡ Converted x → Legs whole leg second
+  goes_on : (x : Point) → whole ≡ second x → leg ≡ Ok x → Legs whole leg second
   goes_on x e f = record { refused = λ n g. cc; converted = λ q g. let h : x ≡ q = cc in e ∙ ap second h }
 
 -- ---- a good chain's conversion is decided by the point, and then by the walk
 module _ (c : Chain) (good : first (chain_tests c) ≡ 0) (p : Point) (wanted reached : Realization) (w : Walk) where
-  refused-at : (n : ℕ) → entry c.profile p wanted ≡ suc n → convert c p wanted reached w ≡ Refused (suc n)
-  refused-at n e = sym (by-point c p wanted reached w good (λ z. omega (arith, e, z))) ∙ ap Refused e
+  refused-at : (n : ℕ) → entry c.profile p wanted ≡ suc n → convert c p wanted reached w ≡ Err (suc n)
+  refused-at n e = sym (by-point c p wanted reached w good (λ z. omega (arith, e, z))) ∙ ap Err e
 
   walked_at : entry c.profile p wanted ≡ 0 → convert c p wanted reached w ≡ answer_of p reached w
   walked_at e = sym (by-walk c p wanted reached w good e)

@@ -4,9 +4,12 @@ use mathlib.Core.Bool.{Bool, true, false, ◌&&◌}
 use mathlib.Core.List.{List, [], ◌∷◌}
 use Prim.Native.Nat.{ℕ, zero, suc, ◌+◌, ◌-◌, ◌*◌, ◌/◌, ◌<◌, ◌≤◌}
 use native.Mathlib.Omega.{arith}
-use borrow.Author.Tests.{le-leb, le-ltb}
+use borrow.Author.Tests.{le-leb, lt-leb, le-ltb}
 use lib.IntN.{ℤ}
-use lib.ListN.{length, take, drop, get_or, replicate, length-drop}
+use lib.ListN.{length, take, drop, get_or, set, replicate, length-drop, length-set}
+use Rattle.std.proofs.lemmas.Bool.{cases_lt}
+use Rattle.std.proofs.Common.{◌⊎◌, inl, inr}
+use Rattle.std.proofs.lemmas.List.{ext_get_or, get_or-set_same, get_or-set_other, get_or-replicate}
 use lib.Seq.{take_all}
 use Rattle.refusal.specs.Order.{first}
 use Rattle.refusal.proofs.Orders.{passed, on}
@@ -82,6 +85,55 @@ module _ (ns : List ℤ) where
       ap (λ (n : ℕ). end_of r (take n (eight_from ns))) last
       ∙ end-at (eight_from ns) i r (omega (arith, eight-steps))
       ∙ ap (λ (s : Step). s.after) (step_is few i (omega arith))
+
+-- ---- the eight steps, filled from the front
+pub record Filled (ns : List ℤ) (steps : List Step) (i : ℕ) : Type 0 where
+  pub many : length steps ≡ 8
+  pub done : (k : ℕ) → k < i → get_or steps k step_past_end ≡ step_or_none (drop (13 * k) ns)
+  pub rest : (k : ℕ) → i ≤ k → k < 8 → get_or steps k step_past_end ≡ no_step
+
+pub none-filled : (ns : List ℤ) {s : Step} → s ≡ no_step → Filled ns (replicate 8 s) 0
+none-filled ns e = record { many = refl; done = λ k h. absurd (omega arith); rest = λ k h l. get_or-replicate 8 k _ step_past_end l ∙ e }
+
+pub one_more : (ns : List ℤ) (steps : List Step) (i : ℕ) {s : Step} → 13 * i + 13 ≤ length ns → i < 8 → s ≡ step_from (drop (13 * i) ns) → Filled ns steps i → Filled ns (set steps i s) (i + 1)
+unfolding step_or_none
+one_more ns steps i {s} enough below e f = record { many = length-set steps i s ∙ f.many; done = done; rest = rest }
+  where
+    inside : i < length steps
+    inside = omega (arith, f.many)
+
+    long : 13 ≤ length (drop (13 * i) ns)
+    long = simp length-drop (omega arith)
+
+    here : (k : ℕ) → k ≡ i → get_or (set steps i s) k step_past_end ≡ step_or_none (drop (13 * k) ns)
+    here k h = rw h (get_or-set_same steps i s step_past_end inside ∙ e ∙ (rw (le-leb 13 (length (drop (13 * i) ns)) long)))
+
+    done : (k : ℕ) → k < i + 1 → get_or (set steps i s) k step_past_end ≡ step_or_none (drop (13 * k) ns)
+    done k h = go (cases_lt k i)
+      where
+        go : (k < i) ⊎ (i ≤ k) → get_or (set steps i s) k step_past_end ≡ step_or_none (drop (13 * k) ns)
+        go (inl l) = get_or-set_other steps i k s step_past_end (omega arith) ∙ f.done k l
+        go (inr l) = here k (omega arith)
+
+    rest : (k : ℕ) → i + 1 ≤ k → k < 8 → get_or (set steps i s) k step_past_end ≡ no_step
+    rest k h l = get_or-set_other steps i k s step_past_end (omega arith) ∙ f.rest k (omega arith) l
+
+pub all-filled : (ns : List ℤ) (steps : List Step) (i : ℕ) → i ≤ length ns / 13 → (i < 8 → i ≡ length ns / 13) → Filled ns steps i → steps ≡ eight_from ns
+unfolding step_or_none
+all-filled ns steps i few all f = ext_get_or step_past_end steps (eight_from ns) (omega (arith, f.many, eight-steps ns)) (λ k h. at k (omega (arith, f.many, h)) ∙ sym (step-or-none-at ns k (omega (arith, f.many, h))))
+  where
+    past : (k : ℕ) → i ≤ k → k < 8 → get_or steps k step_past_end ≡ step_or_none (drop (13 * k) ns)
+    past k h l =
+        let e : i ≡ length ns / 13 = all (omega arith) in
+        let short : length (drop (13 * k) ns) < 13 = simp length-drop (omega (arith, e, h)) in
+        f.rest k h l ∙ (rw (lt-leb 13 (length (drop (13 * k) ns)) short))
+
+    at : (k : ℕ) → k < 8 → get_or steps k step_past_end ≡ step_or_none (drop (13 * k) ns)
+    at k l = go (cases_lt k i)
+      where
+        go : (k < i) ⊎ (i ≤ k) → get_or steps k step_past_end ≡ step_or_none (drop (13 * k) ns)
+        go (inl h) = f.done k h
+        go (inr h) = past k h l
 
 -- what a chain with no fault keeps
 pub lent-holds : (y : ℤ) (ns : List ℤ) → first (chain_tests (chain_from y ns)) ≡ 0 → (length ns / 13 ≤ 8) × Sound (steps_in ns)

@@ -2,9 +2,13 @@ pub mod Rounding
 pub mod AxisLaws
 pub mod StepLaws
 pub mod Within
+pub mod Ways
 pub mod Sizes
 pub mod Walk
+pub mod Turns
 pub mod Accepted
+pub mod Arrivals
+pub mod Answering
 pub mod Ends
 pub mod PointLaws
 pub mod Outcomes

@@ -13,8 +13,8 @@ use Rattle.chain.specs.declared.Realization.{Realization}
 use Rattle.chain.specs.declared.Point.{Point}
 use Rattle.chain.specs.declared.Step.{Step}
 use Rattle.chain.specs.declared.Chain.{Chain}
-use Rattle.chain.specs.declared.Answer.{Answer}
-use Rattle.chain.specs.declared.Answer.TheVariants.{Converted, Refused}
+use Rattle.chain.specs.Convert.{Answer}
+use Rattle.std.specs.Prelude.{Ok, Err}
 use Rattle.chain.specs.Faults.{has_datum, has_kind, has_step, given_position, in_area, point_tests, point_fault, later_tests, steps_tests, chain_tests, steps_of}
 use Rattle.chain.specs.Axes.{on_x, on_y, on_z}
 use Rattle.chain.specs.Convert.{Walk, at, left, walk, forward_step, start_of, end_of, realization_and_area_tests, conversion_tests, moved_to, answer_of, convert, forward_of}
@@ -40,7 +40,7 @@ unfolding given_position
 area-given p h = let s = area_small p h in rw (up-to-holds 640000000000 p.x (s.on on_x), up-to-holds 640000000000 p.y (s.on on_y), up-to-holds 640000000000 p.z (s.on on_z))
 
 module _ (c : Chain) (p : Point) where
-  pub converted-faultless : (q : Point) → point_fault c.profile p ≡ 0 → forward_of c p ≡ Converted q → point_fault c.profile q ≡ 0
+  pub converted-faultless : (q : Point) → point_fault c.profile p ≡ 0 → forward_of c p ≡ Ok q → point_fault c.profile q ≡ 0
   unfolding forward_of
   converted-faultless q f e =
       let ss = steps_of c in
@@ -63,13 +63,13 @@ module _ (c : Chain) (p : Point) where
   short-tests : (wanted : Realization) → T (short (conversion_tests c p wanted))
   short-tests wanted = short-append (chain_tests c) (point_tests c.profile p ++ realization_and_area_tests p wanted) (short-steps (steps_of c)) tt
 
-  from-walk : (r : Realization) (w : Walk) (k n : ℕ) → k < 100 → unless k Refused (answer_of p r w) ≡ Refused n → n < 100
+  from-walk : (r : Realization) (w : Walk) (k n : ℕ) → k < 100 → unless k Err (answer_of p r w) ≡ Err n → n < 100
   unfolding answer_of
   from-walk r (at q) zero n l e = let z : ◌≡◌ {A = ℕ} 0 1 = cc in absurd (omega arith)
   from-walk r left zero n l e = let z : 11 ≡ n = cc in omega arith
   from-walk r w (suc k) n l e = let z : suc k ≡ n = cc in omega arith
 
-  pub refused-short : (n : ℕ) → forward_of c p ≡ Refused n → n < 100
+  pub refused-short : (n : ℕ) → forward_of c p ≡ Err n → n < 100
   unfolding forward_of convert
   refused-short n e =
       let ss = steps_of c in
@@ -77,9 +77,9 @@ module _ (c : Chain) (p : Point) where
       from-walk (end_of p.realization ss) (walk forward_step ss p.position) (first (conversion_tests c p wanted)) n (first_short (conversion_tests c p wanted) (short-tests wanted)) e
 
   -- ---- so whatever holds of both holds of the answer
-  pub outcome : (P : Answer → Type 0) → point_fault c.profile p ≡ 0 → ((q : Point) → point_fault c.profile q ≡ 0 → P (Converted q)) → ((n : ℕ) → n < 100 → P (Refused n)) → P (forward_of c p)
+  pub outcome : (P : Answer → Type 0) → point_fault c.profile p ≡ 0 → ((q : Point) → point_fault c.profile q ≡ 0 → P (Ok q)) → ((n : ℕ) → n < 100 → P (Err n)) → P (forward_of c p)
   outcome P f C R = go (forward_of c p) refl
     where
       go : (a : Answer) → forward_of c p ≡ a → P a
-      go (Converted q) e = C q (converted-faultless q f e)
-      go (Refused n) e = R n (refused-short n e)
+      go (Ok q) e = C q (converted-faultless q f e)
+      go (Err n) e = R n (refused-short n e)

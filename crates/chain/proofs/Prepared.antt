@@ -1,10 +1,9 @@
 -- Laws of a step made ready: its parts are mild, what it gains is small, and what each kind gains. Assumes nothing.
 use mathlib.Core.Path.{◌≡◌, refl, sym, ◌∙◌, ap, subst, subst⁻¹}
-use mathlib.Core.List.{List}
-use Prim.Native.Nat.{ℕ, ◌+◌, ◌*◌, ◌≤◌}
+use Prim.Native.Nat.{ℕ, ◌+◌, ◌≤◌}
 use lib.Dec.{lit<, lit≤}
 use native.Mathlib.Omega.{arith}
-use lib.IntN.{ℤ, pos, neg_ℤ, nat_abs, ◌+ℤ◌, ◌-ℤ◌, ◌*ℤ◌}
+use lib.IntN.{ℤ, pos, nat_abs, ◌+ℤ◌, ◌-ℤ◌, ◌*ℤ◌}
 use Rattle.rounding.proofs.Zn.{v, k, ◌⊕◌, ◌⊗◌, eq, abs_neg, mul-le}
 use Rattle.rounding.proofs.Machine.{of₃, of₄}
 use Rattle.chain.specs.declared.Position.{Position}
@@ -14,6 +13,9 @@ use Rattle.chain.specs.declared.BursaWolf as bursaWolf'
 use Rattle.chain.specs.declared.Kind.{Kind}
 use Rattle.chain.specs.declared.Kind.TheVariants.{Shift, Velocity, BursaWolf, Frame}
 use Rattle.chain.specs.declared.Step.{Step}
+use Rattle.chain.specs.declared.Direction.{Direction}
+use Rattle.chain.specs.declared.Direction.TheVariants.{Forward, Inverse}
+use Rattle.chain.specs.Ways.{by_way}
 use Rattle.chain.specs.declared.steps.Turn.{Turn}
 use Rattle.chain.specs.declared.steps.Scale.{Scale}
 use Rattle.chain.specs.declared.steps.Ready.{Ready}
@@ -217,3 +219,7 @@ module _ (s : Step) (r : Ready) (ready : Prepares s r) where
       let f : Position → Position = λ c. again (ready_parts r) q c in
       let g : Position → Position = λ c. again (parts_of s) q c in
       turn-back q (f (f q)) ∙ ap g (turn-back q (f q) ∙ ap g (turn-back q q))
+
+  pub way-same : (d : Direction) (p : Position) → by_way d (ready_parts r) p ≡ by_way d (parts_of s) p
+  way-same Forward p = forward-same p
+  way-same Inverse p = inverse-same p

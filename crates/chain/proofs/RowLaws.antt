@@ -3,15 +3,15 @@ use Prim.Native.Nat.{ℕ, zero, suc, ◌*◌, ◌≤◌, ◌<◌, ◌^◌}
 use native.Mathlib.Nat.{mul-le-mul_right}
 use native.Mathlib.Omega.{arith}
 use mathlib.Core.Path.{◌≡◌, refl, ap}
-use mathlib.Core.Bool.{Bool, true, false}
 use mathlib.Core.List.{List, [], ◌∷◌, ◌++◌, map}
-use lib.Dec.{ltb, nltb→le}
+use borrow.Author.Tests.{lt-ltb, le-ltb}
 use lib.ListN.{length, get_or, take, drop, set}
 use lib.Seq.{take-length}
-use Rattle.refusal.specs.Order.{pick, first}
+use Rattle.refusal.specs.Numbers as refusal
+use Rattle.refusal.specs.Order.{first}
 use Rattle.chain.specs.declared.Point.{Point}
 use Rattle.chain.specs.declared.Chain.{Chain}
-use Rattle.chain.specs.declared.Answer.{Answer}
+use Rattle.chain.specs.Convert.{Answer}
 use Rattle.chain.specs.declared.Direction.{Direction}
 use Rattle.chain.specs.Faults.{chain_tests}
 use Rattle.chain.specs.PointRow.{convert_of, row_fault, row_fault_of, unless_fault, row_answers}
@@ -46,10 +46,6 @@ pub scales : (i n s : ℕ) → i < n → n * s < 2 ^ 63 → i * s < 2 ^ 64
 scales i n s h k = let le : i * s ≤ n * s = mul-le-mul_right s (omega arith) in omega (arith, le)
 
 -- ---- the row's definition
-long : (b : Bool) (k m n l : ℕ) → ltb n m ≡ b → pick b (suc k) l ≡ 0 → m ≤ n
-long true k m n l h e = absurd (omega arith)
-long false k m n l h e = nltb→le n m (rw h tt)
-
 module _ (c : Chain) (d : Direction) (xs : List Point) (ys : List Answer) where
   -- where there is a fault nothing is written
   pub row-refused : (row_fault_of c xs ys ≡ 0 → ⊥) → ys ≡ row_answers c d xs ys
@@ -64,6 +60,11 @@ module _ (c : Chain) (d : Direction) (xs : List Point) (ys : List Answer) where
   unfolding row_answers
   row_done h = rw h (cur-all (convert_of c d) xs ys)
 
-  pub row-long : row_fault_of c xs ys ≡ 0 → length xs ≤ length ys
+  -- too few answers, or enough: then the chain decides
+  pub row-short : length ys < length xs → ◌≡◌ {A = ℕ} refusal.row (row_fault_of c xs ys)
   unfolding row_fault
-  row-long h = long (ltb (length ys) (length xs)) _ (length xs) (length ys) (first (chain_tests c)) refl h
+  row-short h = rw (lt-ltb (length ys) (length xs) h)
+
+  pub row-fits : length xs ≤ length ys → first (chain_tests c) ≡ row_fault_of c xs ys
+  unfolding row_fault
+  row-fits h = rw (le-ltb (length ys) (length xs) h)

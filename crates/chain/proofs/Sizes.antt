@@ -9,7 +9,7 @@ use lib.Dec.{lit<, lit≤}
 use lib.IntN.{ℤ, pos, neg_ℤ, nat_abs, ◌+ℤ◌, ◌-ℤ◌, ◌*ℤ◌}
 use lib.ListN.{get_or}
 use Rattle.refusal.specs.Order.{pick}
-use Rattle.rounding.proofs.Zn.{v, k, ◌⊖◌, ◌⊗◌, abs, unabs, unle, mul-le, add-le, abs_neg}
+use Rattle.rounding.proofs.Zn.{v, k, ◌⊖◌, abs, unle, mul-le, add-le, abs_neg}
 use Rattle.chain.specs.declared.Realization.{Realization}
 use Rattle.chain.specs.declared.Shift as shift'
 use Rattle.chain.specs.declared.Velocity as velocity'

@@ -1,8 +1,10 @@
 -- What the tests of ranges say of positions, datums and epochs, once they hold. Assumes nothing.
-use mathlib.Core.Path.{◌≡◌}
-use mathlib.Core.Bool.{true}
+use mathlib.Core.Path.{◌≡◌, refl, sym, ap, ap₂, ◌∙◌}
+use mathlib.Core.Bool.{Bool, true, false, not, ◌&&◌}
 use Prim.Native.Nat.{◌≤◌}
-use lib.IntN.{pos, neg_ℤ, nat_abs}
+use lib.IntN.{ℤ, pos, neg_ℤ, nat_abs}
+use Rattle.std.specs.Ordering.{int_eq}
+use Rattle.std.proofs.lemmas.Bool.Decides.{same_from_decides, Decides-int_eq}
 use lib.Dec.{lit≤}
 use Rattle.ranges.specs.Ranges.{equal, area_x, area_y, area_z}
 use Rattle.ranges.proofs.Ranges.{both, all, sized, equal_is, equal-self}
@@ -20,6 +22,24 @@ same-is r t e =
 pub same_self : (r : Realization) → same_realization r r ≡ true
 unfolding same_realization
 same_self r = rw (equal-self r.datum, equal-self r.epoch)
+
+-- what `==` answers
+pub equal_numbers : (a b : ℤ) → int_eq a b ≡ equal a b
+equal_numbers a b = same_from_decides (int_eq a b) (equal a b) (Decides-int_eq a b) (equal_is a b, λ e. ap (equal a) (sym e) ∙ equal-self a)
+
+same_numbers : (r t : Realization) → (int_eq r.datum t.datum && int_eq r.epoch t.epoch) ≡ same_realization r t
+unfolding same_realization
+same_numbers r t = ap₂ ◌&&◌ (equal_numbers r.datum t.datum) (equal_numbers r.epoch t.epoch)
+
+pub one_place : (r t : Realization) (b : Bool) → b ≡ (int_eq r.datum t.datum && int_eq r.epoch t.epoch) → same_realization r t ≡ b
+one_place r t b e = sym (e ∙ same_numbers r t)
+
+pub two_places : (r t : Realization) (b : Bool) → b ≡ not (int_eq r.datum t.datum && int_eq r.epoch t.epoch) → same_realization r t ≡ not b
+two_places r t b e = sym (same_numbers r t) ∙ not-not _ ∙ ap not (sym e)
+  where
+    not-not : (a : Bool) → a ≡ not (not a)
+    not-not true = refl
+    not-not false = refl
 
 -- a position in the area is not too large for any step
 pub area_small : (p : Position) → in_area p ≡ true → Small 640000000000 p

@@ -1,21 +1,17 @@
 -- How a worked case of a conversion is written, and what is answered in it. The cases stand in crate cases, as lists.
-use Rattle.std.specs.Prelude.{◌≡◌, List, [], ◌∷◌, map, ℕ, ℤ, pos, neg_ℤ, replicate}
+use Rattle.std.specs.Prelude.{ℕ, ℤ, pos, neg_ℤ, replicate, Ok}
 use Rattle.chain.specs.declared.Position.{Position}
 use Rattle.chain.specs.declared.Realization.{Realization}
 use Rattle.chain.specs.declared.Point.{Point}
-use Rattle.chain.specs.declared.Convention.{Convention}
-use Rattle.chain.specs.declared.Convention.TheVariants.{PositionVector, CoordinateFrame}
 use Rattle.chain.specs.declared.Kind.{Kind}
-use Rattle.chain.specs.declared.Kind.TheVariants.{Shift, Velocity, BursaWolf, Frame}
+use Rattle.chain.specs.declared.Kind.TheVariants.{Shift, Velocity}
 use Rattle.chain.specs.declared.Chain.{Chain}
-use Rattle.chain.specs.declared.Answer.{Answer}
-use Rattle.chain.specs.declared.Answer.TheVariants.{Converted}
 use Rattle.ranges.specs.Ranges.{within}
 use Rattle.rounding.specs.Worked.{open_rounding}
 use Rattle.chain.specs.Faults.{realization_range, agrees, same_realization, has_datum, has_kind, has_step, given_position, in_area, label_range, point_range, point_fault, kind_range, step_range, step_fault, kind_rule}
 use Rattle.chain.specs.Rows.{row_index, row_of}
 use Rattle.chain.specs.Parts.{step_round, linear, part, gain, shift_parts, velocity_parts, rotation11, scaled_rotation, bursa_wolf_parts, at_epoch, frame_parts, kind_parts, plus, minus, forward_by, again, inverse_by}
-use Rattle.chain.specs.Convert.{walk, start_of, end_of, answer_of, convert, forward_of, inverse_of}
+use Rattle.chain.specs.Convert.{Answer, walk, start_of, end_of, answer_of, convert, forward_of, inverse_of}
 
 -- ---- how a case is written
 -- −n
@@ -68,8 +64,8 @@ abbrev pub expected : Case → Answer
 expected c = over c.way
   where
     over : Way → Answer
-    over forward = Converted (point c.after c.found)
-    over inverse = Converted (point c.before c.found)
+    over forward = Ok (point c.after c.found)
+    over inverse = Ok (point c.before c.found)
 
 abbrev pub case : Way → Kind → Realization → Realization → Position → Position → Case
 case w kind r a p q = record { way = w; kind = kind; before = r; after = a; given = p; found = q }

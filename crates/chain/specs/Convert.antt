@@ -1,17 +1,17 @@
 -- Converting a point by a chain, forward (document 01: along) and inverse (back): every refusal in the order of the table, and the exact result.
-use Rattle.std.specs.Prelude.{Bool, not, List, [], ◌∷◌, ◌++◌, reverse, leb, length}
+use Rattle.std.specs.Prelude.{Bool, not, List, [], ◌∷◌, ◌++◌, reverse, leb, length, ℕ, Result, Ok, Err}
 use Rattle.refusal.specs.Numbers as refusal
 use Rattle.refusal.specs.Order.{Test, ◌gives◌, first, pick, unless}
 use Rattle.chain.specs.declared.Position.{Position}
 use Rattle.chain.specs.declared.Realization.{Realization}
 use Rattle.chain.specs.declared.Point.{Point}
 use Rattle.chain.specs.declared.Step.{Step}
+use Rattle.chain.specs.declared.Direction.{Direction}
 use Rattle.chain.specs.declared.Chain.{Chain}
 use Rattle.chain.specs.declared.Arrival.{Arrival}
-use Rattle.chain.specs.declared.Answer.{Answer}
-use Rattle.chain.specs.declared.Answer.TheVariants.{Converted, Refused}
 use Rattle.chain.specs.Faults.{in_area, same_realization, point_tests, chain_tests, steps_of}
 use Rattle.chain.specs.Parts.{parts_of, forward_by, inverse_by}
+use Rattle.chain.specs.Ways.{by_way}
 
 -- ---- a step of a chain
 abbrev pub forward_step : Step → Position → Position
@@ -19,6 +19,9 @@ forward_step s = forward_by (parts_of s)
 
 abbrev pub inverse_step : Step → Position → Position
 inverse_step s = inverse_by (parts_of s)
+
+abbrev pub step_by : Direction → Step → Position → Position
+step_by d s = by_way d (parts_of s)
 
 -- ---- a walk over steps: each step's result is tested for the area, and its candidates on the way are not
 pub data Walk : Type 0 where
@@ -36,6 +39,11 @@ arrive p = pick (in_area p) (at p) left
 unfoldable pub walk : (Step → Position → Position) → List Step → Position → Walk
 walk f [] p = at p
 walk f (s ∷ ss) p = onward (arrive (f s p)) (walk f ss)
+
+-- where it ends, or the refusal's number
+abbrev pub ended : Walk → Result Position ℕ
+ended (at p) = Ok p
+ended left = Err refusal.left
 
 -- ---- where a chain starts and where it ends. The empty chain does both wherever the point is
 unfoldable pub start_of : Realization → List Step → Realization
@@ -65,17 +73,21 @@ conversion_tests c p wanted = chain_tests c ++ (point_tests c.profile p ++ reali
 abbrev pub moved_to : Point → Realization → Position → Point
 moved_to p r q = record { label = p.label; realization = r; position = q }
 
-unfoldable pub answer_of : Point → Realization → Walk → Answer
-answer_of p r (at q) = Converted (moved_to p r q)
-answer_of p r left = Refused refusal.left
+-- what a conversion answers: the point, or the refusal's number
+abbrev pub Answer : Type 0
+Answer = Result Point ℕ
 
--- where an answer says that a point is, its label apart: where it was, if it is refused
-abbrev pub arrival_of : Point → Answer → Arrival
-arrival_of p (Converted q) = record { refusal = 0; realization = q.realization; position = q.position }
-arrival_of p (Refused n) = record { refusal = n; realization = p.realization; position = p.position }
+unfoldable pub answer_of : Point → Realization → Walk → Answer
+answer_of p r (at q) = Ok (moved_to p r q)
+answer_of p r left = Err refusal.left
+
+-- where an answer says that a point is, its label apart
+abbrev pub arrival_of : Answer → Result Arrival ℕ
+arrival_of (Ok q) = Ok (record { realization = q.realization; position = q.position })
+arrival_of (Err n) = Err n
 
 unfoldable pub convert : Chain → Point → Realization → Realization → Walk → Answer
-convert c p wanted reached w = unless (first (conversion_tests c p wanted)) Refused (answer_of p reached w)
+convert c p wanted reached w = unless (first (conversion_tests c p wanted)) Err (answer_of p reached w)
 
 -- forward: from the chain's start to its end, the first step first
 unfoldable pub forward_of : Chain → Point → Answer

@@ -1,12 +1,11 @@
 -- Joining two chains: the second's steps after the first's.
-use Rattle.std.specs.Prelude.{Bool, true, not, List, [], ◌∷◌, ◌++◌, ℕ, ◌+◌, pos, ltb, eqb, length, drop}
+use Rattle.std.specs.Prelude.{Bool, true, not, List, [], ◌∷◌, ◌++◌, ℕ, ◌+◌, pos, ltb, length, drop, Result, Ok, Err}
 use Rattle.refusal.specs.Numbers as refusal
-use Rattle.refusal.specs.Order.{Test, ◌gives◌, first, pick}
+use Rattle.refusal.specs.Order.{Test, ◌gives◌, first, unless}
 use Rattle.ranges.specs.Ranges.{equal}
 use Rattle.chain.specs.declared.Kind.TheVariants.{Shift}
 use Rattle.chain.specs.declared.Step.{Step}
 use Rattle.chain.specs.declared.Chain.{Chain}
-use Rattle.chain.specs.declared.Joined.{Joined}
 use Rattle.chain.specs.Faults.{chain_tests, steps_of}
 use Rattle.chain.specs.Convert.{joins}
 
@@ -45,12 +44,9 @@ joined_steps c d = steps_of c ++ (steps_of d ++ drop (together c d) c.steps)
 abbrev pub joined_of : Chain → Chain → Chain
 joined_of c d = record { steps = joined_steps c d; length = together c d; profile = c.profile }
 
--- a chain of no steps, under the first's profile, where joining is refused
-abbrev pub none_of : Chain → Chain
-none_of c = record { steps = c.steps; length = 0; profile = c.profile }
-
 unfoldable pub join_fault : Chain → Chain → ℕ
 join_fault c d = first (join_tests c d)
 
-unfoldable pub join_of : Chain → Chain → Joined
-join_of c d = record { chain = pick (eqb (join_fault c d) 0) (joined_of c d) (none_of c); refusal = join_fault c d }
+-- the joined chain, or the refusal's number
+unfoldable pub join_of : Chain → Chain → Result Chain ℕ
+join_of c d = unless (join_fault c d) Err (Ok (joined_of c d))

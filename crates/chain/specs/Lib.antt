@@ -2,6 +2,7 @@ pub mod Faults
 pub mod Rows
 pub mod Parts
 pub mod Axes
+pub mod Ways
 pub mod Ready
 pub mod Convert
 pub mod Join

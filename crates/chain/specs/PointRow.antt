@@ -1,17 +1,15 @@
 -- A row of points in one call: the whole row's refusal, and the row of answers.
-use Rattle.std.specs.Prelude.{ℕ, zero, suc, List, [], ◌∷◌, ◌++◌, map, ltb, ℤ, pos, length, drop, replicate}
+use Rattle.std.specs.Prelude.{ℕ, zero, suc, List, [], ◌∷◌, ◌++◌, map, ltb, ℤ, pos, length, drop, replicate, Err}
 use Rattle.refusal.specs.Numbers as refusal
 use Rattle.refusal.specs.Order.{◌gives◌, first, unless}
 use Rattle.chain.specs.declared.Point.{Point}
 use Rattle.chain.specs.declared.Step.{Step}
 use Rattle.chain.specs.declared.Chain.{Chain}
 use Rattle.chain.specs.declared.ReadyChain.{ReadyChain}
-use Rattle.chain.specs.declared.Answer.{Answer}
-use Rattle.chain.specs.declared.Answer.TheVariants.{Refused}
 use Rattle.chain.specs.declared.Direction.{Direction}
 use Rattle.chain.specs.declared.Direction.TheVariants.{Forward, Inverse}
 use Rattle.chain.specs.Faults.{point_fault, chain_tests, steps_of}
-use Rattle.chain.specs.Convert.{forward_of, inverse_of}
+use Rattle.chain.specs.Convert.{Answer, forward_of, inverse_of}
 use Rattle.chain.specs.Prepared.{extended_by, forward_prepared, inverse_prepared}
 
 -- the single conversion, either way
@@ -58,4 +56,4 @@ convert_prepared Inverse l p = inverse_prepared l p
 
 -- the chain's fault, then the point's own, then what the prepared chain answers
 unfoldable pub convert_ready : ReadyChain → Direction → Point → Answer
-convert_ready w d p = unless w.refusal Refused (unless (point_fault w.profile p) Refused (convert_prepared d w.numbers p))
+convert_ready w d p = unless w.refusal Err (unless (point_fault w.profile p) Err (convert_prepared d w.numbers p))

@@ -1,7 +1,7 @@
 -- A chain prepared for many points, so that it is not checked and its rotations are not made again for each: nine rows of eight numbers. The first row holds the
 -- chain's length and where it starts and ends, each row after it a step. The rows are ours to choose; what must hold of them is `Holds`: proofs/Keeping.antt has
 -- `extended-holds`, and `prepared-forward` and `prepared-inverse`: what is answered from them is what the conversion answers.
-use Rattle.std.specs.Prelude.{◌≡◌, Bool, true, not, ◌&&◌, ◌||◌, List, [], ◌∷◌, ◌++◌, reverse, ℕ, zero, suc, ◌+◌, ◌*◌, ℤ, pos, nat_abs, ◌+ℤ◌, eqb, length, get_or}
+use Rattle.std.specs.Prelude.{◌≡◌, Bool, true, not, ◌&&◌, ◌||◌, List, [], ◌∷◌, ◌++◌, reverse, ℕ, zero, suc, ◌+◌, ◌*◌, ℤ, pos, nat_abs, ◌+ℤ◌, eqb, length, get_or, Ok, Err, Option, Some, None}
 use Rattle.std.proofs.lemmas.List.Edits.{sets}
 use Rattle.refusal.specs.Numbers as refusal
 use Rattle.refusal.specs.Order.{Test, ◌gives◌, first, pick, unless}
@@ -11,15 +11,13 @@ use Rattle.chain.specs.declared.Realization.{Realization}
 use Rattle.chain.specs.declared.Point.{Point}
 use Rattle.chain.specs.declared.Step.{Step}
 use Rattle.chain.specs.declared.Chain.{Chain}
+use Rattle.chain.specs.declared.Direction.{Direction}
 use Rattle.chain.specs.declared.steps.Ready.{Ready}
 use Rattle.chain.specs.declared.steps.Ready.TheVariants.{Fixed, Turned, Scaled}
-use Rattle.chain.specs.declared.steps.kept.rows.Row.{Row}
-use Rattle.chain.specs.declared.steps.kept.rows.Moved.{Moved}
-use Rattle.chain.specs.declared.Answer.{Answer}
-use Rattle.chain.specs.declared.Answer.TheVariants.{Converted, Refused}
 use Rattle.chain.specs.Faults.{in_area, same_realization, step_tests, chain_tests}
 use Rattle.chain.specs.Parts.{Parts, forward_by, inverse_by}
-use Rattle.chain.specs.Convert.{moved_to, start_of, end_of}
+use Rattle.chain.specs.Ways.{by_way}
+use Rattle.chain.specs.Convert.{Answer, moved_to, start_of, end_of}
 use Rattle.chain.specs.Ready.{ready_parts, ready_for, Prepares}
 
 -- the j-th number of the i-th row
@@ -73,13 +71,17 @@ ready_range (Turned t) =
 ready_range (Scaled t) =
     up_to 1971000000000000000 t.kx && up_to 1971000000000000000 t.ky && up_to 1971000000000000000 t.kz && up_to 1202000 t.slope
 
+pub record Row : Type 0 where
+  pub good : Bool
+  pub ready : Ready
+
 -- a row is good where a step can have given its form and its figures
 unfoldable pub row_at : List ℤ → ℕ → Row
 row_at l i = record { good = form_range (number l i 0) && ready_range (ready_at l i); ready = ready_at l i }
 
 -- where a row leads from q, if it is good
-abbrev pub Stepped : Bool → Parts → Position → Moved → Type 0
-Stepped good t q m = (m.good ≡ good) × (good ≡ true → m.position ≡ forward_by t q)
+abbrev pub stepped : Direction → Bool → Parts → Position → Option Position
+stepped d good t q = pick good (Some (by_way d t q)) None
 
 -- n of them, from the i-th on
 unfoldable pub rows_of : List ℤ → ℕ → ℕ → List Row
@@ -124,9 +126,9 @@ prepared_tests n wanted p =
     ∷ []
 
 unfoldable pub carried : (Parts → Position → Position) → Point → Realization → List Row → Position → Answer
-carried f p end [] q = Converted (moved_to p end q)
+carried f p end [] q = Ok (moved_to p end q)
 carried f p end (r ∷ rs) q =
-    pick r.good (pick (in_area (f (ready_parts r.ready) q)) (carried f p end rs (f (ready_parts r.ready) q)) (Refused refusal.left)) (Refused refusal.range)
+    pick r.good (pick (in_area (f (ready_parts r.ready) q)) (carried f p end rs (f (ready_parts r.ready) q)) (Err refusal.left)) (Err refusal.range)
 
 -- the empty chain ends where the point is
 abbrev pub reached_with : ℤ → Realization → Realization → Realization
@@ -134,12 +136,12 @@ reached_with n here end = pick (equal (pos 0) n) here end
 
 unfoldable pub forward_prepared : List ℤ → Point → Answer
 forward_prepared l p =
-    unless (first (prepared_tests (length_in l) (start_in l) p)) Refused
+    unless (first (prepared_tests (length_in l) (start_in l) p)) Err
     (carried forward_by p (reached_with (length_in l) p.realization (end_in l)) (rows_of l 1 (nat_abs (length_in l))) p.position)
 
 unfoldable pub inverse_prepared : List ℤ → Point → Answer
 inverse_prepared l p =
-    unless (first (prepared_tests (length_in l) (end_in l) p)) Refused
+    unless (first (prepared_tests (length_in l) (end_in l) p)) Err
     (carried inverse_by p (reached_with (length_in l) p.realization (start_in l)) (reverse (rows_of l 1 (nat_abs (length_in l)))) p.position)
 
 -- ---- the numbers hold a chain of these steps, of a profile

@@ -4,18 +4,21 @@ ghost use Rattle.chain.specs.Faults.{kind_range, kind_rule, step_range};
 
 use crate::{BursaWolf, Kind, Realization, Shift, Step, Velocity, points};
 
+#[tactic(auto, unfolding(crate::specs::Faults::kind_range))]
 fn shift_in_range(t: Shift) -> bool
     ensures { result ≡ kind_range (Kind.Shift t) }
 {
     ranges::three_within(-100000000, t.dx, t.dy, t.dz, 100000000)
 }
 
+#[tactic(auto, unfolding(crate::specs::Faults::kind_range))]
 fn velocity_in_range(t: Velocity) -> bool
     ensures { result ≡ kind_range (Kind.Velocity t) }
 {
     ranges::three_within(-10000, t.vx, t.vy, t.vz, 10000)
 }
 
+#[tactic(auto, unfolding(crate::specs::Faults::kind_range))]
 fn bursa_wolf_in_range(t: BursaWolf) -> bool
     ensures { result ≡ kind_range (Kind.BursaWolf t) }
 {
@@ -24,6 +27,7 @@ fn bursa_wolf_in_range(t: BursaWolf) -> bool
             & ranges::within(-2000000, t.s, 2000000))
 }
 
+#[tactic(auto, unfolding(crate::specs::Faults::kind_range))]
 pub(crate) fn kind_in_range(kind: Kind) -> bool
     ensures { result ≡ kind_range kind }
 {
@@ -36,6 +40,7 @@ pub(crate) fn kind_in_range(kind: Kind) -> bool
 }
 
 // Whether all of a step's numbers are in their ranges.
+#[tactic(auto, unfolding(crate::specs::Faults::step_range))]
 pub(crate) fn step_in_range(step: Step) -> bool
     ensures { result ≡ step_range step }
 {
@@ -46,6 +51,7 @@ pub(crate) fn step_in_range(step: Step) -> bool
 }
 
 // A velocity stays on one datum and has two epochs.
+#[tactic(auto, unfolding(crate::specs::Faults::kind_rule))]
 fn velocity_rule(before: Realization, after: Realization) -> bool
     ensures { (t : Velocity) → result ≡ kind_rule (Kind.Velocity t) before after }
 {
@@ -55,6 +61,7 @@ fn velocity_rule(before: Realization, after: Realization) -> bool
 }
 
 // A frame step goes from datums 5 to 9 to datum 10 at one epoch.
+#[tactic(auto, unfolding(crate::specs::Faults::kind_rule))]
 fn frame_rule(before: Realization, after: Realization) -> bool
     ensures { result ≡ kind_rule Kind.Frame before after }
 {
@@ -64,6 +71,7 @@ fn frame_rule(before: Realization, after: Realization) -> bool
 }
 
 // Whether the rule of the step's kind is kept.
+#[tactic(auto, unfolding(crate::specs::Faults::kind_rule))]
 pub(crate) fn kind_rule(kind: Kind, before: Realization, after: Realization) -> bool
     ensures { result ≡ kind_rule kind before after }
 {

@@ -1,12 +1,15 @@
 // Whether a chain that is lent as numbers, 13 to a step, is good: told by the numbers, with no chain made of them.
 ghost use Rattle.std.specs.Prelude.{◌≡◌, ◌+◌, ◌*◌, ◌/◌, ◌≤◌, length, drop};
 ghost use Rattle.refusal.specs.Order.{first};
+ghost use Rattle.refusal.specs.Refusals.{fault_number};
 ghost use Rattle.chain.specs.Faults.{chain_tests};
 ghost use Rattle.chain.specs.Numbers.{kind_from, step_from, chain_from, steps_in, dated, good_kind, follows, good_steps};
 
 use crate::{Kind, Realization, checks, kinds, numbers, points, profiles};
+use refusal::Refusal;
 
 // Whether a datum at an epoch is one that a step under a profile may say.
+#[tactic(auto, unfolding(crate::specs::Numbers::dated))]
 fn is_dated(profile: i64, r: Realization) -> bool
     ensures { result ≡ dated profile r }
 {
@@ -14,6 +17,7 @@ fn is_dated(profile: i64, r: Realization) -> bool
 }
 
 // Whether a kind's numbers are in range, its rule is kept and the profile has it.
+#[tactic(auto, unfolding(crate::specs::Numbers::good_kind))]
 fn is_good(profile: i64, kind: Kind, before: Realization, after: Realization) -> bool
     ensures { result ≡ good_kind profile kind before after }
 {
@@ -23,6 +27,7 @@ fn is_good(profile: i64, kind: Kind, before: Realization, after: Realization) ->
 }
 
 // The same of a step's numbers. Its letter is asked once, and each kind's tests stand where the kind is known.
+#[tactic(auto, unfolding(crate::specs::Numbers::kind_from))]
 fn is_good_kind(profile: i64, n: &[i64], before: Realization, after: Realization) -> bool
     requires { 13 ≤ length n.now }
     ensures { result ≡ good_kind profile (kind_from n.now) before after }
@@ -44,13 +49,14 @@ fn is_good_kind(profile: i64, n: &[i64], before: Realization, after: Realization
 }
 
 // Whether a step begins where the one before it ended, and is good by itself if that is.
+#[tactic(auto, unfolding(crate::specs::Numbers::follows))]
 fn does_follow(profile: i64, end: Realization, n: &[i64]) -> bool
     requires { 13 ≤ length n.now }
     ensures { result ≡ follows profile end (step_from n.now) }
 {
     let before = numbers::before_in(n);
     let after = numbers::after_in(n);
-    if !(points::same_realization(end, before) & is_dated(profile, after)) {
+    if !((end == before) & is_dated(profile, after)) {
         return false;
     }
     is_good_kind(profile, n, before, after)
@@ -69,25 +75,23 @@ fn are_good(profile: i64, steps: &[i64]) -> bool
     if !is_dated(profile, end) {
         return false;
     }
-    let mut i: usize = 0;
-    while i < n {
+    for i in 0..n {
         let at = numbers::STEP * i;
         if !does_follow(profile, end, &steps[at..]) {
             return false;
         }
         end = numbers::after_at(steps, i);
-        i += 1;
     }
     true
 }
 
-// The refusal that a chain of lent numbers alone decides: that of `chain_fault` for the chain that they say, or 0. Only of a bad one is the chain made.
-pub fn fault_in(profile: i64, steps: &[i64]) -> u8
-    ensures { result ≡ first (chain_tests (chain_from profile steps.now)) }
+// The refusal that a chain of lent numbers alone decides: that of `chain_fault` for the chain that they say. Only of a bad one is the chain made.
+pub fn fault_in(profile: i64, steps: &[i64]) -> Result<(), Refusal>
+    ensures { fault_number result ≡ first (chain_tests (chain_from profile steps.now)) }
 {
     if ranges::is_profile(profile) & (steps.len() / numbers::STEP <= 8) {
         if are_good(profile, steps) {
-            return 0;
+            return Ok(());
         }
     }
     // As a new slice: one that is handed on as it came is loaded whole, and this function waits for the two stores that made it.

@@ -1,4 +1,5 @@
 // Datum steps on Cartesian positions, forward and inverse, and chains of up to eight of them.
+// The definitions that a function opens stand above it (`unfolding`), so that its proof needs no file of its own.
 #![tactic(auto)]
 
 mod checks;
@@ -30,7 +31,7 @@ pub struct Position {
 }
 
 // A datum (1 to 10) at an epoch, in thousandths of a year (0: none).
-#[derive(Clone, Copy)]
+#[derive(Clone, Copy, PartialEq, Eq)]
 pub struct Realization {
     pub datum: i64,
     pub epoch: i64,
@@ -116,7 +117,7 @@ pub struct Step {
 pub const LATEST: i64 = 2021;
 
 // A chain: the first `length` of its eight steps, under a profile, which is the edition of the circular that the job names: 2009 or 2021. That of 2009 has
-// datums 1 to 5 and 7, and of the steps T and B alone.
+// datums 1 to 5 and 7, and of the steps T and B alone. The steps stay an array with their count beside: fixed memory, no heap.
 #[derive(Clone, Copy)]
 pub struct Chain {
     pub steps: [Step; 8],
@@ -124,11 +125,12 @@ pub struct Chain {
     pub profile: i64,
 }
 
-// A chain prepared for many points: its length, where it starts and ends, and its steps with their numbers worked out. All zeros are the empty chain; `extend`
-// adds a step. How the numbers say it is this crate's own.
+// A chain prepared for many points: its length, where it starts and ends, and its steps with their numbers worked out. All zeros are the
+// empty chain; `extend` adds a step. How the numbers say it is this crate's own.
 pub type Prepared = [i64; 72];
 
 // A chain made ready for many points: its own refusal number, 0 for a good one; the profile that its points are examined under; and its steps prepared.
+// The number stays a u8 beside the steps: a caller can make such a record of anything, and `convert_ready` answers each.
 #[derive(Clone, Copy)]
 pub struct ReadyChain {
     pub refusal: u8,
@@ -136,29 +138,14 @@ pub struct ReadyChain {
     pub numbers: Prepared,
 }
 
-// Where a chain leads a point, its label apart: the refusal number, 0 for none, and the realization and position there; where it is refused, those that it had.
+// Where a chain leads a point, its label apart.
 #[derive(Clone, Copy)]
 pub struct Arrival {
-    pub refusal: u8,
     pub realization: Realization,
     pub position: Position,
 }
 
-// What a conversion answers: the point, or the refusal number.
-#[derive(Clone, Copy)]
-pub enum Answer {
-    Converted(Point),
-    Refused(u8),
-}
-
-// What joining two chains answers: the joined chain, and refusal number 0; or a chain of no steps, and the number.
-#[derive(Clone, Copy)]
-pub struct Joined {
-    pub chain: Chain,
-    pub refusal: u8,
-}
-
-// Which way a row of points goes by a chain: to its end, or back to its start.
+// Which way a point, or a row of points, goes by a chain: to its end, or back to its start.
 #[derive(Clone, Copy)]
 pub enum Direction {
     Forward,

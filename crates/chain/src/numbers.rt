@@ -1,6 +1,6 @@
 // A chain out of numbers, 13 to a step.
 ghost use Rattle.std.specs.Prelude.{◌≡◌, ◌+◌, ◌*◌, ◌≤◌, length, drop};
-ghost use Rattle.chain.specs.Numbers.{bursa_wolf_from, turned_from, kind_from, step_from, no_step, step_or_none, chain_from, unknown as Numbers·unknown, shift_from, velocity_from};
+ghost use Rattle.chain.specs.Numbers.{bursa_wolf_from, turned_from, kind_from, step_from, no_step, chain_from, unknown as Numbers·unknown, shift_from, velocity_from};
 
 use crate::{BursaWolf, Chain, Convention, Kind, Realization, Shift, Step, Velocity};
 
@@ -8,7 +8,7 @@ use crate::{BursaWolf, Chain, Convention, Kind, Realization, Shift, Step, Veloci
 pub(crate) const STEP: usize = 13;
 // Past the range of a shift: a step of no known kind is refused for it.
 const PAST: i64 = 100000001;
-// The letters of the kinds, and of the conventions of a Bursa-Wolf step.
+// The letters of the kinds, and of the conventions of a Bursa-Wolf step. They stay numbers: so a step stands in what C lends.
 pub(crate) const SHIFT: i64 = b'T' as i64;
 
 pub(crate) const VELOCITY: i64 = b'V' as i64;
@@ -21,7 +21,8 @@ const POSITION_VECTOR: i64 = b'P' as i64;
 
 const COORDINATE_FRAME: i64 = b'C' as i64;
 
-// What stands for a kind or a convention that is not known.
+// What stands for a kind or a convention that is not known. It stays a kind, and no None: `chain_from` gives a chain for any numbers, and
+// its definition says this one.
 fn unknown() -> Kind
     ensures { result ≡ Numbers·unknown }
 {
@@ -54,6 +55,7 @@ pub(crate) fn velocity_from(n: &[i64]) -> Kind
     })
 }
 
+#[tactic(auto, unfolding(crate::specs::Numbers::bursa_wolf_from))]
 fn bursa_wolf_from(convention: Convention, n: &[i64]) -> Kind
     requires { 13 ≤ length n.now }
     ensures { result ≡ bursa_wolf_from convention n.now }
@@ -70,6 +72,7 @@ fn bursa_wolf_from(convention: Convention, n: &[i64]) -> Kind
     })
 }
 
+#[tactic(auto, unfolding(crate::specs::Numbers::turned_from))]
 pub(crate) fn turned_from(n: &[i64]) -> Kind
     requires { 13 ≤ length n.now }
     ensures { result ≡ turned_from n.now }
@@ -84,6 +87,7 @@ pub(crate) fn turned_from(n: &[i64]) -> Kind
     unknown()
 }
 
+#[tactic(auto, unfolding(crate::specs::Numbers::kind_from))]
 fn kind_from(n: &[i64]) -> Kind
     requires { 13 ≤ length n.now }
     ensures { result ≡ kind_from n.now }
@@ -105,6 +109,7 @@ fn kind_from(n: &[i64]) -> Kind
 }
 
 // Where a step begins.
+#[tactic(auto, unfolding(crate::specs::Numbers::step_from))]
 pub(crate) fn before_in(n: &[i64]) -> Realization
     requires { 13 ≤ length n.now }
     ensures { result ≡ (step_from n.now).before }
@@ -116,6 +121,7 @@ pub(crate) fn before_in(n: &[i64]) -> Realization
 }
 
 // Where it ends.
+#[tactic(auto, unfolding(crate::specs::Numbers::step_from))]
 pub(crate) fn after_in(n: &[i64]) -> Realization
     requires { 13 ≤ length n.now }
     ensures { result ≡ (step_from n.now).after }
@@ -127,6 +133,7 @@ pub(crate) fn after_in(n: &[i64]) -> Realization
 }
 
 // A step, from its 13 numbers: kind, convention, datum and epoch before and after, and the numbers of its kind.
+#[tactic(auto, unfolding(crate::specs::Numbers::step_from))]
 fn step_from(n: &[i64]) -> Step
     requires { 13 ≤ length n.now }
     ensures { result ≡ step_from n.now }
@@ -160,6 +167,7 @@ pub(crate) fn after_at(n: &[i64], i: usize) -> Realization
 }
 
 // What stands past a chain's steps.
+#[tactic(auto, unfolding(crate::specs::Numbers::no_step))]
 fn no_step() -> Step
     ensures { result ≡ no_step }
 {
@@ -171,34 +179,17 @@ fn no_step() -> Step
     }
 }
 
-// The step that begins at an index, or none.
-fn step_or_none(n: &[i64], at: usize) -> Step
-    ensures { result ≡ step_or_none (drop at n.now) }
-{
-    if at <= n.len() {
-        if STEP <= n.len() - at {
-            return step_from(&n[at..]);
-        }
-    }
-    no_step()
-}
-
 // A chain of a profile: its steps one after the other. Past the eighth they are counted and not read.
 pub fn chain_from(profile: i64, n: &[i64]) -> Chain
     ensures { result ≡ chain_from profile n.now }
 {
     let length = n.len() / STEP;
+    let mut steps = [no_step(); 8];
+    for i in 0..length.min(8) {
+        steps[i] = step_at(n, i);
+    }
     Chain {
-        steps: [
-            step_or_none(n, 0),
-            step_or_none(n, 13),
-            step_or_none(n, 26),
-            step_or_none(n, 39),
-            step_or_none(n, 52),
-            step_or_none(n, 65),
-            step_or_none(n, 78),
-            step_or_none(n, 91),
-        ],
+        steps,
         length,
         profile,
     }

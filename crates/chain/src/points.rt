@@ -1,12 +1,13 @@
 // Whether the numbers of points and of what they hold lie in their ranges. Tests are joined by `&` and `|`, so that each function is one expression with no
 // branch.
 ghost use Rattle.std.specs.Prelude.{◌≡◌};
-ghost use Rattle.chain.specs.Faults.{realization_range, agrees, same_realization, given_position, in_area, label_range, point_range};
+ghost use Rattle.chain.specs.Faults.{realization_range, agrees, given_position, in_area, label_range, point_range};
 
 use crate::{Label, Point, Position, Realization};
 use ranges::{equal, within};
 
 // Whether datum and epoch are in their ranges.
+#[tactic(auto, unfolding(crate::specs::Faults::realization_range))]
 pub(crate) fn realization_in_range(r: Realization) -> bool
     ensures { result ≡ realization_range r }
 {
@@ -14,20 +15,15 @@ pub(crate) fn realization_in_range(r: Realization) -> bool
 }
 
 // Whether the epoch is 0 exactly with datums 1 and 2.
+#[tactic(auto, unfolding(crate::specs::Faults::agrees))]
 pub(crate) fn agrees(r: Realization) -> bool
     ensures { result ≡ agrees r }
 {
     equal(0, r.epoch) == within(1, r.datum, 2)
 }
 
-// Whether two are the same datum at the same epoch.
-pub(crate) fn same_realization(a: Realization, b: Realization) -> bool
-    ensures { result ≡ same_realization a b }
-{
-    equal(a.datum, b.datum) & equal(a.epoch, b.epoch)
-}
-
 // Whether each coordinate is in the range as given.
+#[tactic(auto, unfolding(crate::specs::Faults::given_position))]
 pub(crate) fn given(p: Position) -> bool
     ensures { result ≡ given_position p }
 {
@@ -35,6 +31,7 @@ pub(crate) fn given(p: Position) -> bool
 }
 
 // Whether a position lies in the area.
+#[tactic(auto, unfolding(crate::specs::Faults::in_area))]
 pub(crate) fn in_area(p: Position) -> bool
     ensures { result ≡ in_area p }
 {
@@ -42,6 +39,7 @@ pub(crate) fn in_area(p: Position) -> bool
 }
 
 // Whether issue and order are in their ranges. The id is not looked at.
+#[tactic(auto, unfolding(crate::specs::Faults::label_range))]
 fn label_in_range(label: Label) -> bool
     ensures { result ≡ label_range label }
 {
@@ -49,6 +47,7 @@ fn label_in_range(label: Label) -> bool
 }
 
 // Whether a point's numbers are in their ranges.
+#[tactic(auto, unfolding(crate::specs::Faults::point_range))]
 pub(crate) fn point_in_range(point: Point) -> bool
     ensures { result ≡ point_range point }
 {

@@ -1,10 +1,10 @@
-// Hyperbolic functions in f64: the series of sine, cosine and arctangent at -(x * x). They stand for the exponential and the logarithm: sinh and cosh are the halves of
-// Q - 1/Q and Q + 1/Q for Q = e^x, artanh is half the logarithm of (1 + x) / (1 - x).
+// Hyperbolic functions in f64: the series of sine, cosine and arctangent at -(x * x). They stand for the exponential and the logarithm:
+// sinh and cosh are the halves of Q - 1/Q and Q + 1/Q for Q = e^x, artanh is half the logarithm of (1 + x) / (1 - x).
 ghost use Rattle.std.specs.Prelude.{◌≡◌};
-ghost use Rattle.elementary.specs.Hyperbolic.{arctan_series_of, sinh_of, cosh_of, artanh_small_of, artanh_of};
+ghost use Rattle.elementary.specs.Hyperbolic.{sinh_of, cosh_of, artanh_small_of, artanh_of};
 
 use crate::heron::root;
-use crate::series::{arctan_table, cosine_table, polynomial, sine_table};
+use crate::series::{arctan_series, cosine_table, polynomial, sine_table};
 
 // The hyperbolic sine of x: to 1.4e-16 where |x| is at most 0.4.
 pub fn sinh(x: f64) -> f64
@@ -20,14 +20,6 @@ pub fn cosh(x: f64) -> f64
 {
     let t = cosine_table();
     polynomial(&t, -(x * x))
-}
-
-// The arctangent's series at y: of x * x it is the arctangent of x over x, of -(x * x) the artanh of x over x.
-pub fn arctan_series(y: f64) -> f64
-    ensures { result ≡ arctan_series_of y }
-{
-    let t = arctan_table();
-    polynomial(&t, y)
 }
 
 // The artanh of x, for a small x: to 3.0e-17 where |x| is at most 0.141.

@@ -1,5 +1,5 @@
-// Functions of f64, each in a written order of operations (docs/ORDERS.md). Every call answers for every f64: outside the arguments that a function names it loses
-// accuracy, and nothing else.
+// Functions of f64, each in a written order of operations (docs/ORDERS.md). Every call answers for every f64: outside the arguments that a
+// function names it loses accuracy, and nothing else.
 #![tactic(auto)]
 
 mod half;
@@ -9,5 +9,5 @@ mod series;
 
 pub use half::{arcsine, arctangent};
 pub use heron::root;
-pub use hyperbolic::{arctan_series, artanh, artanh_small, cosh, sinh};
-pub use series::{arctan_small, cosine, sine};
+pub use hyperbolic::{artanh, artanh_small, cosh, sinh};
+pub use series::{arctan_series, arctan_small, cosine, sine};

@@ -1,6 +1,7 @@
 // Sine, cosine and arctangent in f64: Horner in x * x. The reciprocals of the factorials are worked out and not stored.
 ghost use Rattle.std.specs.Prelude.{◌≡◌, ◌<◌, length};
 ghost use Rattle.elementary.specs.Series.{horner, sine_table, cosine_table, arctan_table, sine_of, cosine_of, arctan_small_of};
+ghost use Rattle.elementary.specs.Hyperbolic.{arctan_series_of};
 
 // 1/15!, 1/13!, .. 1/1!, the signs alternating so that the last is +1. Each factorial is a whole product, exact in f64, and each reciprocal one division.
 pub(crate) fn sine_table() -> [f64; 8]
@@ -50,7 +51,7 @@ pub(crate) fn cosine_table() -> [f64; 9]
 }
 
 // 1/25, 1/23, .. 1/1, likewise.
-pub(crate) fn arctan_table() -> [f64; 13]
+fn arctan_table() -> [f64; 13]
     ensures { result ≡ arctan_table }
 {
     [
@@ -76,10 +77,8 @@ pub(crate) fn polynomial(t: &[f64], y: f64) -> f64
     ensures { result ≡ horner y t.now }
 {
     let mut s = t[0];
-    let mut i = 1;
-    while i < t.len() {
-        s = s * y + t[i];
-        i += 1;
+    for c in &t[1..] {
+        s = s * y + *c;
     }
     s
 }
@@ -100,10 +99,17 @@ pub fn cosine(x: f64) -> f64
     polynomial(&t, x * x)
 }
 
+// The arctangent's series at y: of x * x it is the arctangent of x over x, of -(x * x) the artanh of x over x.
+pub fn arctan_series(y: f64) -> f64
+    ensures { result ≡ arctan_series_of y }
+{
+    let t = arctan_table();
+    polynomial(&t, y)
+}
+
 // The arctangent of x in radians, for a small x: to 1.4e-16 where |x| is at most 0.29.
 pub fn arctan_small(x: f64) -> f64
     ensures { result ≡ arctan_small_of x }
 {
-    let t = arctan_table();
-    polynomial(&t, x * x) * x
+    arctan_series(x * x) * x
 }

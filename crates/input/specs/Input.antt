@@ -1,32 +1,28 @@
 -- What reading standard input answers, read by read.
-use Rattle.std.specs.Prelude.{ℕ, ◌+◌, ◌≡◌, cond, List, [], ◌∷◌, eqb, ltb, ℤ, pos, negsuc}
-use Rattle.std.proofs.Math.Option.{Option, none, some}
-use Rattle.input.specs.declared.Input.{Input}
-use Rattle.input.specs.declared.Input.TheVariants as input
-use Rattle.input.specs.declared.Next.{Next}
-use Rattle.input.specs.declared.Next.TheVariants as next
+use Rattle.std.specs.Prelude.{ℕ, ◌+◌, ◌≡◌, cond, List, [], ◌∷◌, eqb, ltb, Option, Some, None}
+use Rattle.std.specs.declared.ops.ControlFlow.{ControlFlow}
+use Rattle.std.specs.declared.ops.ControlFlow.TheVariants.{Continue, Break}
 
 -- what follows from one read, of a buffer with that room and so many bytes held: a read that failed fails the whole; at the end of the input what is held
 -- is the whole; otherwise the bytes read are held too, and reading goes on until the buffer is full
-unfoldable pub after_read : ℕ → ℕ → ℤ → Next
-after_read room held (negsuc k) = next.Failed
-after_read room held (pos n) = cond (eqb n 0) (next.Whole held) (cond (ltb (held + n) room) (next.On (held + n)) (next.Whole room))
+unfoldable pub after_read : ℕ → ℕ → Option ℕ → ControlFlow (Option ℕ) ℕ
+after_read room held None = Break None
+after_read room held (Some n) = cond (eqb n 0) (Break (Some held)) (cond (ltb (held + n) room) (Continue (held + n)) (Break (Some room)))
 
 -- what a list of reads' answers gives, if they decide it
-abbrev pub decided : Next → (ℕ → Option Input) → Option Input
-decided (next.On held) go = go held
-decided (next.Whole n) go = some (input.Whole n)
-decided next.Failed go = some input.Failed
+abbrev pub decided : ControlFlow (Option ℕ) ℕ → (ℕ → Option (Option ℕ)) → Option (Option ℕ)
+decided (Continue held) go = go held
+decided (Break answer) go = Some answer
 
-unfoldable pub input_of : ℕ → ℕ → List ℤ → Option Input
-input_of room held [] = none
+unfoldable pub input_of : ℕ → ℕ → List (Option ℕ) → Option (Option ℕ)
+input_of room held [] = None
 input_of room held (got ∷ gots) = decided (after_read room held got) (λ (more : ℕ). input_of room more gots)
 
 -- an answer that some read's answer decides, and one that some list of them does
-pub record Follows (room held : ℕ) (r : Next) : Type 0 where
-  pub got : ℤ
+pub record Follows (room held : ℕ) (r : ControlFlow (Option ℕ) ℕ) : Type 0 where
+  pub got : Option ℕ
   pub next : r ≡ after_read room held got
 
-pub record Reads (room held : ℕ) (r : Input) : Type 0 where
-  pub answers : List ℤ
-  pub input : input_of room held answers ≡ some r
+pub record Reads (room held : ℕ) (r : Option ℕ) : Type 0 where
+  pub answers : List (Option ℕ)
+  pub input : input_of room held answers ≡ Some r

@@ -8,10 +8,14 @@ use lib.ListN.{length, get_or, take, drop, set, length-set}
 use lib.Seq.{take-suc-set, length-take-le}
 use Rattle.chain.specs.declared.Point.{Point}
 use Rattle.chain.specs.Faults.{latest}
-use Rattle.line.specs.declared.PointLine.{PointLine}
-use Rattle.line.specs.declared.PointLine.TheVariants as P
+use Rattle.line.specs.Answers.{Line}
+use Rattle.std.specs.Prelude.{Err}
+use Rattle.line.specs.declared.Unread.{Unread}
+use Rattle.line.specs.declared.Unread.TheVariants as unread
+use Rattle.line.specs.Answers as P
+use Rattle.line.specs.Answers.{line_told}
 use Rattle.line.specs.Lines.{lines, line_end, line_at}
-use Rattle.line.specs.declared.PlacedLine.{PlacedLine}
+use Rattle.line.specs.Answers.{PlacedLine}
 use Rattle.line.specs.Readers.{read_point, placed_point}
 use Rattle.line.proofs.AsWritten.{placed-line, placed_end}
 use lib.IntN.{ℤ, nat_abs}
@@ -28,6 +32,11 @@ ended y x at e = ap (λ (r : PlacedLine). r.end) e ∙ placed_end y x at
 -- and what it was read as
 pub read_as : (y : ℤ) (x : List ℕ) (at : ℕ) {r : PlacedLine} → r ≡ placed_point y x at → r.line ≡ read_point y (line_at x at)
 read_as y x at e = ap (λ (r : PlacedLine). r.line) e ∙ placed-line y x at
+
+-- a line that is not read is a bad one
+pub unread-bad : (u : Unread) → is_bad (line_told {A = Point} (Err u)) ≡ true
+unread-bad (unread.Malformed f) = refl
+unread-bad (unread.Refused r) = refl
 
 -- one row more at the end of each column
 pub rows_more : (x h l s b : List ℕ) (n a c d e : ℕ) → length h ≡ n → length l ≡ n → length s ≡ n → length b ≡ n
@@ -48,7 +57,7 @@ rows_more x (y ∷ h) (z ∷ l) (u ∷ s) (v ∷ b) n a c d e i j k m =
 pub next-line : (x : List ℕ) (at e : ℕ) → e ≡ line_end x at → at < length x → lines (drop at x) ≡ line_at x at ∷ lines (drop e x)
 next-line x at e q h = (piece x at e q h).others ∙ ap (λ (l : List ℕ). l ∷ lines (drop e x)) (line-at x at e q)
 
-pub goods-good : (l : List ℕ) (ls : List (List ℕ)) (p : Point) → read_point latest l ≡ P.Point p → goods (l ∷ ls) ≡ row_of l p ∷ goods ls
+pub goods-good : (l : List ℕ) (ls : List (List ℕ)) (p : Point) → read_point latest l ≡ P.Good p → goods (l ∷ ls) ≡ row_of l p ∷ goods ls
 unfolding goods
 goods-good l ls p e = rw e
 
@@ -56,8 +65,8 @@ pub goods-bad : (l : List ℕ) (ls : List (List ℕ)) → is_bad (read_point lat
 unfolding goods
 goods-bad l ls = go (read_point latest l) refl
   where
-    go : (r : PointLine) → read_point latest l ≡ r → is_bad (read_point latest l) ≡ true → goods (l ∷ ls) ≡ goods ls
-    go (P.Point p) e h = absurd (let z : is_bad (P.Point p) ≡ true = ap is_bad (sym e) ∙ h in let y : ◌≡◌ {A = ℕ} 0 1 = cc in omega arith)
+    go : (r : Line Point) → read_point latest l ≡ r → is_bad (read_point latest l) ≡ true → goods (l ∷ ls) ≡ goods ls
+    go (P.Good p) e h = absurd (let z : is_bad (P.Good p) ≡ true = ap is_bad (sym e) ∙ h in let y : ◌≡◌ {A = ℕ} 0 1 = cc in omega arith)
     go (P.Malformed f) e h = rw e
     go (P.Refused n) e h = rw e
 
@@ -66,8 +75,8 @@ unfolding any_bad
 bad-on l ls = refl
 
 -- a good line has 18 bytes or more
-pub good-long : (l : List ℕ) (p : Point) → read_point latest l ≡ P.Point p → 18 ≤ length l
-good-long l p = point-outcome latest (λ (r : PointLine). r ≡ P.Point p → 18 ≤ length l) l (λ q f h e. h)
+pub good-long : (l : List ℕ) (p : Point) → read_point latest l ≡ P.Good p → 18 ≤ length l
+good-long l p = point-outcome latest (λ (r : Line Point). r ≡ P.Good p → 18 ≤ length l) l (λ q f h e. h)
     (λ f h e. let z : ◌≡◌ {A = ℕ} 0 1 = cc in absurd (omega arith)) (λ n h e. let z : ◌≡◌ {A = ℕ} 0 1 = cc in absurd (omega arith))
 
 or-true : (a b : Bool) → (a || (true || b)) ≡ (true || b)
@@ -102,7 +111,7 @@ gathering-none x h l s b = record {
 
 module _ (x h₀ l₀ s₀ b₀ h l s b : List ℕ) (count at e : ℕ) (stop : Bool) (q : e ≡ line_end x at) (some : at < length x) (g : Gathering x h₀ l₀ s₀ b₀ h l s b count at stop) where
   -- there is a row for one good line more
-  pub row-left : (p : Point) → read_point latest (line_at x at) ≡ P.Point p → (count + 1) * 18 ≤ e
+  pub row-left : (p : Point) → read_point latest (line_at x at) ≡ P.Good p → (count + 1) * 18 ≤ e
   row-left p r =
       let w = piece x at e q some in
       let a = good-long (line_at x at) p r in
@@ -124,7 +133,7 @@ module _ (x h₀ l₀ s₀ b₀ h l s b : List ℕ) (count at e : ℕ) (stop : B
         inside = g.inside;
       }
 
-  pub gathering-good : (p : Point) → read_point latest (line_at x at) ≡ P.Point p → count < length h → count < length l → count < length s → count < length b
+  pub gathering-good : (p : Point) → read_point latest (line_at x at) ≡ P.Good p → count < length h → count < length l → count < length s → count < length b
       → Gathering x h₀ l₀ s₀ b₀ (set h count p.label.id.high) (set l count p.label.id.low) (set s count (nat_abs p.label.issue)) (set b count at) (count + 1) e stop
   gathering-good p r kh kl ks kb =
       let w = piece x at e q some in
@@ -146,12 +155,12 @@ module _ (x h₀ l₀ s₀ b₀ h l s b : List ℕ) (count at e : ℕ) (stop : B
         issue = length-set s count (nat_abs p.label.issue) ∙ g.issue;
         start = length-set b count at ∙ g.start;
         rows = subst (λ (k : ℕ). goods (lines x) ≡ rows_of x (take k (set h count p.label.id.high)) (take k (set l count p.label.id.low)) (take k (set s count (nat_abs p.label.issue))) (take k (set b count at)) ++ rest) one all;
-        bad = g.bad ∙ ap (λ (t : Bool). stop || t) (ap any_bad n ∙ bad-on (line_at x at) (lines (drop e x)) ∙ ap (λ (t : PointLine). is_bad t || any_bad (lines (drop e x))) r);
+        bad = g.bad ∙ ap (λ (t : Bool). stop || t) (ap any_bad n ∙ bad-on (line_at x at) (lines (drop e x)) ∙ ap (λ (t : Line Point). is_bad t || any_bad (lines (drop e x))) r);
         inside = λ i k. stored b count at kb (λ (y : ℕ). y < length x) i k (λ z. g.inside i z) some;
       }
 
   -- the same of columns that are known by equations
-  pub gathering-put : (h' l' s' b' : List ℕ) (p : Point) → read_point latest (line_at x at) ≡ P.Point p → count < length h → count < length l → count < length s → count < length b
+  pub gathering-put : (h' l' s' b' : List ℕ) (p : Point) → read_point latest (line_at x at) ≡ P.Good p → count < length h → count < length l → count < length s → count < length b
       → h' ≡ set h count p.label.id.high → l' ≡ set l count p.label.id.low → s' ≡ set s count (nat_abs p.label.issue) → b' ≡ set b count at
       → Gathering x h₀ l₀ s₀ b₀ h' l' s' b' (count + 1) e stop
   gathering-put h' l' s' b' p r kh kl ks kb eh el es eb =

@@ -8,6 +8,7 @@ use native.Mathlib.Omega.{arith}
 use lib.ListN.{length, get_or, take, drop, get_or-append}
 use lib.Seq.{length-take-le, get_or-take, sets-eq}
 use borrow.Author.Tests.{lt-ltb, le-ltb}
+use Rattle.std.specs.Prelude.{Some, None}
 use Rattle.refusal.specs.Numbers as refusal
 use Rattle.line.specs.Lines.{lines}
 use Rattle.line.specs.Text.{Wrote, refusal_text}
@@ -74,18 +75,18 @@ module _ (x h l s b : List ℕ) (count : ℕ) (stop : Bool) (g : Gathered x h l 
       told i k = get_or-append e rest 0 i (omega (arith, ap length same, length-latest (goods (lines x)))) ∙ ap (λ (z : List ℕ). get_or z i 0) same ∙ latest-at (goods (lines x)) i k
 
 -- ---- the answer
-pub answered : (x before after : List ℕ) (rows r : ℕ) → rows_for (length x) ≤ rows → room_for (length x) ≤ length before → Wrote before 0 (latest_of x) after r → Answered x rows before true r after
+pub answered : (x before after : List ℕ) (rows r : ℕ) → rows_for (length x) ≤ rows → room_for (length x) ≤ length before → Wrote before 0 (latest_of x) after r → Answered x rows before (Some r) after
 answered x before after rows r work space w =
     let e : 0 + length (latest_of x) ≡ length (latest_of x) = omega arith in
     let f = pile-fits x in
-    inl (record { work = work; space = space }, refl, omega (arith, w.place), w.list ∙ sets-eq (latest_of x) before 0 (omega arith) ∙ ap (λ (k : ℕ). latest_of x ++ drop k before) e)
+    inl (record { work = work; space = space }, ap Some (omega (arith, w.place)), w.list ∙ sets-eq (latest_of x) before 0 (omega arith) ∙ ap (λ (k : ℕ). latest_of x ++ drop k before) e)
 
 pub answered-long : (x before after : List ℕ) (rows r : ℕ) → longest_pile < length x → rows_for (length x) ≤ rows → room_for (length x) ≤ length before
-    → Wrote before 0 (refusal_text 0 refusal.long 0) after r → Answered x rows before true r after
+    → Wrote before 0 (refusal_text 0 refusal.long 0) after r → Answered x rows before (Some r) after
 answered-long x before after rows r h work space w = answered x before after rows r work space (subst (λ (t : List ℕ). Wrote before 0 t after r) (sym (latest-long x h)) w)
 
-pub too_few : (x before : List ℕ) (rows : ℕ) → rows < rows_for (length x) → Answered x rows before false 0 before
-too_few x before rows h = inr (λ (f : Enough x rows (length before)). omega (arith, f.work), refl, refl, refl)
+pub too_few : (x before : List ℕ) (rows : ℕ) → rows < rows_for (length x) → Answered x rows before None before
+too_few x before rows h = inr (λ (f : Enough x rows (length before)). omega (arith, f.work), refl, refl)
 
-pub too-narrow : (x before : List ℕ) (rows : ℕ) → length before < room_for (length x) → Answered x rows before false 0 before
-too-narrow x before rows h = inr (λ (f : Enough x rows (length before)). omega (arith, f.space), refl, refl, refl)
+pub too-narrow : (x before : List ℕ) (rows : ℕ) → length before < room_for (length x) → Answered x rows before None before
+too-narrow x before rows h = inr (λ (f : Enough x rows (length before)). omega (arith, f.space), refl, refl)

@@ -6,12 +6,12 @@ use mathlib.Core.List.{List, [], ◌∷◌, ◌++◌}
 use native.Mathlib.Omega.{arith}
 use lib.ListN.{length, get_or, drop}
 use Rattle.chain.specs.Faults.{latest}
-use Rattle.line.specs.declared.PointLine.{PointLine}
-use Rattle.line.specs.declared.PointLine.TheVariants as P
+use Rattle.line.specs.Answers.{Line}
+use Rattle.line.specs.Answers as P
 use Rattle.line.specs.Lines.{lines, line_end, line_at}
 use Rattle.line.specs.Readers.{read_point}
 use Rattle.chain.specs.declared.Point.{Point}
-use Rattle.line.specs.declared.Fault.{Fault}
+use Rattle.line.specs.Answers.{Fault}
 use Rattle.line.proofs.AsWritten.{point-text}
 use Rattle.line.specs.Text.{Wrote, point_text, refusal_text}
 use Rattle.line.proofs.Lines.{piece, lines_none}
@@ -36,8 +36,8 @@ module _ (x v : List ℕ) (stop : Bool) (out₀ : List ℕ) where
   unfolding prints_from
   prints-on n r l ls = refl
 
-  good-count : (l : List ℕ) (r : PointLine) (row : ℕ) (rows : List Row) → row_after r row + length rows ≡ row + length (if_good l r rows)
-  good-count l (P.Point p) row rows = omega arith
+  good-count : (l : List ℕ) (r : Line Point) (row : ℕ) (rows : List Row) → row_after r row + length rows ≡ row + length (if_good l r rows)
+  good-count l (P.Good p) row rows = omega arith
   good-count l (P.Malformed f) row rows = refl
   good-count l (P.Refused n) row rows = refl
 
@@ -69,25 +69,25 @@ module _ (x v : List ℕ) (stop : Bool) (out₀ : List ℕ) where
         }
 
     -- a good line that was written from its point, and the two kinds of bad ones
-    pub printing-good : (p : Point) → read_point latest (line_at x from) ≡ P.Point p → (out' : List ℕ) (at' : ℕ)
+    pub printing-good : (p : Point) → read_point latest (line_at x from) ≡ P.Good p → (out' : List ℕ) (at' : ℕ)
         → Wrote out at (good_text stop number (get_or v row 0) (point_text p)) out' at' → Printing x v stop out₀ out' at' e (number + 1) (row + 1)
     printing-good p r out' at' w =
         let one : row + 1 ≡ suc row = omega arith in
-        printing-on out' at' (row + 1) (one ∙ sym (ap (λ (k : PointLine). row_after k row) r))
-        (subst (λ (k : PointLine). Wrote out at (line_text stop number (get_or v row 0) (line_at x from) k) out' at') (sym r)
+        printing-on out' at' (row + 1) (one ∙ sym (ap (λ (k : Line Point). row_after k row) r))
+        (subst (λ (k : Line Point). Wrote out at (line_text stop number (get_or v row 0) (line_at x from) k) out' at') (sym r)
         (subst (λ (l : List ℕ). Wrote out at (good_text stop number (get_or v row 0) l) out' at') (sym (point-text latest (line_at x from) p r)) w))
 
     pub printing-malformed : (f : Fault) → read_point latest (line_at x from) ≡ P.Malformed f → (out' : List ℕ) (at' : ℕ)
         → Wrote out at (refusal_text number f.number f.place) out' at' → Printing x v stop out₀ out' at' e (number + 1) row
     printing-malformed f r out' at' w =
-        printing-on out' at' row (sym (ap (λ (k : PointLine). row_after k row) r))
-        (subst (λ (k : PointLine). Wrote out at (line_text stop number (get_or v row 0) (line_at x from) k) out' at') (sym r) w)
+        printing-on out' at' row (sym (ap (λ (k : Line Point). row_after k row) r))
+        (subst (λ (k : Line Point). Wrote out at (line_text stop number (get_or v row 0) (line_at x from) k) out' at') (sym r) w)
 
     pub printing-refused : (n : ℕ) → read_point latest (line_at x from) ≡ P.Refused n → (out' : List ℕ) (at' : ℕ)
         → Wrote out at (refusal_text number n 0) out' at' → Printing x v stop out₀ out' at' e (number + 1) row
     printing-refused n r out' at' w =
-        printing-on out' at' row (sym (ap (λ (k : PointLine). row_after k row) r))
-        (subst (λ (k : PointLine). Wrote out at (line_text stop number (get_or v row 0) (line_at x from) k) out' at') (sym r) w)
+        printing-on out' at' row (sym (ap (λ (k : Line Point). row_after k row) r))
+        (subst (λ (k : Line Point). Wrote out at (line_text stop number (get_or v row 0) (line_at x from) k) out' at') (sym r) w)
 
     -- a good line has its verdict
     pub row_inside : row_after (read_point latest (line_at x from)) row ≡ suc row → row < length v

@@ -7,15 +7,16 @@ use native.Mathlib.Omega.{arith}
 use lib.ListN.{length, get_or, take, length-append}
 use lib.Seq.{take-append_seam}
 use Rattle.chain.specs.Faults.{latest}
-use Rattle.line.specs.declared.PointLine.{PointLine}
-use Rattle.line.specs.declared.PointLine.TheVariants as P
+use Rattle.chain.specs.declared.Point.{Point}
+use Rattle.line.specs.Answers.{Line}
+use Rattle.line.specs.Answers as P
 use Rattle.line.specs.Readers.{read_point}
 use Rattle.latest.specs.Pile.{Row, row_of, goods, if_good, any_bad, verdict, good_text, line_text, verdict_in, reply_of, replies_from}
 use Rattle.latest.specs.Columns.{row_after, prints_from}
 use Rattle.latest.specs.Promises.{no_row}
 
-good-append : (l : List ℕ) (r : PointLine) (a b : List Row) → if_good l r (a ++ b) ≡ if_good l r a ++ b
-good-append l (P.Point p) a b = refl
+good-append : (l : List ℕ) (r : Line Point) (a b : List Row) → if_good l r (a ++ b) ≡ if_good l r a ++ b
+good-append l (P.Good p) a b = refl
 good-append l (P.Malformed f) a b = refl
 good-append l (P.Refused n) a b = refl
 
@@ -28,8 +29,8 @@ pub goods-one : (l : List ℕ) → goods (l ∷ []) ≡ if_good l (read_point la
 unfolding goods
 goods-one l = refl
 
-row_more : (l : List ℕ) (r : PointLine) (n : ℕ) → n + length (if_good l r []) ≡ row_after r n
-row_more l (P.Point p) n = omega arith
+row_more : (l : List ℕ) (r : Line Point) (n : ℕ) → n + length (if_good l r []) ≡ row_after r n
+row_more l (P.Good p) n = omega arith
 row_more l (P.Malformed f) n = omega arith
 row_more l (P.Refused k) n = omega arith
 
@@ -44,14 +45,14 @@ none-good = refl
 
 module _ (ls : List (List ℕ)) (stop : Bool) (v : List ℕ) (bad : stop ≡ any_bad ls) (told : (i : ℕ) → i < length (goods ls) → get_or v i 0 ≡ verdict (goods ls) i (get_or (goods ls) i no_row)) where
   -- one line: its verdict stands in the row of the good lines before it
-  one : (pre rest : List (List ℕ)) (l : List ℕ) → ls ≡ pre ++ l ∷ rest → (r : PointLine) → read_point latest l ≡ r
+  one : (pre rest : List (List ℕ)) (l : List ℕ) → ls ≡ pre ++ l ∷ rest → (r : Line Point) → read_point latest l ≡ r
       → line_text stop (suc (length pre)) (get_or v (length (goods pre)) 0) l r ≡ line_text (any_bad ls) (suc (length pre)) (verdict_in ls (length pre) l r) l r
   one pre rest l e (P.Malformed f) h = refl
   one pre rest l e (P.Refused n) h = refl
-  one pre rest l e (P.Point p) h = ap₂ (λ (b : Bool) (k : ℕ). good_text b (suc (length pre)) k l) bad same
+  one pre rest l e (P.Good p) h = ap₂ (λ (b : Bool) (k : ℕ). good_text b (suc (length pre)) k l) bad same
     where
       split : goods ls ≡ goods pre ++ row_of l p ∷ goods rest
-      split = ap goods e ∙ goods-append pre (l ∷ rest) ∙ ap (λ (rows : List Row). goods pre ++ rows) (goods-append (l ∷ []) rest ∙ ap (λ (rows : List Row). rows ++ goods rest) (goods-one l ∙ ap (λ (r : PointLine). if_good l r []) h))
+      split = ap goods e ∙ goods-append pre (l ∷ rest) ∙ ap (λ (rows : List Row). goods pre ++ rows) (goods-append (l ∷ []) rest ∙ ap (λ (rows : List Row). rows ++ goods rest) (goods-one l ∙ ap (λ (r : Line Point). if_good l r []) h))
 
       before : take (length pre) ls ≡ pre
       before = ap (take (length pre)) e ∙ take-append_seam pre (l ∷ rest)

@@ -11,8 +11,9 @@ use borrow.Author.Tests.{ltb-true, ltb-false}
 use Rattle.refusal.specs.Numbers as refusal
 use Rattle.refusal.specs.Order.{pick}
 use Rattle.chain.specs.Faults.{latest}
-use Rattle.line.specs.declared.PointLine.{PointLine}
-use Rattle.line.specs.declared.PointLine.TheVariants as P
+use Rattle.chain.specs.declared.Point.{Point}
+use Rattle.line.specs.Answers.{Line}
+use Rattle.line.specs.Answers as P
 use Rattle.line.specs.Fields.{longest_line}
 use Rattle.line.specs.Lines.{lines}
 use Rattle.line.specs.Text.{refusal_text}
@@ -48,8 +49,8 @@ good-fits stop line v l some few = go (eqb v refusal.same) (eqb v 1) stop
 reply-fits : (ls : List (List ℕ)) (i : ℕ) (l : List ℕ) → 0 < length l → i < 9999999 → length (reply_of ls i l) ≤ 15 * length l
 unfolding reply_of
 reply-fits ls i l some few =
-    point-outcome latest (λ (r : PointLine). length (line_text (any_bad ls) (suc i) (verdict_in ls i l r) l r) ≤ 15 * length l) l
-    (λ p f h. good-fits (any_bad ls) (suc i) (verdict_in ls i l (P.Point p)) l some (omega arith))
+    point-outcome latest (λ (r : Line Point). length (line_text (any_bad ls) (suc i) (verdict_in ls i l r) l r) ≤ 15 * length l) l
+    (λ p f h. good-fits (any_bad ls) (suc i) (verdict_in ls i l (P.Good p)) l some (omega arith))
     (λ f h. refusal-fits l (suc i) f.number f.place some (omega arith) h.number h.inside h.low)
     (λ n h. refusal-fits l (suc i) n 0 some (omega arith) h (omega arith) (omega arith))
 

@@ -1,5 +1,5 @@
 -- The call over lent bytes and lent work space: how much of both it asks for, and what it answers.
-use Rattle.std.specs.Prelude.{ℕ, ◌+◌, ◌*◌, ◌/◌, ◌≤◌, min, ◌≡◌, ◌⊎◌, Bool, true, false, List, ◌++◌, length, drop}
+use Rattle.std.specs.Prelude.{ℕ, ◌+◌, ◌*◌, ◌/◌, ◌≤◌, min, ◌≡◌, ◌⊎◌, Option, Some, None, List, ◌++◌, length, drop}
 use Rattle.latest.specs.Pile.{longest_pile, latest_of}
 
 -- a good line has 18 bytes or more, and has one row
@@ -20,7 +20,7 @@ pub record Enough (pile : List ℕ) (rows room : ℕ) : Type 0 where
   pub space : room_for (length pile) ≤ room
 
 -- with enough of both: all that the pile prints, at the start of the array, and nothing past it; else nothing
-abbrev pub Answered : List ℕ → ℕ → List ℕ → Bool → ℕ → List ℕ → Type 0
-Answered pile rows before fits at after =
-    (Enough pile rows (length before) × (fits ≡ true) × (at ≡ length (latest_of pile)) × (after ≡ latest_of pile ++ drop (length (latest_of pile)) before))
-    ⊎ ((Enough pile rows (length before) → ⊥) × (fits ≡ false) × (at ≡ 0) × (after ≡ before))
+abbrev pub Answered : List ℕ → ℕ → List ℕ → Option ℕ → List ℕ → Type 0
+Answered pile rows before past after =
+    (Enough pile rows (length before) × (past ≡ Some (length (latest_of pile))) × (after ≡ latest_of pile ++ drop (length (latest_of pile)) before))
+    ⊎ ((Enough pile rows (length before) → ⊥) × (past ≡ None) × (after ≡ before))

@@ -1,8 +1,9 @@
 -- The good lines as columns of numbers, one row for each: the two words of its id, its issue, and where in the pile it begins.
 use Rattle.std.specs.Prelude.{ℕ, suc, ◌*◌, ◌≤◌, ◌<◌, ◌≡◌, Bool, List, [], ◌∷◌, ◌++◌, length, get_or, take}
 use Rattle.chain.specs.Faults.{latest}
-use Rattle.line.specs.declared.PointLine.{PointLine}
-use Rattle.line.specs.declared.PointLine.TheVariants as P
+use Rattle.chain.specs.declared.Point.{Point}
+use Rattle.line.specs.Answers.{Line}
+use Rattle.line.specs.Answers as P
 use Rattle.line.specs.Lines.{lines, line_at}
 use Rattle.line.specs.Readers.{read_point}
 use Rattle.latest.specs.Pile.{Row, goods, any_bad, verdict, line_text}
@@ -34,8 +35,8 @@ pub record Gathered (x h l s b : List ℕ) (count : ℕ) (stop : Bool) : Type 0 
   pub inside : (i : ℕ) → i < count → get_or b i 0 < length x
 
 -- ---- how the code prints: the lines from number n on, with the verdicts v from row r on
-abbrev pub row_after : PointLine → ℕ → ℕ
-row_after (P.Point p) r = suc r
+abbrev pub row_after : Line Point → ℕ → ℕ
+row_after (P.Good p) r = suc r
 row_after (P.Malformed f) r = r
 row_after (P.Refused n) r = r
 

@@ -4,8 +4,8 @@ use Rattle.refusal.specs.Numbers as refusal
 use Rattle.refusal.specs.Order.{pick}
 use Rattle.chain.specs.declared.Point.{Point}
 use Rattle.chain.specs.Faults.{latest}
-use Rattle.line.specs.declared.PointLine.{PointLine}
-use Rattle.line.specs.declared.PointLine.TheVariants as P
+use Rattle.line.specs.Answers.{Line}
+use Rattle.line.specs.Answers as P
 use Rattle.line.specs.Later.{same_bytes}
 use Rattle.line.specs.Lines.{lines}
 use Rattle.line.specs.Readers.{read_point}
@@ -22,8 +22,8 @@ abbrev pub row_of : List ℕ → Point → Row
 row_of line p = record { high = p.label.id.high; low = p.label.id.low; issue = nat_abs p.label.issue; text = line }
 
 -- a line in front of the good ones, if it is good
-abbrev pub if_good : List ℕ → PointLine → List Row → List Row
-if_good line (P.Point p) rows = row_of line p ∷ rows
+abbrev pub if_good : List ℕ → Line Point → List Row → List Row
+if_good line (P.Good p) rows = row_of line p ∷ rows
 if_good line (P.Malformed f) rows = rows
 if_good line (P.Refused n) rows = rows
 
@@ -32,8 +32,8 @@ goods [] = []
 goods (l ∷ ls) = if_good l (read_point latest l) (goods ls)
 
 -- ---- a line that is refused with 18 to 22, 2 or 3: any of them stops the hand-out
-abbrev pub is_bad : PointLine → Bool
-is_bad (P.Point p) = false
+abbrev pub is_bad : Line Point → Bool
+is_bad (P.Good p) = false
 is_bad (P.Malformed f) = true
 is_bad (P.Refused n) = true
 
@@ -79,14 +79,14 @@ verdict rows i r = cond (eqb (standing rows r) 1) (cond (any (equal r) (take i r
 abbrev pub good_text : Bool → ℕ → ℕ → List ℕ → List ℕ
 good_text stop number v line = pick (eqb v refusal.same) (refusal_text number refusal.same 0) (pick (eqb v 1) (pick stop [] line) [])
 
-abbrev pub line_text : Bool → ℕ → ℕ → List ℕ → PointLine → List ℕ
+abbrev pub line_text : Bool → ℕ → ℕ → List ℕ → Line Point → List ℕ
 line_text stop number v line (P.Malformed f) = refusal_text number f.number f.place
 line_text stop number v line (P.Refused n) = refusal_text number n 0
-line_text stop number v line (P.Point p) = good_text stop number v line
+line_text stop number v line (P.Good p) = good_text stop number v line
 
 -- the verdict of a good line; nobody asks for that of another
-abbrev pub verdict_in : List (List ℕ) → ℕ → List ℕ → PointLine → ℕ
-verdict_in ls i line (P.Point p) = verdict (goods ls) (length (goods (take i ls))) (row_of line p)
+abbrev pub verdict_in : List (List ℕ) → ℕ → List ℕ → Line Point → ℕ
+verdict_in ls i line (P.Good p) = verdict (goods ls) (length (goods (take i ls))) (row_of line p)
 verdict_in ls i line (P.Malformed f) = 0
 verdict_in ls i line (P.Refused n) = 0
 

@@ -2,7 +2,7 @@
 use Rattle.std.specs.Prelude.{ℕ, suc, ◌+◌, ◌≤◌, ◌<◌, ◌≡◌, false, cond, List, [], ◌∷◌, eqb, length, get_or}
 use Rattle.chain.specs.declared.Point.{Point}
 use Rattle.chain.specs.Faults.{latest}
-use Rattle.line.specs.declared.PointLine.TheVariants as P
+use Rattle.line.specs.Answers as P
 use Rattle.line.specs.Readers.{read_point}
 use Rattle.line.specs.Text.{refusal_text}
 use Rattle.latest.specs.Pile.{Row, goods, any_bad, equal, verdict, verdict_in, reply_of}
@@ -20,7 +20,7 @@ pub record Alike (r q : Row) : Type 0 where
 pub data Told (ls : List (List ℕ)) (i : ℕ) (l : List ℕ) : Type 0 where
   silent : reply_of ls i l ≡ [] → Told ls i l
   refused : (number place : ℕ) → reply_of ls i l ≡ refusal_text (suc i) number place → Told ls i l
-  itself : (p : Point) → read_point latest l ≡ P.Point p → any_bad ls ≡ false → verdict_in ls i l (P.Point p) ≡ 1 → reply_of ls i l ≡ l → Told ls i l
+  itself : (p : Point) → read_point latest l ≡ P.Good p → any_bad ls ≡ false → verdict_in ls i l (P.Good p) ≡ 1 → reply_of ls i l ≡ l → Told ls i l
 
 -- ---- of the id of r: one line is handed out, no other, and none is refused; or two or more are refused, all of the highest issue, and none is handed out
 pub data Outcome (rows : List Row) (r : Row) : Type 0 where

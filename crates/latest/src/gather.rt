@@ -2,23 +2,11 @@
 ghost use Rattle.std.specs.Prelude.{◌≡◌, ◌≤◌, ◌<◌, ◌/◌, nat_abs, length, set};
 ghost use Rattle.latest.specs.Columns.{Gathered};
 
-use line::PointLine;
-
 // What was found: how many good lines, and whether there is a bad one.
 #[derive(Clone, Copy)]
 pub struct Found {
     pub count: usize,
     pub stop: bool,
-}
-
-fn size(z: i64) -> u64
-    ensures { result ≡ nat_abs z }
-{
-    if z < 0 {
-        ((0 - (z + 1)) as u64) + 1
-    } else {
-        z as u64
-    }
 }
 
 // One good line more: row k.
@@ -34,10 +22,9 @@ fn put_row(
     requires { (k < length h.old) × (k < length l.old) × (k < length s.old) × (k < length b.old) }
     ensures { (h.new ≡ set h.old k label.id.high) × (l.new ≡ set l.old k label.id.low) × (s.new ≡ set s.old k (nat_abs label.issue)) × (b.new ≡ set b.old k at) }
 {
-    let issue = size(label.issue);
     h[k] = label.id.high;
     l[k] = label.id.low;
-    s[k] = issue;
+    s[k] = label.issue.unsigned_abs();
     b[k] = at;
 }
 
@@ -49,21 +36,17 @@ pub fn gather(x: &[u8], h: &mut [u64], l: &mut [u64], s: &mut [u64], b: &mut [us
     let mut count: usize = 0;
     let mut stop = false;
     let mut at: usize = 0;
+    // stays a while: a turn goes on by a whole line
     while at < x.len() {
         let read = line::read_placed(chain::LATEST, x, at);
         let end = read.end;
-        let found = read.line;
-        match found {
-            PointLine::Point(p) => {
+        match read.line {
+            Ok(p) => {
                 put_row(h, l, s, b, count, p.label, at);
                 count += 1;
                 at = end;
             }
-            PointLine::Malformed(_) => {
-                stop = true;
-                at = end;
-            }
-            PointLine::Refused(_) => {
+            Err(_) => {
                 stop = true;
                 at = end;
             }

@@ -13,10 +13,7 @@ fn same_key(h: &[u64], l: &[u64], i: usize, j: usize) -> bool
     requires { (length l.now ≡ length h.now) × (i < length h.now) × (j < length h.now) }
     ensures { result ≡ eqb (key_of h.now l.now i) (key_of h.now l.now j) }
 {
-    if l[i] == l[j] {
-        return h[i] == h[j];
-    }
-    false
+    l[i] == l[j] && h[i] == h[j]
 }
 
 // Whether rows i and j bear one id and issue.
@@ -24,27 +21,7 @@ fn same_top(h: &[u64], l: &[u64], s: &[u64], i: usize, j: usize) -> bool
     requires { (length l.now ≡ length h.now) × (length s.now ≡ length h.now) × (i < length h.now) × (j < length h.now) }
     ensures { result ≡ eqb (group_of h.now l.now s.now i) (group_of h.now l.now s.now j) }
 {
-    if same_key(h, l, i, j) {
-        return s[i] == s[j];
-    }
-    false
-}
-
-// Whether two lines are byte-equal. Crate line has the same for itself.
-fn same_bytes(a: &[u8], b: &[u8]) -> bool
-    ensures { result ≡ same_bytes a.now b.now }
-{
-    if a.len() != b.len() {
-        return false;
-    }
-    let mut i: usize = 0;
-    while i < a.len() {
-        if a[i] != b[i] {
-            return false;
-        }
-        i = i + 1;
-    }
-    true
+    same_key(h, l, i, j) && s[i] == s[j]
 }
 
 // Whether the lines that begin at i and j are byte-equal.
@@ -54,10 +31,11 @@ fn same_line(x: &[u8], i: usize, j: usize) -> bool
 {
     let a = line::line_end(x, i);
     let e = line::line_end(x, j);
-    same_bytes(&x[i..a], &x[j..e])
+    x[i..a] == x[j..e]
 }
 
-// The mark of a place, from that of the place before it.
+// The mark of a place, from that of the place before it: 0, 1, or SAME's number.
+// stays a number: marks and verdicts stand in the columns of numbers that the caller lends
 fn next_mark(prior: usize, same: bool, alike: bool) -> usize
     ensures { result ≡ next_mark prior same alike }
 {
@@ -77,10 +55,8 @@ fn next_mark(prior: usize, same: bool, alike: bool) -> usize
 fn number(o: &mut [usize])
     ensures { Places o.new (length o.old) }
 {
-    let mut i: usize = 0;
-    while i < o.len() {
-        o[i] = i;
-        i += 1;
+    for (i, place) in o.iter_mut().enumerate() {
+        *place = i;
     }
 }
 
@@ -92,14 +68,12 @@ fn marks(h: &[u64], l: &[u64], s: &[u64], b: &[usize], o: &[usize], x: &[u8], w:
     let n = o.len();
     if 0 < n {
         w[0] = 1;
-        let mut k: usize = 1;
-        while k < n {
+        for k in 1..n {
             let i = o[k - 1];
             let j = o[k];
             let prior = w[k - 1];
             let mark = next_mark(prior, same_top(h, l, s, i, j), same_line(x, b[i], b[j]));
             w[k] = mark;
-            k += 1;
         }
     }
 }
@@ -168,10 +142,8 @@ fn judge(
     ensures { v.new ≡ verdicts_of (rows_of x.now h.now l.now s.now b.now) }
 {
     marks(h, l, s, b, o, x, w);
-    let mut k: usize = o.len();
     let mut standing: u64 = 0;
-    while 0 < k {
-        k -= 1;
+    for k in (0..o.len()).rev() {
         let mark = w[k];
         standing = standing_at(h, l, s, o, k, standing, mark);
         let i = o[k];

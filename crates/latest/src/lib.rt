@@ -6,47 +6,28 @@ mod judge;
 mod print;
 mod sorting;
 
-ghost use Rattle.std.specs.Prelude.{◌≡◌, ◌≤◌, min, length};
+ghost use Rattle.std.specs.Prelude.{◌≡◌, ◌≤◌, length};
 ghost use Rattle.line.specs.Text.{Wrote};
 ghost use Rattle.latest.specs.Pile.{longest_pile, latest_of};
 ghost use Rattle.latest.specs.Call.{rows_for, room_for, rows_in, Answered};
 
+use refusal::Refusal;
+
 // The longest pile that is read, in bytes. Of a longer one nothing is read.
 pub const LONGEST_PILE: usize = 2097152;
-
-// Whether there was enough work space and room; and the place past what was printed.
-#[derive(Clone, Copy)]
-pub struct Handout {
-    pub fits: bool,
-    pub at: usize,
-}
 
 // The rows that a pile of n bytes asks for: one for each good line, which has 18 bytes or more.
 pub fn rows_for(n: usize) -> usize
     ensures { result ≡ rows_for n }
 {
-    if n < LONGEST_PILE {
-        n / 18
-    } else {
-        LONGEST_PILE / 18
-    }
+    n.min(LONGEST_PILE) / 18
 }
 
 // The room that a pile of n bytes asks for, in bytes: a line prints at most 15 for each of its own.
 pub fn room_for(n: usize) -> usize
     ensures { result ≡ room_for n }
 {
-    if n < LONGEST_PILE {
-        15 * n + 9
-    } else {
-        15 * LONGEST_PILE + 9
-    }
-}
-
-fn least(a: usize, b: usize) -> usize
-    ensures { result ≡ min a b }
-{
-    if a < b { a } else { b }
+    15 * n.min(LONGEST_PILE) + 9
 }
 
 // A pile that is not too long, with enough work space: what it prints, as far as there is room.
@@ -79,8 +60,8 @@ fn hand_out(
     print::print(x, v, found.stop, out)
 }
 
-// What a whole pile prints, at the start of `out`, with seven columns of work space, whose numbers are of no use afterwards. Nothing is written where a column has
-// fewer than `rows_for` rows or `out` less than `room_for` bytes.
+// What a whole pile prints, at the start of `out`, with seven columns of work space, whose numbers are of no use afterwards: the place past it. Nothing is written, and there
+// is no place, where a column has fewer than `rows_for` rows or `out` less than `room_for` bytes.
 pub fn latest(
     x: &[u8],
     h: &mut [u64],
@@ -91,21 +72,19 @@ pub fn latest(
     w: &mut [usize],
     v: &mut [u64],
     out: &mut [u8],
-) -> Handout
-    ensures { Answered x.now (rows_in (length h.old) (length l.old) (length s.old) (length b.old) (length o.old) (length w.old) (length v.old)) out.old result.fits result.at out.new }
+) -> Option<usize>
+    ensures { Answered x.now (rows_in (length h.old) (length l.old) (length s.old) (length b.old) (length o.old) (length w.old) (length v.old)) out.old result out.new }
 {
-    let first = least(least(h.len(), l.len()), least(s.len(), b.len()));
-    let rows = least(first, least(least(o.len(), w.len()), v.len()));
+    let first = h.len().min(l.len()).min(s.len().min(b.len()));
+    let rows = first.min(o.len().min(w.len()).min(v.len()));
     if rows < rows_for(x.len()) {
-        return Handout { fits: false, at: 0 };
+        return None;
     }
     if out.len() < room_for(x.len()) {
-        return Handout { fits: false, at: 0 };
+        return None;
     }
     if LONGEST_PILE < x.len() {
-        let at = line::write_refusal(out, 0, 0, refusal::LONG, 0);
-        return Handout { fits: true, at };
+        return Some(line::write_refusal(out, 0, 0, Refusal::Long.number(), 0));
     }
-    let at = hand_out(x, h, l, s, b, o, w, v, out);
-    Handout { fits: true, at }
+    Some(hand_out(x, h, l, s, b, o, w, v, out))
 }

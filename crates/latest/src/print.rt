@@ -5,7 +5,8 @@ ghost use Rattle.line.specs.Text.{Wrote, point_text};
 ghost use Rattle.latest.specs.Pile.{goods, good_text};
 ghost use Rattle.latest.specs.Columns.{prints_from};
 
-use line::PointLine;
+use line::Unread;
+use refusal::Refusal;
 
 // A good line by its verdict. It is written from its point: a line that is read as a point is the line that is written for it.
 fn print_good(
@@ -19,7 +20,7 @@ fn print_good(
     ensures { Wrote out.old at (good_text stop number verdict (point_text p)) out.new result }
 {
     if verdict == 17 {
-        return line::write_refusal(out, at, number, refusal::SAME, 0);
+        return line::write_refusal(out, at, number, Refusal::Same.number(), 0);
     }
     if verdict == 1 {
         if stop {
@@ -39,24 +40,24 @@ pub fn print(x: &[u8], v: &[u64], stop: bool, out: &mut [u8]) -> usize
     let mut from: usize = 0;
     let mut number: u64 = 1;
     let mut row: usize = 0;
+    // stays a while: a turn goes on by a whole line
     while from < x.len() {
         let read = line::read_placed(chain::LATEST, x, from);
         let end = read.end;
-        let found = read.line;
-        match found {
-            PointLine::Point(p) => {
+        match read.line {
+            Ok(p) => {
                 at = print_good(out, at, number, v[row], stop, p);
                 row += 1;
                 number += 1;
                 from = end;
             }
-            PointLine::Malformed(f) => {
-                at = line::write_refusal(out, at, number, f.number, f.place);
+            Err(Unread::Malformed(f)) => {
+                at = line::write_refusal(out, at, number, f.refusal.number(), f.place);
                 number += 1;
                 from = end;
             }
-            PointLine::Refused(n) => {
-                at = line::write_refusal(out, at, number, n, 0);
+            Err(Unread::Refused(refusal)) => {
+                at = line::write_refusal(out, at, number, refusal.number(), 0);
                 number += 1;
                 from = end;
             }

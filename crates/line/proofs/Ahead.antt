@@ -63,14 +63,14 @@ unmoved s p a h = record { same = λ v n g. g; small = h }
 pub carry : (x : ℕ) {k : ℕ} {s : List ℕ} {p a q b v : ℕ} → Carried s p a q b → Say k x s q v → b * x + v < 1000000000 → Carried s p a (q + k) (b * x + v)
 carry x {b = b} c d h = record { same = λ v n g. c.same v n (d.says b v n g); small = h }
 
--- ---- up to four digits more, of which l are still to come
-pub grown : (l a d : ℕ) → 0 < l → l ≤ 4 → a < 10 ^ (13 - l) → d ≤ 9 → a * 10 + d < 10 ^ (13 - (l - 1))
-grown l a d h m b e =
-    let q : 13 - (l - 1) ≡ suc (13 - l) = omega arith in
-    let p = pow-suc 10 (13 - l) in
+-- ---- up to four digits more, of which l have come
+pub grown : (l a d : ℕ) → a < 10 ^ (9 + l) → d ≤ 9 → a * 10 + d < 10 ^ (9 + (l + 1))
+grown l a d b e =
+    let q : 9 + (l + 1) ≡ suc (9 + l) = omega arith in
+    let p = pow-suc 10 (9 + l) in
     rw q (omega arith)
 
-most : (l : ℕ) → l ≤ 4 → 10 ^ (13 - l) ≤ 10000000000000
+most : (l : ℕ) → l ≤ 4 → 10 ^ (9 + l) ≤ 10000000000000
 most zero h = omega arith
 most (suc zero) h = omega arith
 most (suc (suc zero)) h = omega arith
@@ -78,5 +78,5 @@ most (suc (suc (suc zero))) h = omega arith
 most (suc (suc (suc (suc zero)))) h = omega arith
 most (suc (suc (suc (suc (suc l))))) h = absurd (omega arith)
 
-pub below-cap : (l a : ℕ) → l ≤ 4 → a < 10 ^ (13 - l) → a < 10000000000000
+pub below-cap : (l a : ℕ) → l ≤ 4 → a < 10 ^ (9 + l) → a < 10000000000000
 below-cap l a m b = omega (arith, most l m)

@@ -1,21 +1,18 @@
 -- A line that is read is the line that is written for what it says: byte for byte, since each number and each name has one text. Assumes nothing.
-use Rattle.std.proofs.Common.{◌≡◌, ℕ, zero, suc, ◌+◌, ◌-◌, ◌*◌, ◌/◌, ◌%◌, ◌<◌, ◌≤◌, Bool, true, false, eqb, ltb, leb, List, [], ◌∷◌, ◌++◌, length, get_or, take, drop, ℤ, pos, negsuc, sym, refl, ap, ◌∙◌, append-nil, arith, take-append-drop, drop_of_length-le, drop-cons, ltb-true, eq-eqb, ne_eqb, eqb-true, leb-true}
+use Rattle.std.proofs.Common.{◌≡◌, ℕ, zero, suc, ◌+◌, ◌-◌, ◌*◌, ◌<◌, ◌≤◌, Bool, true, false, eqb, ltb, leb, List, [], ◌∷◌, ◌++◌, length, get_or, take, drop, ℤ, pos, negsuc, sym, refl, ap, ◌∙◌, append-nil, arith, take-append-drop, drop_of_length-le, drop-cons, ltb-true, eq-eqb, ne_eqb, eqb-true, leb-true}
 use mathlib.Core.Option.{Option, none, some}
 use native.Mathlib.Decide.{ℕ_discrete}
 use Rattle.refusal.specs.Order.{pick}
 use Rattle.chain.specs.declared.Point.{Point}
 use Rattle.chain.specs.Faults.{point_fault}
-use Rattle.line.specs.declared.PlacedLine.{PlacedLine}
-use Rattle.line.specs.declared.PointLine.{PointLine}
-use Rattle.line.specs.declared.PointLine.TheVariants as P
-use Rattle.line.specs.Fields.{body, fields, front, Form, ends, field, onward, taken, head, filled, in_body, said, letter}
+use Rattle.line.specs.Answers.{Fault, Line, PlacedLine, Good, Malformed, Refused}
+use Rattle.line.specs.Fields.{body, fields, front, Form, ends, field, onward, taken, filled, in_body, said, letter}
 use Rattle.line.specs.Forms.{point_form, point_of}
-use Rattle.line.specs.declared.Fault.{Fault}
 use Rattle.line.specs.Lines.{line_end, line_at}
 use Rattle.line.specs.Malformed.{point_shape, fault_of}
 use Rattle.line.specs.Name.{name_of}
 use Rattle.line.specs.Number.{is_digit, digits, plain, positive, negative, number_of}
-use Rattle.line.specs.Readers.{judged, read_as, read_point, place_of, datum_place, placed_point, one_point}
+use Rattle.line.specs.Readers.{read_as, read_point, datum_place, placed_point, one_point}
 use Rattle.line.specs.Text.{decimal, integer, name_text, line_text, label_text, point_text}
 use Rattle.line.proofs.Capped.{never}
 use Rattle.line.proofs.Lines.{line-at, line-whole}
@@ -195,23 +192,23 @@ point-said-text line p = go (body line) refl
     go (some s) b e = body-line line s b ∙ point-form s p e
 
 -- what a point's line is read as, it says
-said-point : (y : ℤ) (line : List ℕ) (p : Point) → read_point y line ≡ P.Point p → said point_form line ≡ some p
+said-point : (y : ℤ) (line : List ℕ) (p : Point) → read_point y line ≡ Good p → said point_form line ≡ some p
 unfolding read_point
 said-point y line p = go (fault_of point_shape line) (said point_form line)
   where
-    go : (m : Fault) (o : Option Point) → read_as (point_fault y) P.Point P.Refused (P.Malformed m) o ≡ P.Point p → o ≡ some p
+    go : (m : Fault) (o : Option Point) → read_as (point_fault y) Good Refused (Malformed m) o ≡ Good p → o ≡ some p
     go m none e = cc
     go m (some a) e = by (eqb (point_fault y a) 0) e
       where
-        by : (t : Bool) → pick t (P.Point a) (P.Refused (point_fault y a)) ≡ P.Point p → some a ≡ some p
+        by : (t : Bool) → pick t (Good a) (Refused (point_fault y a)) ≡ Good p → some a ≡ some p
         by true q = cc
         by false q = cc
 
 -- a line that is read as a point is the line that is written for it, and its datum begins after the label
-pub point-text : (y : ℤ) (line : List ℕ) (p : Point) → read_point y line ≡ P.Point p → line ≡ point_text p
+pub point-text : (y : ℤ) (line : List ℕ) (p : Point) → read_point y line ≡ Good p → line ≡ point_text p
 point-text y line p e = point-said-text line p (said-point y line p e)
 
-pub point-place : (y : ℤ) (line : List ℕ) (p : Point) → read_point y line ≡ P.Point p → datum_place line ≡ length (label_text p.label)
+pub point-place : (y : ℤ) (line : List ℕ) (p : Point) → read_point y line ≡ Good p → datum_place line ≡ length (label_text p.label)
 unfolding datum_place
 point-place y line p e = rw (said-point y line p e)
 
@@ -228,7 +225,7 @@ pub placed_end : (y : ℤ) (input : List ℕ) (from : ℕ) → (placed_point y i
 unfolding placed_point
 placed_end y input from = refl
 
-pub placed : (y : ℤ) (input : List ℕ) (from : ℕ) {r : PointLine} {place end : ℕ} → (r ≡ read_point y (line_at input from)) × (place ≡ datum_place (line_at input from)) → end ≡ line_end input from → record { line = r; place = place; end = end } ≡ placed_point y input from
+pub placed : (y : ℤ) (input : List ℕ) (from : ℕ) {r : Line Point} {place end : ℕ} → (r ≡ read_point y (line_at input from)) × (place ≡ datum_place (line_at input from)) → end ≡ line_end input from → record { line = r; place = place; end = end } ≡ placed_point y input from
 unfolding placed_point
 placed y input from h e = rw (h.0, h.1, e)
 
@@ -241,7 +238,7 @@ pub one_place : (y : ℤ) (line : List ℕ) → (one_point y line).place ≡ dat
 unfolding one_point
 one_place y line = refl
 
-pub one : (y : ℤ) (line : List ℕ) {r : PointLine} {place end : ℕ} → (r ≡ read_point y line) × (place ≡ datum_place line) → end ≡ length line → record { line = r; place = place; end = end } ≡ one_point y line
+pub one : (y : ℤ) (line : List ℕ) {r : Line Point} {place end : ℕ} → (r ≡ read_point y line) × (place ≡ datum_place line) → end ≡ length line → record { line = r; place = place; end = end } ≡ one_point y line
 unfolding one_point
 one y line h e = rw (h.0, h.1, e)
 

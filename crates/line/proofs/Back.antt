@@ -6,7 +6,7 @@ use Rattle.line.specs.Text.{integer, name_text, line_text, point_text}
 use Rattle.line.specs.Fields.{body, fields, Form, filled, said}
 use Rattle.chain.specs.declared.Point.{Point}
 use Rattle.chain.specs.Faults.{point_fault}
-use Rattle.line.specs.declared.PointLine.TheVariants as P
+use Rattle.line.specs.Answers.{Good}
 use Rattle.line.specs.Forms.{point_form}
 use Rattle.line.specs.Readers.{read_point}
 use Rattle.line.proofs.Lengths.{length-point}
@@ -90,6 +90,6 @@ module _ (y : ℤ) (p : Point) (None-found : point_fault y p ≡ 0) (named : Nam
   point-said =
       line-back point_form (80 ∷ []) after-letter (let h = length-point y p None-found in omega arith) clean-letter clean-fields ∙ filled-point
 
-  pub point-back : read_point y (point_text p) ≡ P.Point p
+  pub point-back : read_point y (point_text p) ≡ Good p
   unfolding read_point
   point-back = rw (point-said, eq-eqb (point_fault y p) 0 None-found)

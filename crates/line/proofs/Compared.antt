@@ -1,35 +1,24 @@
 -- Two lines byte by byte, and two points by their names and issues.
-use Rattle.std.proofs.Common.{◌≡◌, ℕ, suc, ◌+◌, ◌<◌, ◌≤◌, Bool, true, false, eqb, List, [], ◌∷◌, length, get_or, drop, refl, ap, add-one, drop_of_length-le, drop-cons, eq-eqb, ne_eqb}
+use Rattle.std.proofs.Common.{◌≡◌, ℕ, Bool, true, false, ◌&&◌, eqb, List, [], ◌∷◌, refl, eq-eqb, ne_eqb}
+use Rattle.std.specs.Str.{bytes_eq}
 use Rattle.refusal.specs.Numbers as refusal
 use Rattle.refusal.specs.Order.{pick}
 use lib.Signed.{lt_z}
 use Rattle.chain.specs.declared.Point.{Point}
-use Rattle.line.specs.declared.Verdict.TheVariants.{First, Second}
+use Rattle.line.specs.Later.{First, Second}
 use Rattle.line.specs.Later.{same_bytes, refused_in, weighed}
 
-pub same_length : (s t : List ℕ) → (length s ≡ length t → ⊥) → false ≡ same_bytes s t
+-- what `==` says of two slices
+pub same_is : (s t : List ℕ) → bytes_eq s t ≡ same_bytes s t
 unfolding same_bytes
-same_length [] [] h = absurd (h refl)
-same_length [] (b ∷ t) h = refl
-same_length (a ∷ s) [] h = refl
-same_length (a ∷ s) (b ∷ t) h = go (eqb a b) (same_length s t (λ e. h (ap suc e)))
+same_is [] [] = refl
+same_is [] (b ∷ t) = refl
+same_is (a ∷ s) [] = refl
+same_is (a ∷ s) (b ∷ t) = go (eqb a b) (same_is s t)
   where
-    go : (x : Bool) → false ≡ same_bytes s t → false ≡ pick x (same_bytes s t) false
+    go : (x : Bool) → bytes_eq s t ≡ same_bytes s t → (x && bytes_eq s t) ≡ pick x (same_bytes s t) false
     go true e = e
     go false e = refl
-
-module _ (s t : List ℕ) (i : ℕ) where
-  pub same-on : i < length s → i < length t → get_or s i 0 ≡ get_or t i 0 → same_bytes (drop (i + 1) s) (drop (i + 1) t) ≡ same_bytes (drop i s) (drop i t)
-  unfolding same_bytes
-  same-on h k e = rw (drop-cons s i 0 h, drop-cons t i 0 k, eq-eqb (get_or s i 0) (get_or t i 0) e, add-one)
-
-  pub same-off : i < length s → i < length t → (get_or s i 0 ≡ get_or t i 0 → ⊥) → false ≡ same_bytes (drop i s) (drop i t)
-  unfolding same_bytes
-  same-off h k e = rw (drop-cons s i 0 h, drop-cons t i 0 k, ne_eqb (get_or s i 0) (get_or t i 0) e)
-
-  pub same_end : length s ≤ i → length t ≤ i → true ≡ same_bytes (drop i s) (drop i t)
-  unfolding same_bytes
-  same_end h k = rw (drop_of_length-le s h, drop_of_length-le t k)
 
 -- ---- two points
 module _ (p q : Point) (equal : Bool) where

@@ -6,10 +6,9 @@ use native.Mathlib.Decide.{ℕ_discrete}
 use Rattle.ranges.proofs.Ranges.{both}
 use Rattle.chain.specs.declared.Point.{Point}
 use Rattle.line.specs.FirstLine.{Ended, First}
-use Rattle.line.specs.Fields.{body, fields, front, Form, ends, field, onward, taken, head, filled, in_body, said}
+use Rattle.line.specs.Fields.{body, fields, front, Form, ends, field, onward, taken, head, filled, in_body}
 use Rattle.line.specs.Forms.{point_form}
 use Rattle.line.specs.Lines.{first_length, Clear, Onward}
-use Rattle.line.specs.Name.{name_of}
 use Rattle.line.specs.Number.{number_of}
 use Rattle.line.specs.Reading.{from, Tells, Got, TellsLine, Told, capped_z, capped_placed}
 use Rattle.line.proofs.AsWritten.{letter-text}

@@ -6,7 +6,7 @@ use borrow.Author.Tests.{eqb-false}
 use Rattle.refusal.specs.Numbers as refusal
 use Rattle.refusal.specs.Order.{pick}
 use Rattle.chain.specs.declared.Step.{Step}
-use Rattle.line.specs.declared.Fault.{Fault}
+use Rattle.line.specs.Answers.{Fault}
 use Rattle.line.specs.Bytes.{letter_t, letter_v, letter_b, letter_f, letter_p, letter_c, letter_o, letter_g, letter_e, letter_s}
 use Rattle.line.specs.Fields.{body, fields, Form, ends, field, either, into, taken, onward, filled, in_body, said, single, one_of, letter_of}
 use Rattle.line.specs.Name.{name_of}

@@ -1,7 +1,7 @@
 -- Several numbers in a row, which the machine has as they were read: what was told of each is told of the record that holds them. Assumes nothing.
-use Rattle.std.proofs.Common.{◌≡◌, ℕ, ◌+◌, ◌<◌, List, length, ℤ, ◌∙◌, w64, to_z, of_z}
+use Rattle.std.proofs.Common.{◌≡◌, ℕ, List, ℤ, ◌∙◌, w64, to_z, of_z}
 use mathlib.Core.Option.{Option}
-use Rattle.line.specs.Fields.{Form, ends, field}
+use Rattle.line.specs.Fields.{ends, field}
 use Rattle.line.specs.Number.{number_of}
 use Rattle.line.specs.Reading.{capped_z, Got, Told, Tail}
 use Rattle.line.proofs.Walk.{lost, lost-on, more, done}

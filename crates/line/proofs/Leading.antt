@@ -1,5 +1,5 @@
 -- Texts of which a later one takes the end of an earlier one away: the leading digits of a number, written four or eight bytes at a time. Assumes nothing.
-use Rattle.std.proofs.Common.{◌≡◌, ℕ, zero, suc, ◌+◌, ◌-◌, ◌*◌, ◌/◌, ◌%◌, ◌^◌, ◌<◌, ◌≤◌, List, [], ◌∷◌, ◌++◌, length, set, sym, refl, ap, ◌∙◌, append-nil, arith, length-append, set-set}
+use Rattle.std.proofs.Common.{◌≡◌, ℕ, suc, ◌+◌, ◌-◌, ◌*◌, ◌/◌, ◌%◌, ◌^◌, ◌<◌, ◌≤◌, List, [], ◌∷◌, ◌++◌, length, set, sym, refl, ap, ◌∙◌, append-nil, arith, length-append, set-set}
 use lib.Seq.{sets, length-sets, set_comm}
 use native.Mathlib.Decide.{dec_lt}
 use Rattle.line.specs.Text.{decimal, Put, two, four, eight, pair_bytes, half_bytes, Half, Further, Begun}

@@ -1,7 +1,10 @@
 -- Where a letter of a line is wrong: the fields of letters are read one after the other, those between them are passed. Assumes nothing.
-use Rattle.std.proofs.Common.{◌≡◌, ℕ, ◌+◌, ◌<◌, ◌≤◌, Bool, true, false, eqb, List, [], ◌∷◌, ◌++◌, length, sym, refl, ap, ◌∙◌, add-one, arith, ne_eqb, le-leb}
+use Rattle.std.proofs.Common.{◌≡◌, ℕ, ◌+◌, ◌<◌, ◌≤◌, Bool, true, false, eqb, leb, List, [], ◌∷◌, ◌++◌, length, sym, refl, ap, ◌∙◌, add-one, arith, ne_eqb, le-leb}
 use mathlib.Core.Option.{Option, none, some}
 use native.Mathlib.Decide.{dec_lt}
+use Rattle.std.specs.declared.option.Option as declared
+use Rattle.std.specs.declared.option.Option.TheVariants.{None}
+use Rattle.std.specs.Bool.{then_some}
 use borrow.Author.Tests.{lt-leb}
 use Rattle.refusal.specs.Numbers as refusal
 use Rattle.refusal.specs.Order.{pick}
@@ -11,7 +14,7 @@ use Rattle.line.specs.Malformed.{Class, letters, identifier, number, numbers, ki
 use Rattle.line.specs.Name.{name_of}
 use Rattle.line.specs.Number.{number_of}
 use Rattle.line.specs.Reading.{from, Tells, Got}
-use Rattle.line.specs.SecondLook.{rest_of, lettered_of, grid_mark, grid_classes, classes_of, Passed, earlier, FirstWrong, Skipped}
+use Rattle.line.specs.SecondLook.{rest_of, lettered_of, grid_mark, grid_classes, classes_of, Passed, FirstWrong, Skipped}
 use Rattle.line.proofs.Places.{next_place}
 use Rattle.line.proofs.SecondLook.{offending-none}
 use Rattle.line.proofs.Walk as W
@@ -36,31 +39,35 @@ none-offends at (identifier ∷ cs) (f ∷ fs) e = rw (other-number refusal.id r
 none-offends at (number ∷ cs) [] e = refl
 none-offends at (number ∷ cs) (f ∷ fs) e = rw (other-number refusal.plain refl (number_of f)) (none-offends (at + length f + 1) cs fs e)
 
-pub none-wrong : {s : List ℕ} {at place : ℕ} (cs : List Class) → unlettered cs ≡ true → length s < place → FirstWrong refusal.letter s at cs place
-none-wrong {s} {at} {place} cs e h = record { is = rw (lt-leb place (length s) h) (sym (none-offends at cs (from s at) e)) }
+pub none-wrong : {s : List ℕ} {at : ℕ} (cs : List Class) → unlettered cs ≡ true → FirstWrong refusal.letter s at cs None
+none-wrong {s} {at} cs e = record { is = sym (none-offends at cs (from s at) e); within = tt }
 
 -- ---- a field of letters, and the fields after it
 module _ {C : Type 0} {s : List ℕ} {image : ℕ → C} {at : ℕ} {v : C} {next : ℕ} (ls : List ℕ) (cs : List Class) (g : Got s image (letter_of ls) at v next) where
-  -- a place past the end, where there is no such field, says that none is wrong
-  pub letter-wrong : length s + 1 < next → FirstWrong refusal.letter s at (letters ls ∷ cs) at
+  -- past the end, where there is no such field, none is wrong
+  pub letter-wrong : length s + 1 < next → FirstWrong refusal.letter s at (letters ls ∷ cs) (then_some (leb at (length s)) at)
   unfolding offending
-  letter-wrong h = record { is = go (dec_lt (length s) at) }
+  letter-wrong h = go (dec_lt (length s) at)
     where
       by : (o : Option ℕ) (fs : List (List ℕ)) (later : Option ℕ) → Tells s image (taken o fs) v next
           → some at ≡ pick (eqb (unread refusal.letter o) refusal.letter) (some at) later
       by none fs later t = refl
       by (some b) fs later t = absurd (omega (arith, t.1))
 
-      go : Dec (length s < at) → earlier s at none ≡ offending refusal.letter at (letters ls ∷ cs) (from s at)
-      go (yes l) = rw (lt-leb at (length s) l, W.from_past s at l)
+      go : Dec (length s < at) → FirstWrong refusal.letter s at (letters ls ∷ cs) (then_some (leb at (length s)) at)
+      go (yes l) = rw (lt-leb at (length s) l) (record { is = rw (W.from_past s at l); within = tt })
       go (no l) =
           let x = W.field_at s at (omega arith) in
-          rw (le-leb at (length s) (omega arith), x.is)
-          (by (letter_of ls x.first) x.rest (offending refusal.letter (at + length x.first + 1) cs x.rest) (rw x.is at g.tells))
+          let m : at ≤ length s = omega arith in
+          rw (le-leb at (length s) m)
+          (record {
+            is = rw x.is (by (letter_of ls x.first) x.rest (offending refusal.letter (at + length x.first + 1) cs x.rest) (rw x.is at g.tells));
+            within = m;
+          })
 
-  pub letter-on : {place : ℕ} → next ≤ length s + 1 → FirstWrong refusal.letter s next cs place → FirstWrong refusal.letter s at (letters ls ∷ cs) place
+  pub letter-on : {place : declared.Option ℕ} → next ≤ length s + 1 → FirstWrong refusal.letter s next cs place → FirstWrong refusal.letter s at (letters ls ∷ cs) place
   unfolding offending
-  letter-on {place} h w = record { is = w.is ∙ go (from s at) refl g.tells }
+  letter-on {place} h w = record { is = w.is ∙ go (from s at) refl g.tells; within = w.within }
     where
       go : (fs : List (List ℕ)) → from s at ≡ fs → Tells s image (head (letter_of ls) fs) v next
           → offending refusal.letter next cs (from s next) ≡ offending refusal.letter at (letters ls ∷ cs) fs
@@ -100,9 +107,9 @@ module _ {s : List ℕ} {many at left i : ℕ} (k : Skipping s many at left i) w
   skipped-past h =
       record { same = λ cs. k.same cs ∙ rw (W.from_past s i h, offending-none refusal.letter i (numbers left ++ cs), offending-none refusal.letter i cs) }
 
-pub after-numbers : {s : List ℕ} {many at next place : ℕ} (cs : List Class) → Skipped s many at next → FirstWrong refusal.letter s next cs place
+pub after-numbers : {s : List ℕ} {many at next : ℕ} {place : declared.Option ℕ} (cs : List Class) → Skipped s many at next → FirstWrong refusal.letter s next cs place
     → FirstWrong refusal.letter s at (numbers many ++ cs) place
-after-numbers cs k w = record { is = w.is ∙ sym (k.same cs) }
+after-numbers cs k w = record { is = w.is ∙ sym (k.same cs); within = w.within }
 
 -- ---- the letters of each line
 -- no step but a Bursa-Wolf one has a letter after its kind

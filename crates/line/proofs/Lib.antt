@@ -28,7 +28,8 @@ pub mod Counted
 pub mod Words
 pub mod Sums
 pub mod Few
-pub mod Unread
+pub mod NotRead
+pub mod Formed
 pub mod InARow
 pub mod AsWritten
 pub mod Places

@@ -1,9 +1,9 @@
 -- The laws of what is wrong with a line: its place lies in the line, and its number has two digits at most. Assumes nothing.
-use Rattle.std.proofs.Common.{◌≡◌, ℕ, suc, ◌+◌, ◌-◌, ◌<◌, ◌≤◌, min, Bool, true, false, eqb, ltb, leb, List, [], ◌∷◌, length, get_or, take, refl, ap, arith, length-take-le, ltb-true, leb-true}
+use Rattle.std.proofs.Common.{◌≡◌, ℕ, suc, ◌+◌, ◌-◌, ◌<◌, ◌≤◌, min, Bool, true, false, eqb, ltb, leb, List, [], ◌∷◌, length, get_or, take, refl, ap, arith, length-take-le, take_all, ltb-true, leb-true}
 use mathlib.Core.Option.{Option, none, some}
 use Rattle.refusal.specs.Numbers as refusal
 use Rattle.refusal.specs.Order.{pick}
-use Rattle.line.specs.declared.Fault.{Fault}
+use Rattle.line.specs.Answers.{Fault}
 use Rattle.line.specs.Bytes.{tab, line_feed}
 use Rattle.line.specs.Fields.{longest_line, body, front, fields}
 use Rattle.line.specs.Malformed.{Class, Shape, field_fault, offending, end_of, miscounted, fault, or_next, fields_fault, body_fault, fault_of}
@@ -39,6 +39,16 @@ body-length line s e = go (ltb 0 (length line)) refl (leb (length line) longest_
     go true q true l false e = absurd (nothing e)
     go true q false l c e = absurd (nothing e)
     go false q b l c e = absurd (nothing e)
+
+pub body-is : (line s : List ℕ) → body line ≡ some s → take (length line - 1) line ≡ s
+unfolding body
+body-is line s e = go (ltb 0 (length line)) (leb (length line) longest_line) (eqb (get_or line (length line - 1) 0) line_feed) e
+  where
+    go : (a b c : Bool) → pick a (pick b (pick c (some (take (length line - 1) line)) none) none) none ≡ some s → take (length line - 1) line ≡ s
+    go true true true e = cc
+    go true true false e = absurd (nothing e)
+    go true false c e = absurd (nothing e)
+    go false b c e = absurd (nothing e)
 
 -- ---- where a fault lies, and how large its number is
 offending-inside : (n at : ℕ) (cs : List Class) (fs : List (List ℕ)) (p : ℕ) → offending n at cs fs ≡ some p → p + 1 ≤ at + spread fs
@@ -98,6 +108,10 @@ module _ (P : Fault → Type 0) where
           let b = body-length line s q in
           fields-have (shape (fields s)) (end_of line) s (h 0 0 (omega arith) (omega arith) (omega arith))
           (h refusal.count (end_of line) (omega arith) (end-inside line) (end_low line)) (λ n p k l. h n p k (omega arith) (omega arith))
+
+-- a line as a slice of its own
+pub fault-of-whole : (shape : Shape) (line : List ℕ) → fault_of shape (take (length line) line) ≡ fault_of shape line
+fault-of-whole shape line = ap (fault_of shape) (take_all (length line) line (omega arith))
 
 module _ (shape : Shape) (line : List ℕ) where
   pub fault-short : (fault_of shape line).number < 100

@@ -1,15 +1,15 @@
 -- The line of a point that was moved: its label as it stands in the line that was read, copied 32 bytes whatever its length, and the numbers after it. Assumes nothing.
-use Rattle.std.proofs.Common.{◌≡◌, ℕ, zero, suc, ◌+◌, ◌-◌, ◌*◌, ◌/◌, ◌%◌, ◌^◌, ◌<◌, ◌≤◌, true, false, List, [], ◌∷◌, ◌++◌, length, get_or, take, drop, ℤ, pos, negsuc, nat_abs, sym, refl, ap, ◌∙◌, append_assoc, add-zero, pow-suc, add-one, arith, length-append, length-take, length-take-le, drop-cons, ltb-false, leb-true}
-use lib.Seq.{sets, length-sets, take-append_seam}
+use Rattle.std.proofs.Common.{◌≡◌, ℕ, zero, suc, ◌+◌, ◌-◌, ◌*◌, ◌/◌, ◌%◌, ◌^◌, ◌<◌, ◌≤◌, true, false, List, [], ◌∷◌, ◌++◌, length, get_or, take, drop, ℤ, pos, negsuc, sym, refl, ap, ◌∙◌, append_assoc, pow-suc, add-one, arith, length-append, length-take, length-take-le, drop-cons, ltb-false, leb-true}
+use lib.Seq.{sets, take-append_seam}
 use lib.Signed.{lt_z, le_z}
 use Rattle.chain.specs.declared.Label.{Label}
 use Rattle.chain.specs.declared.Point.{Point}
 use Rattle.chain.specs.declared.Position.{Position}
 use Rattle.chain.specs.declared.Realization.{Realization}
-use Rattle.line.specs.declared.PointLine.TheVariants as P
+use Rattle.line.specs.Answers.{Good}
 use Rattle.line.specs.Readers.{read_point, datum_place}
 use Rattle.line.specs.Reading.{Word}
-use Rattle.line.specs.Text.{decimal, integer, name_text, line_text, label_text, moved_text, point_of, point_text, word_bytes, Wrote, Put, Copied}
+use Rattle.line.specs.Text.{decimal, integer, name_text, line_text, label_text, moved_text, point_of, point_text, word_bytes, Put, Copied}
 use Rattle.line.proofs.AsWritten.{point-text, point-place}
 use Rattle.line.proofs.Leading as K
 use Rattle.line.proofs.Texts as T
@@ -54,7 +54,7 @@ pub label_of : (l : Label) (r : Realization) (p : Position) → take (length (la
 label_of l r p = rw (← labelled l r p) (take-append_seam (label_text l) (moved_text r p))
 
 -- the line of a point that was moved: what stands before the datum in the line that was read, and the numbers that it has now
-pub moved-line : (y : ℤ) (line : List ℕ) (p q : Point) → read_point y line ≡ P.Point p → q.label ≡ p.label → take (datum_place line) line ++ moved_text q.realization q.position ≡ point_text q
+pub moved-line : (y : ℤ) (line : List ℕ) (p q : Point) → read_point y line ≡ Good p → q.label ≡ p.label → take (datum_place line) line ++ moved_text q.realization q.position ≡ point_text q
 moved-line y line p q e k =
     ap (λ (t : List ℕ). t ++ moved_text q.realization q.position)
     (ap (λ (n : ℕ). take n line) (point-place y line p e) ∙ ap (take (length (label_text p.label))) (point-text y line p e)

@@ -1,5 +1,6 @@
 -- How a number's digits go on by one, and a number as it is carried, up to the cap.
-use Rattle.std.proofs.Common.{◌≡◌, ℕ, zero, suc, ◌+◌, ◌-◌, ◌*◌, ◌<◌, ◌≤◌, Bool, true, false, eqb, List, [], ◌∷◌, length, get_or, pos, ◌-ℤ◌, neg_ℤ, sym, refl, ap, ◌∙◌, arith, to_z-of_z, w64, SFits, to_z, of_z, eq-eqb, ne_eqb, le-leb}
+use Rattle.std.proofs.Common.{◌≡◌, ℕ, zero, suc, ◌+◌, ◌-◌, ◌*◌, ◌<◌, ◌≤◌, Bool, true, false, eqb, List, [], ◌∷◌, length, get_or, pos, ◌-ℤ◌, neg_ℤ, sym, refl, ap, ◌∙◌, arith, to_z-of_z, w64, SFits, to_z, of_z, eq-eqb, ne_eqb, le-leb, ◌⊎◌, inl, inr, ◌&&◌, leb, leb-true}
+use Rattle.std.specs.Char.{is_ascii_digit}
 use mathlib.Core.Option.{Option, none, some}
 use Rattle.refusal.specs.Order.{pick}
 use lib.IntN.{+ℤ_idl}
@@ -33,6 +34,18 @@ digits-high a b f h = rw (le-leb 48 b (omega arith), lt-leb b 57 h)
 pub data NoDigit (b : ℕ) : Type 0 where
   low : b < 48 → NoDigit b
   high : 57 < b → NoDigit b
+
+pub is-digit : (b : ℕ) → is_ascii_digit b ≡ true → (48 ≤ b) × (b ≤ 57)
+is-digit b e = go (leb 48 b) refl (leb b 57) refl e
+  where
+    go : (t : Bool) → leb 48 b ≡ t → (u : Bool) → leb b 57 ≡ u → (t && u) ≡ true → (48 ≤ b) × (b ≤ 57)
+    go true p true q h = (leb-true 48 b p, leb-true b 57 q)
+    go true p false q h = let w : ◌≡◌ {A = ℕ} 0 1 = cc in absurd (omega arith)
+    go false p u q h = let w : ◌≡◌ {A = ℕ} 0 1 = cc in absurd (omega arith)
+
+pub not-digit : {b : ℕ} → (b < 48) ⊎ (57 < b) → NoDigit b
+not-digit (inl h) = low h
+not-digit (inr h) = high h
 
 pub digits-off : (a b : ℕ) (f : List ℕ) → NoDigit b → digits a (b ∷ f) ≡ none
 digits-off a b f (low h) = digits_low a b f h

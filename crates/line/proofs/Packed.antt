@@ -1,7 +1,7 @@
 -- Digits side by side in one number. Assumes nothing.
 use Rattle.std.proofs.Common.{◌≡◌, ℕ, ◌+◌, ◌-◌, ◌*◌, ◌/◌, ◌%◌, ◌<◌, ◌≤◌, ◌++◌, ap, ◌∙◌, ap₂, arith}
 use lib.Bits.{bit_and, and_block, and_mask}
-use Rattle.line.specs.Text.{two, four, eight, half_bytes, word_bytes, Pairs, pairs_of, Half, Spread}
+use Rattle.line.specs.Text.{two, eight, half_bytes, word_bytes, Pairs, pairs_of, Half, Spread}
 
 -- ---- pairs out of fours
 hundred : (x : ℕ) → x < 10000 → x * 10486 / 1048576 ≡ x / 100

@@ -1,5 +1,5 @@
 -- Where the fields of a line begin: each is as long as its text and the byte after it, so that the datum begins after the label. Assumes nothing.
-use Rattle.std.proofs.Common.{◌≡◌, ℕ, suc, ◌+◌, ◌-◌, ◌<◌, ◌≤◌, eqb, List, [], ◌∷◌, length, drop, ℤ, sym, refl, ap, ◌∙◌, arith, length-append, length-drop, to_z-of_z, w64, to_z, of_z, eq-eqb, ne_eqb}
+use Rattle.std.proofs.Common.{◌≡◌, ℕ, suc, ◌+◌, ◌<◌, ◌≤◌, eqb, List, [], ◌∷◌, length, drop, ℤ, sym, refl, ap, ◌∙◌, arith, length-append, length-drop, to_z-of_z, w64, to_z, of_z, eq-eqb, ne_eqb}
 use mathlib.Core.Option.{Option, none, some}
 use native.Mathlib.Decide.{dec_lt, ℕ_discrete}
 use Rattle.refusal.specs.Order.{pick}

@@ -10,22 +10,11 @@ use Rattle.chain.proofs.PointLaws.{point-fault-short, step-fault-short}
 use Rattle.angle.specs.declared.OriginNumbers.{OriginNumbers}
 use Rattle.angle.specs.Ranges.{origin_fault}
 use Rattle.angle.proofs.Outcomes.{angles-fault-short, origin-fault-short}
-use Rattle.line.specs.declared.Fault.{Fault}
+use Rattle.line.specs.Answers.{Fault, Line, Good, Malformed, Refused}
+use Rattle.std.specs.Prelude.{Some, Result, Ok, Err}
 use Rattle.line.specs.declared.Geodetic.{Geodetic}
-use Rattle.line.specs.declared.PointLine.{PointLine}
-use Rattle.line.specs.declared.PointLine.TheVariants as point-line
-use Rattle.line.specs.declared.StepLine.{StepLine}
-use Rattle.line.specs.declared.StepLine.TheVariants as step_line
-use Rattle.line.specs.declared.OriginLine.{OriginLine}
-use Rattle.line.specs.declared.OriginLine.TheVariants as origin-line
-use Rattle.line.specs.declared.GeodeticLine.{GeodeticLine}
-use Rattle.line.specs.declared.GeodeticLine.TheVariants as geodetic-line
-use Rattle.line.specs.declared.EditionLine.{EditionLine}
-use Rattle.line.specs.declared.EditionLine.TheVariants as edition-line
 use Rattle.line.specs.declared.GridHeader.{GridHeader}
-use Rattle.line.specs.declared.GridLine.TheVariants as grid-line
 use Rattle.line.specs.declared.VelocityParts.{VelocityParts}
-use Rattle.line.specs.declared.NodeLine.TheVariants as node-line
 use Rattle.line.specs.Fields.{longest_line, body, fields, Form, ends, field, taken, onward, filled, in_body, said}
 use Rattle.line.specs.Name.{name_of}
 use Rattle.line.specs.Number.{number_of}
@@ -97,49 +86,49 @@ fault-small shape line = record { number = fault-short shape line; inside = faul
 pub strange-small : (line : List ℕ) → Small line (strange_fault line)
 strange-small line = fault-small unknown_shape line
 
-pub point-outcome : (y : ℤ) (P : PointLine → Type 0) (line : List ℕ) → ((p : Point) → point_fault y p ≡ 0 → 18 ≤ length line → P (point-line.Point p)) → ((f : Fault) → Small line f → P (point-line.Malformed f)) → ((n : ℕ) → n < 100 → P (point-line.Refused n)) → P (read_point y line)
+pub point-outcome : (y : ℤ) (P : Line Point → Type 0) (line : List ℕ) → ((p : Point) → point_fault y p ≡ 0 → 18 ≤ length line → P (Good p)) → ((f : Fault) → Small line f → P (Malformed f)) → ((n : ℕ) → n < 100 → P (Refused n)) → P (read_point y line)
 unfolding read_point
-point-outcome y P line G M B = outcome (point_fault y) (point-fault-short y) point-line.Point point-line.Refused _ P (said point_form line) (λ p e f. G p f (point-long line p e)) (M _ (fault-small _ line)) B
+point-outcome y P line G M B = outcome (point_fault y) (point-fault-short y) Good Refused _ P (said point_form line) (λ p e f. G p f (point-long line p e)) (M _ (fault-small _ line)) B
 
-pub step-outcome : (y : ℤ) (P : StepLine → Type 0) (line : List ℕ) → ((s : Step) → step_fault y s ≡ 0 → P (step_line.Step s)) → ((f : Fault) → Small line f → P (step_line.Malformed f)) → ((n : ℕ) → n < 100 → P (step_line.Refused n)) → P (read_step y line)
+pub step-outcome : (y : ℤ) (P : Line Step → Type 0) (line : List ℕ) → ((s : Step) → step_fault y s ≡ 0 → P (Good s)) → ((f : Fault) → Small line f → P (Malformed f)) → ((n : ℕ) → n < 100 → P (Refused n)) → P (read_step y line)
 unfolding read_step
-step-outcome y P line G M B = outcome (step_fault y) (step-fault-short y) step_line.Step step_line.Refused _ P (said step_form line) (λ s e f. G s f) (M _ (fault-small _ line)) B
+step-outcome y P line G M B = outcome (step_fault y) (step-fault-short y) Good Refused _ P (said step_form line) (λ s e f. G s f) (M _ (fault-small _ line)) B
 
-pub origin-outcome : (P : OriginLine → Type 0) (line : List ℕ) → ((o : OriginNumbers) → origin_fault o ≡ 0 → P (origin-line.Origin o)) → ((f : Fault) → Small line f → P (origin-line.Malformed f)) → ((n : ℕ) → n < 100 → P (origin-line.Refused n)) → P (read_origin line)
+pub origin-outcome : (P : Line OriginNumbers → Type 0) (line : List ℕ) → ((o : OriginNumbers) → origin_fault o ≡ 0 → P (Good o)) → ((f : Fault) → Small line f → P (Malformed f)) → ((n : ℕ) → n < 100 → P (Refused n)) → P (read_origin line)
 unfolding read_origin
-origin-outcome P line G M B = outcome origin_fault origin-fault-short origin-line.Origin origin-line.Refused _ P (said origin_form line) (λ o e f. G o f) (M _ (fault-small _ line)) B
+origin-outcome P line G M B = outcome origin_fault origin-fault-short Good Refused _ P (said origin_form line) (λ o e f. G o f) (M _ (fault-small _ line)) B
 
-pub geodetic-outcome : (P : GeodeticLine → Type 0) (line : List ℕ) → ((g : Geodetic) → 8 ≤ length line → P (geodetic-line.Geodetic g)) → ((f : Fault) → Small line f → P (geodetic-line.Malformed f)) → ((n : ℕ) → n < 100 → P (geodetic-line.Refused n)) → P (read_geodetic line)
+pub geodetic-outcome : (P : Line Geodetic → Type 0) (line : List ℕ) → ((g : Geodetic) → 8 ≤ length line → P (Good g)) → ((f : Fault) → Small line f → P (Malformed f)) → ((n : ℕ) → n < 100 → P (Refused n)) → P (read_geodetic line)
 unfolding read_geodetic
-geodetic-outcome P line G M B = outcome geodetic_fault (λ g. angles-fault-short g.latitude g.longitude) geodetic-line.Geodetic geodetic-line.Refused _ P (said geodetic_form line) (λ g e f. G g (geodetic-long line g e)) (M _ (fault-small _ line)) B
+geodetic-outcome P line G M B = outcome geodetic_fault (λ g. angles-fault-short g.latitude g.longitude) Good Refused _ P (said geodetic_form line) (λ g e f. G g (geodetic-long line g e)) (M _ (fault-small _ line)) B
 
-pub edition-outcome : (P : EditionLine → Type 0) (line : List ℕ) → ((y : ℤ) → P (edition-line.Edition y)) → ((f : Fault) → Small line f → P (edition-line.Malformed f)) → P (read_edition line)
+pub edition-outcome : (P : Result ℤ Fault → Type 0) (line : List ℕ) → ((y : ℤ) → P (Ok y)) → ((f : Fault) → Small line f → P (Err f)) → P (read_edition line)
 unfolding read_edition
 edition-outcome P line G M = go (said edition_form line)
   where
-    go : (o : Option ℤ) → P (edition_as (edition-line.Malformed (fault_of edition_shape line)) o)
+    go : (o : Option ℤ) → P (edition_as (Err (fault_of edition_shape line)) o)
     go none = M _ (fault-small _ line)
     go (some y) = G _
 
 -- ---- a reader that gives a record has found no fault
-pub point-sound : (y : ℤ) (line : List ℕ) (p : Point) → read_point y line ≡ point-line.Point p → point_fault y p ≡ 0
-point-sound y line p = point-outcome y (λ (r : PointLine). r ≡ point-line.Point p → point_fault y p ≡ 0) line (λ q f h e. let z : q ≡ p = cc in ap (point_fault y) (sym z) ∙ f) (λ f h e. let z : ◌≡◌ {A = ℕ} 0 1 = cc in absurd (omega arith)) (λ n h e. let z : ◌≡◌ {A = ℕ} 0 1 = cc in absurd (omega arith))
+pub point-sound : (y : ℤ) (line : List ℕ) (p : Point) → read_point y line ≡ Good p → point_fault y p ≡ 0
+point-sound y line p = point-outcome y (λ (r : Line Point). r ≡ Good p → point_fault y p ≡ 0) line (λ q f h e. let z : q ≡ p = cc in ap (point_fault y) (sym z) ∙ f) (λ f h e. let z : ◌≡◌ {A = ℕ} 0 1 = cc in absurd (omega arith)) (λ n h e. let z : ◌≡◌ {A = ℕ} 0 1 = cc in absurd (omega arith))
 
-pub step-sound : (y : ℤ) (line : List ℕ) (s : Step) → read_step y line ≡ step_line.Step s → step_fault y s ≡ 0
-step-sound y line s = step-outcome y (λ (r : StepLine). r ≡ step_line.Step s → step_fault y s ≡ 0) line (λ q f e. let z : q ≡ s = cc in ap (step_fault y) (sym z) ∙ f) (λ f h e. let z : ◌≡◌ {A = ℕ} 0 1 = cc in absurd (omega arith)) (λ n h e. let z : ◌≡◌ {A = ℕ} 0 1 = cc in absurd (omega arith))
+pub step-sound : (y : ℤ) (line : List ℕ) (s : Step) → read_step y line ≡ Good s → step_fault y s ≡ 0
+step-sound y line s = step-outcome y (λ (r : Line Step). r ≡ Good s → step_fault y s ≡ 0) line (λ q f e. let z : q ≡ s = cc in ap (step_fault y) (sym z) ∙ f) (λ f h e. let z : ◌≡◌ {A = ℕ} 0 1 = cc in absurd (omega arith)) (λ n h e. let z : ◌≡◌ {A = ℕ} 0 1 = cc in absurd (omega arith))
 
-pub origin-sound : (line : List ℕ) (o : OriginNumbers) → read_origin line ≡ origin-line.Origin o → origin_fault o ≡ 0
-origin-sound line o = origin-outcome (λ (r : OriginLine). r ≡ origin-line.Origin o → origin_fault o ≡ 0) line (λ q f e. let z : q ≡ o = cc in ap origin_fault (sym z) ∙ f) (λ f h e. let z : ◌≡◌ {A = ℕ} 0 1 = cc in absurd (omega arith)) (λ n h e. let z : ◌≡◌ {A = ℕ} 0 1 = cc in absurd (omega arith))
+pub origin-sound : (line : List ℕ) (o : OriginNumbers) → read_origin line ≡ Good o → origin_fault o ≡ 0
+origin-sound line o = origin-outcome (λ (r : Line OriginNumbers). r ≡ Good o → origin_fault o ≡ 0) line (λ q f e. let z : q ≡ o = cc in ap origin_fault (sym z) ∙ f) (λ f h e. let z : ◌≡◌ {A = ℕ} 0 1 = cc in absurd (omega arith)) (λ n h e. let z : ◌≡◌ {A = ℕ} 0 1 = cc in absurd (omega arith))
 
 -- ---- a line that says a year, a header or a node's parts as its form has it is read as that, carried up to the cap
-pub edition-read : (line : List ℕ) (year : ℤ) → said edition_form line ≡ some year → read_edition line ≡ edition-line.Edition (capped_z year)
+pub edition-read : (line : List ℕ) (year : ℤ) → said edition_form line ≡ some year → read_edition line ≡ Ok (capped_z year)
 unfolding read_edition
 edition-read line year e = rw e
 
-pub header_read : (line : List ℕ) (g : GridHeader) → said grid_form line ≡ some g → read_grid_header line ≡ grid-line.Header (capped_header g)
+pub header_read : (line : List ℕ) (g : GridHeader) → said grid_form line ≡ some g → read_grid_header line ≡ Ok (capped_header g)
 unfolding read_grid_header
 header_read line g e = rw e
 
-pub node-read : (line : List ℕ) (p : VelocityParts) → hyphen_line line ≡ false → said node_form line ≡ some p → read_node line ≡ node-line.Parts (capped_parts p)
+pub node-read : (line : List ℕ) (p : VelocityParts) → hyphen_line line ≡ false → said node_form line ≡ some p → read_node line ≡ Ok (Some (capped_parts p))
 unfolding read_node
 node-read line p h e = rw (h, e)

@@ -1,15 +1,19 @@
 -- The second look at a bad line, field by field: what the code's functions keep. Assumes nothing.
-use Rattle.std.proofs.Common.{◌≡◌, ℕ, zero, suc, ◌+◌, ◌-◌, ◌<◌, ◌≤◌, min, Bool, true, false, eqb, leb, List, [], ◌∷◌, ◌++◌, length, get_or, take, drop, sym, refl, ap, ◌∙◌, add-one, arith, length-append, eq-eqb, ne_eqb, le-leb}
+use Rattle.std.proofs.Common.{◌≡◌, ℕ, zero, suc, ◌+◌, ◌-◌, ◌<◌, ◌≤◌, min, Bool, true, false, not, eqb, leb, List, [], ◌∷◌, ◌++◌, length, get_or, take, drop, sym, refl, ap, ◌∙◌, add-one, arith, length-append, eq-eqb, ne_eqb, le-leb}
 use mathlib.Core.Option.{Option, none, some}
 use lib.ListN.{get_elem?}
+use Rattle.std.specs.declared.option.Option as declared
+use Rattle.std.specs.declared.option.Option.TheVariants.{Some, None}
+use Rattle.std.specs.Option.{option_or}
+use Rattle.std.specs.Bool.{then_some}
 use borrow.Author.Tests.{lt-leb}
 use Rattle.refusal.specs.Numbers as refusal
 use Rattle.refusal.specs.Order.{pick}
-use Rattle.line.specs.Bytes.{line_feed, letter_s, letter_t, letter_v, letter_b, letter_f}
+use Rattle.line.specs.Bytes.{line_feed, letter_s}
 use Rattle.line.specs.Fields.{longest_line, body, fields, front, taken, head, single, one_of}
-use Rattle.line.specs.Malformed.{Class, letters, number, numbers, byte_of, kind_of, kind_shape, unread, field_fault, offending, end_of, fault, fields_fault}
+use Rattle.line.specs.Malformed.{Class, letters, number, numbers, byte_of, kind_of, unread, field_fault, offending, end_of, fault, fields_fault}
 use Rattle.line.specs.Reading.{from, fronts, Tells, Got, Framed, itself}
-use Rattle.line.specs.SecondLook.{step_rest, classes_of, first_fault, Passed, earlier, FirstWrong, Looked}
+use Rattle.line.specs.SecondLook.{classes_of, first_fault, Passed, place_told, Within, earlier, FirstWrong, Looked}
 use Rattle.line.proofs.Walk as W
 use Rattle.line.proofs.Names.{fronts-snoc}
 
@@ -27,23 +31,6 @@ numbers-past (suc n) (suc i) h = numbers-past n i (omega arith)
 -- a field after the first
 pub later : (c : Class) (cs : List Class) (i j : ℕ) → i ≡ j + 1 → get_elem? (c ∷ cs) i ≡ get_elem? cs j
 later c cs i j e = rw (e, add-one j)
-
--- a step's four numbers after its kind, and what follows them
-pub step-number : (k i : ℕ) → 0 < i → i < 5 → get_elem? (step_rest k) i ≡ some number
-step-number k zero h l = absurd (omega arith)
-step-number k (suc zero) h l = refl
-step-number k (suc (suc zero)) h l = refl
-step-number k (suc (suc (suc zero))) h l = refl
-step-number k (suc (suc (suc (suc zero)))) h l = refl
-step-number k (suc (suc (suc (suc (suc i))))) h l = absurd (omega arith)
-
-pub step_after : (k i j : ℕ) → i ≡ j + 5 → get_elem? (step_rest k) i ≡ get_elem? (kind_shape k) j
-step_after k i j e =
-    later (letters (letter_t ∷ letter_v ∷ letter_b ∷ letter_f ∷ [])) (numbers 4 ++ kind_shape k) i (j + 4) (omega arith)
-    ∙ later number (numbers 3 ++ kind_shape k) (j + 4) (j + 3) (omega arith)
-    ∙ later number (numbers 2 ++ kind_shape k) (j + 3) (j + 2) (omega arith)
-    ∙ later number (numbers 1 ++ kind_shape k) (j + 2) (j + 1) (omega arith)
-    ∙ later number (kind_shape k) (j + 1) j refl
 
 -- ---- where a field ends: bytes that are no tab, so far
 pub record Begun (s : List ℕ) (at i : ℕ) : Type 0 where
@@ -122,6 +109,16 @@ faulted {s = s} {image} {read} {at} {v} {next} c n g h same =
     go none fs t = rw (lt-leb next (length s + 1) t)
     go (some b) fs t = rw (le-leb next (length s + 1) t.1)
 
+-- ---- whether it is bad as its class
+pub bad : {B C : Type 0} {s : List ℕ} {image : B → C} {read : List ℕ → Option B} {at : ℕ} {v : C} {next : ℕ} (c : Class) (n : ℕ) → 0 < n
+    → Got s image read at v next → at ≤ length s → ((f : List ℕ) → field_fault c f ≡ unread n (read f))
+    → not (leb next (length s + 1)) ≡ eqb (first_fault (some c) (from s at)) n
+bad {s = s} {next = next} c n positive g h same = rw (sym (faulted c n g h same)) (go (leb next (length s + 1)))
+  where
+    go : (t : Bool) → not t ≡ eqb (pick t 0 n) n
+    go true = sym (ne_eqb 0 n (λ e. omega arith))
+    go false = sym (eq-eqb n n refl)
+
 -- ---- the walk over the fields: a place found before, or what is found from here on
 pub offending-none : (n at : ℕ) (cs : List Class) → offending n at cs [] ≡ none
 unfolding offending
@@ -137,93 +134,106 @@ offending-on n at h (c ∷ cs) zero f fs = refl
 offending-on n at h (c ∷ cs) (suc i) f fs = offending-on n at h cs i f fs
 
 module _ (n : ℕ) (positive : 0 < n) (s : List ℕ) (cs : List Class) (at i : ℕ) {next : ℕ} (h : at ≤ length s) (p : Passed s at next) where
-  held_on : (before : ℕ) {after wrong : ℕ} → wrong ≡ first_fault (get_elem? cs i) (from s at)
-      → after ≡ pick (leb before (length s)) before (pick (eqb wrong n) at before)
-      → earlier s after (offending n next (drop (i + 1) cs) (from s next)) ≡ earlier s before (offending n at (drop i cs) (from s at))
+  held_on : (before : declared.Option ℕ) {after : declared.Option ℕ} {wrong : Bool} → wrong ≡ eqb (first_fault (get_elem? cs i) (from s at)) n
+      → after ≡ option_or before (then_some wrong at)
+      → earlier (place_told after) (offending n next (drop (i + 1) cs) (from s next)) ≡ earlier (place_told before) (offending n at (drop i cs) (from s at))
   held_on before {after} {wrong} w q =
-      let e : offending n at (drop i cs) (from s at) ≡ pick (eqb wrong n) (some at) (offending n next (drop (i + 1) cs) (from s next)) =
+      let e : offending n at (drop i cs) (from s at) ≡ pick wrong (some at) (offending n next (drop (i + 1) cs) (from s next)) =
       rw (w, p.there, add-one i)
       (offending-on n at positive cs i p.bytes (from s next)
       ∙ ap (λ (k : ℕ). pick (eqb (first_fault (get_elem? cs i) (p.bytes ∷ from s next)) n) (some at) (offending n k (drop (suc i) cs) (from s next)))
       (sym p.place)) in
-      rw (e, q) (go (leb before (length s)) refl (eqb wrong n))
+      rw (e, q) (go before wrong)
     where
       rest : Option ℕ
       rest = offending n next (drop (i + 1) cs) (from s next)
 
-      go : (b : Bool) → leb before (length s) ≡ b → (t : Bool)
-          → earlier s (pick b before (pick t at before)) rest ≡ pick b (some before) (pick t (some at) rest)
-      go true e t = rw e
-      go false e true = rw (le-leb at (length s) h)
-      go false e false = rw e
+      go : (o : declared.Option ℕ) (t : Bool) → earlier (place_told (option_or o (then_some t at))) rest ≡ earlier (place_told o) (pick t (some at) rest)
+      go (Some x) t = refl
+      go None true = refl
+      go None false = refl
 
-pub record Looking (s : List ℕ) (cs : List Class) (id plain count at : ℕ) : Type 0 where
-  pub id-at : earlier s id (offending refusal.id at (drop count cs) (from s at)) ≡ offending refusal.id 0 cs (from s 0)
-  pub plain_at : earlier s plain (offending refusal.plain at (drop count cs) (from s at)) ≡ offending refusal.plain 0 cs (from s 0)
+-- what is found is within the line
+within-then : (s : List ℕ) (at : ℕ) → at ≤ length s → (wrong : Bool) → Within s (then_some wrong at)
+within-then s at h true = h
+within-then s at h false = tt
+
+within_or : (s : List ℕ) (before next : declared.Option ℕ) → Within s before → Within s next → Within s (option_or before next)
+within_or s None next w v = v
+within_or s (Some x) next w v = w
+
+pub record Looking (s : List ℕ) (cs : List Class) (id plain : declared.Option ℕ) (count at : ℕ) : Type 0 where
+  pub id-at : earlier (place_told id) (offending refusal.id at (drop count cs) (from s at)) ≡ offending refusal.id 0 cs (from s 0)
+  pub plain_at : earlier (place_told plain) (offending refusal.plain at (drop count cs) (from s at)) ≡ offending refusal.plain 0 cs (from s 0)
+  pub id-within : Within s id
+  pub plain_within : Within s plain
   pub inside : at ≤ length s + 1
   pub few : count ≤ at
 
-pub looking : (s : List ℕ) (cs : List Class) (past : ℕ) → length s < past → Looking s cs past past 0 0
-looking s cs past h = record { id-at = start refusal.id; plain_at = start refusal.plain; inside = omega arith; few = omega arith }
-  where
-    start : (n : ℕ) → earlier s past (offending n 0 cs (from s 0)) ≡ offending n 0 cs (from s 0)
-    start n = rw (lt-leb past (length s) h)
+pub looking : (s : List ℕ) (cs : List Class) → Looking s cs None None 0 0
+looking s cs = record { id-at = refl; plain_at = refl; id-within = tt; plain_within = tt; inside = omega arith; few = omega arith }
 
-pub looking-on : {s : List ℕ} {cs : List Class} {id plain count at id' plain' next wrong : ℕ} → Looking s cs id plain count at
-    → at ≤ length s → Passed s at next → wrong ≡ first_fault (get_elem? cs count) (from s at)
-    → id' ≡ pick (leb id (length s)) id (pick (eqb wrong refusal.id) at id)
-    → plain' ≡ pick (leb plain (length s)) plain (pick (eqb wrong refusal.plain) at plain)
+pub looking-on : {s : List ℕ} {cs : List Class} {id plain id' plain' : declared.Option ℕ} {count at next : ℕ} {bad-id bad-number : Bool} → Looking s cs id plain count at
+    → at ≤ length s → Passed s at next
+    → bad-id ≡ eqb (first_fault (get_elem? cs count) (from s at)) refusal.id → id' ≡ option_or id (then_some bad-id at)
+    → bad-number ≡ eqb (first_fault (get_elem? cs count) (from s at)) refusal.plain → plain' ≡ option_or plain (then_some bad-number at)
     → Looking s cs id' plain' (count + 1) next
-looking-on {s} {cs} {id} {plain} {count} {at} k h p w i n =
+looking-on {s} {cs} {id} {plain} {count = count} {at} {bad-id = bad-id} {bad-number} k h p w i v n =
     record {
       id-at = held_on refusal.id (omega arith) s cs at count h p id w i ∙ k.id-at;
-      plain_at = held_on refusal.plain (omega arith) s cs at count h p plain w n ∙ k.plain_at;
+      plain_at = held_on refusal.plain (omega arith) s cs at count h p plain v n ∙ k.plain_at;
+      id-within = rw i (within_or s id _ k.id-within (within-then s at h bad-id));
+      plain_within = rw n (within_or s plain _ k.plain_within (within-then s at h bad-number));
       inside = p.inside;
       few = omega (arith, k.few, p.place);
     }
 
-pub looked : {s : List ℕ} {cs : List Class} {id plain count at : ℕ} → Looking s cs id plain count at → length s < at → Looked s cs id plain
+pub looked : {s : List ℕ} {cs : List Class} {id plain : declared.Option ℕ} {count at : ℕ} → Looking s cs id plain count at → length s < at → Looked s cs id plain
 looked {s} {cs} {id} {plain} {count} {at} k h =
-    record { id-at = closed refusal.id id k.id-at; plain_at = closed refusal.plain plain k.plain_at }
+    record { id-at = closed refusal.id id k.id-within k.id-at; plain_at = closed refusal.plain plain k.plain_within k.plain_at }
   where
-    closed : (n p : ℕ) → earlier s p (offending n at (drop count cs) (from s at)) ≡ offending n 0 cs (from s 0) → FirstWrong n s 0 cs p
-    closed n p e = record { is = rw (W.from_past s at h, offending-none n at (drop count cs)) at e }
+    last : (o : declared.Option ℕ) → earlier (place_told o) none ≡ place_told o
+    last None = refl
+    last (Some x) = refl
+
+    closed : (n : ℕ) (o : declared.Option ℕ) → Within s o → earlier (place_told o) (offending n at (drop count cs) (from s at)) ≡ offending n 0 cs (from s 0) → FirstWrong n s 0 cs o
+    closed n o w e = record { is = sym (last o) ∙ (rw (W.from_past s at h, offending-none n at (drop count cs)) at e); within = w }
 
 -- what was found, and that nothing was
-module _ {n : ℕ} {s : List ℕ} {cs : List Class} {p : ℕ} (w : FirstWrong n s 0 cs p) where
-  seen : p ≤ length s → offending n 0 cs (fields s) ≡ some p
-  seen h = rw (← W.from_start s) (sym w.is ∙ rw (le-leb p (length s) h))
+module _ {n : ℕ} {s : List ℕ} {cs : List Class} {o : declared.Option ℕ} (w : FirstWrong n s 0 cs o) where
+  seen : {place : ℕ} → o ≡ Some place → offending n 0 cs (fields s) ≡ some place
+  seen e = rw (← W.from_start s) (sym w.is ∙ ap place_told e)
 
-  unseen : length s < p → offending n 0 cs (fields s) ≡ none
-  unseen h = rw (← W.from_start s) (sym w.is ∙ rw (lt-leb p (length s) h))
+  unseen : o ≡ None → offending n 0 cs (fields s) ≡ none
+  unseen e = rw (← W.from_start s) (sym w.is ∙ ap place_told e)
+
+  pub place_within : {place : ℕ} → o ≡ Some place → place ≤ length s
+  place_within e = rw e at w.within
 
 -- ---- what was found decides
-module _ {s : List ℕ} {cs : List Class} {letter : ℕ} (w : FirstWrong refusal.letter s 0 cs letter) (end : ℕ) where
-  pub is-letter : letter ≤ length s → fault refusal.letter letter ≡ fields_fault cs end (fields s)
+module _ {s : List ℕ} {cs : List Class} {letter : declared.Option ℕ} (w : FirstWrong refusal.letter s 0 cs letter) (end : ℕ) where
+  pub is-letter : {place : ℕ} → letter ≡ Some place → fault refusal.letter place ≡ fields_fault cs end (fields s)
   unfolding fields_fault
   is-letter l = rw (seen w l)
 
-  module _ (l : length s < letter) {count : ℕ} (counted : count ≡ length (fields s)) where
-    pub is-count : (count ≡ length cs → ⊥) → fault refusal.count end ≡ fields_fault cs end (fields s)
+  module _ (l : letter ≡ None) where
+    pub is-count : eqb (length (fields s)) (length cs) ≡ false → fault refusal.count end ≡ fields_fault cs end (fields s)
     unfolding fields_fault
-    is-count n = rw (unseen w l, ne_eqb (length (fields s)) (length cs) (λ e. n (counted ∙ e)))
+    is-count n = rw (unseen w l, n)
 
-    module _ (n : count ≡ length cs) {id plain : ℕ} (k : Looked s cs id plain) where
-      as_many : eqb (length (fields s)) (length cs) ≡ true
-      as_many = eq-eqb (length (fields s)) (length cs) (sym counted ∙ n)
-
-      pub is-id : id ≤ length s → fault refusal.id id ≡ fields_fault cs end (fields s)
+    module _ (n : eqb (length (fields s)) (length cs) ≡ true) {id plain : declared.Option ℕ} (k : Looked s cs id plain) where
+      pub is-id : {place : ℕ} → id ≡ Some place → fault refusal.id place ≡ fields_fault cs end (fields s)
       unfolding fields_fault
-      is-id i = rw (unseen w l, as_many, seen k.id-at i)
+      is-id i = rw (unseen w l, n, seen k.id-at i)
 
-      module _ (i : length s < id) where
-        pub is_plain : plain ≤ length s → fault refusal.plain plain ≡ fields_fault cs end (fields s)
+      module _ (i : id ≡ None) where
+        pub is_plain : {place : ℕ} → plain ≡ Some place → fault refusal.plain place ≡ fields_fault cs end (fields s)
         unfolding fields_fault
-        is_plain p = rw (unseen w l, as_many, unseen k.id-at i, seen k.plain_at p)
+        is_plain p = rw (unseen w l, n, unseen k.id-at i, seen k.plain_at p)
 
-        pub is_none : length s < plain → fault 0 0 ≡ fields_fault cs end (fields s)
+        pub is_none : plain ≡ None → fault 0 0 ≡ fields_fault cs end (fields s)
         unfolding fields_fault
-        is_none p = rw (unseen w l, as_many, unseen k.id-at i, unseen k.plain_at p)
+        is_none p = rw (unseen w l, n, unseen k.id-at i, unseen k.plain_at p)
 
 -- the shape, by the kind of a step; no other line's shape goes by it
 pub any-kind : (mark k l : ℕ) → (mark ≡ letter_s → ⊥) → classes_of mark k ≡ classes_of mark l

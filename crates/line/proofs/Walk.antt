@@ -1,5 +1,6 @@
 -- Walking along a line: what stands at a place, and how readings of its fields go one after the other.
-use Rattle.std.proofs.Common.{◌≡◌, ℕ, suc, ◌+◌, ◌-◌, ◌<◌, ◌≤◌, List, [], ◌∷◌, length, get_or, take, drop, sym, refl, ap, ◌∙◌, add-one, arith, drop_of_length-le, drop-cons, le-ltb, lt-ltb, eq-eqb, ne_eqb, le-leb}
+use Rattle.std.proofs.Common.{◌≡◌, ℕ, true, false, eqb, suc, ◌+◌, ◌-◌, ◌<◌, ◌≤◌, List, [], ◌∷◌, length, get_or, take, drop, sym, refl, ap, ◌∙◌, add-one, arith, drop_of_length-le, drop-cons, le-ltb, lt-ltb, eq-eqb, ne_eqb, le-leb}
+use Rattle.std.specs.List.{list_any}
 use mathlib.Core.Option.{Option, none, some}
 use native.Mathlib.Decide.{dec_lt, ℕ_discrete}
 use borrow.Author.Tests.{lt-leb}
@@ -172,9 +173,22 @@ module _ {s : List ℕ} {at b next : ℕ} (ls : List ℕ) (g : Got s itself sing
       go [] t = h
       go (f ∷ fs) t = by (single f) fs t
 
--- one of some letters
-pub is_one : (ls : List ℕ) {b l : ℕ} → b ≡ l → one_of ls (some l) ≡ some l → one_of ls (some b) ≡ some b
-is_one ls e m = rw e m
+-- a byte that is, or is not, one of some letters
+pub one-is : (ls : List ℕ) (b : ℕ) → list_any (λ l. eqb l b) ls ≡ true → one_of ls (some b) ≡ some b
+one-is [] b e = cc
+one-is (l ∷ ls) b e = go (ℕ_discrete b l) (one-is ls b)
+  where
+    go : Dec (b ≡ l) → (list_any (λ l. eqb l b) ls ≡ true → one_of ls (some b) ≡ some b) → one_of (l ∷ ls) (some b) ≡ some b
+    go (yes z) on = rw (eq-eqb b l z)
+    go (no n) on = rw (ne_eqb b l n) (on (rw (ne_eqb l b (λ z. n (sym z))) at e))
+
+pub one-is_not : (ls : List ℕ) (b : ℕ) → list_any (λ l. eqb l b) ls ≡ false → one_of ls (some b) ≡ none
+one-is_not [] b e = refl
+one-is_not (l ∷ ls) b e = go (ℕ_discrete b l) (one-is_not ls b)
+  where
+    go : Dec (b ≡ l) → (list_any (λ l. eqb l b) ls ≡ false → one_of ls (some b) ≡ none) → one_of (l ∷ ls) (some b) ≡ none
+    go (yes z) on = let f : true ≡ false = rw (eq-eqb l b (sym z)) at e in cc
+    go (no n) on = rw (ne_eqb b l n) (on (rw (ne_eqb l b (λ z. n (sym z))) at e))
 
 -- a line's bytes before its line feed
 module _ (line : List ℕ) where

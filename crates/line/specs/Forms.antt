@@ -39,12 +39,12 @@ abbrev pub step_of : Realization → Realization → Kind → Step
 step_of before after kind = record { kind = kind; before = before; after = after }
 
 -- T or V: three numbers
-unfoldable pub three_form : (ℤ → ℤ → ℤ → Kind) → Form Kind
-three_form kind =
+unfoldable pub three_form : {A : Type 0} → (ℤ → ℤ → ℤ → A) → Form A
+three_form of =
     field number_of λ x.
     field number_of λ y.
     field number_of λ z.
-    ends (kind x y z)
+    ends (of x y z)
 
 abbrev pub shift : ℤ → ℤ → ℤ → Kind
 shift x y z = Shift (record { dx = x; dy = y; dz = z })
@@ -86,6 +86,17 @@ step_form =
     field number_of λ datum'.
     field number_of λ epoch'.
     into (step_of (record { datum = datum; epoch = epoch }) (record { datum = datum'; epoch = epoch' })) (kind_form kind)
+
+-- a letter and five numbers
+unfoldable pub five_form : {A : Type 0} → ℕ → (ℤ → ℤ → ℤ → ℤ → ℤ → A) → Form A
+five_form l of =
+    field (letter l) λ _.
+    field number_of λ v.
+    field number_of λ w.
+    field number_of λ x.
+    field number_of λ y.
+    field number_of λ z.
+    ends (of v w x y z)
 
 -- O, ellipsoid, latitude, longitude, FE, FN
 unfoldable pub origin_form : Form OriginNumbers

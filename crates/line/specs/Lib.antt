@@ -3,6 +3,7 @@ pub mod Number
 pub mod Fields
 pub mod Name
 pub mod Forms
+pub mod Answers
 pub mod Malformed
 pub mod Readers
 pub mod Lines

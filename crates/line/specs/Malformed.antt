@@ -4,7 +4,7 @@ use Rattle.std.specs.Prelude.{ℕ, ◌+◌, ◌-◌, min, List, [], ◌∷◌, �
 use Rattle.std.proofs.Math.Option.{Option, none, some}
 use Rattle.refusal.specs.Numbers as refusal
 use Rattle.refusal.specs.Order.{pick}
-use Rattle.line.specs.declared.Fault.{Fault}
+use Rattle.line.specs.Answers.{Fault}
 use Rattle.line.specs.Bytes.{line_feed, letter_p, letter_s, letter_t, letter_v, letter_b, letter_f, letter_c, letter_o, letter_g, letter_e}
 use Rattle.line.specs.Fields.{longest_line, body, fields, single, letter_of}
 use Rattle.line.specs.Name.{name_of}

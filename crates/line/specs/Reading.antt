@@ -1,6 +1,8 @@
 -- How the code walks along a line: a reader is handed the place where a field begins, and tells the place where the next one begins.
-use Rattle.std.specs.Prelude.{◌≡◌, ℕ, zero, suc, ◌+◌, ◌-◌, ◌*◌, ◌/◌, ◌%◌, ◌^◌, ◌<◌, ◌≤◌, min, true, false, List, [], ◌∷◌, length, take, drop, ℤ, pos, negsuc, neg_ℤ, bit_and, nat_le, slice_index}
+use Rattle.std.specs.Prelude.{◌≡◌, ℕ, Result, Ok, Err, zero, suc, ◌+◌, ◌*◌, ◌/◌, ◌%◌, ◌^◌, ◌<◌, ◌≤◌, min, true, false, List, [], ◌∷◌, length, take, drop, ℤ, pos, negsuc, neg_ℤ, bit_and, nat_le, slice_index, FitsSigned}
 use Rattle.std.proofs.Math.Option.{Option, none, some}
+use Rattle.std.specs.Borrow.{Bor}
+use Rattle.refusal.specs.Numbers as refusal
 use Rattle.refusal.specs.Order.{pick}
 use Rattle.chain.specs.declared.Point.{Point}
 use Rattle.chain.specs.declared.Kind.{Kind}
@@ -11,7 +13,12 @@ use Rattle.angle.specs.Carried.{carried_origin}
 use Rattle.line.specs.declared.Geodetic.{Geodetic}
 use Rattle.line.specs.declared.GridHeader.{GridHeader}
 use Rattle.line.specs.declared.VelocityParts.{VelocityParts}
-use Rattle.line.specs.Fields.{fields, front, head, Form, filled}
+use Rattle.std.specs.Int.{w64}
+use Rattle.line.specs.declared.Fault as declared
+use Rattle.line.specs.declared.form.Fields.{Fields}
+use Rattle.line.specs.Answers.{Fault, fault_told}
+use Rattle.line.specs.Malformed.{fault}
+use Rattle.line.specs.Fields.{body, fields, front, head, Form, filled}
 use Rattle.line.specs.Name.{word, all_name_bytes, is_name_byte}
 use Rattle.line.specs.Bytes.{tab, zero_byte, nine_byte}
 use Rattle.line.specs.Number.{digits}
@@ -232,3 +239,42 @@ capped_header g =
 
 abbrev pub capped_parts : VelocityParts → VelocityParts
 capped_parts p = record { east = capped_z p.east; north = capped_z p.north; up = capped_z p.up }
+
+-- ---- a whole line
+-- a line's bytes before its line feed, as the code hands them on: where it has none, it is refused for its length (18)
+abbrev pub Bodied : Option (List ℕ) → ℕ → Result (Bor (List ℕ)) declared.Fault → Type 0
+Bodied none end (Ok b) = ⊥
+Bodied none end (Err f) = fault_told f ≡ fault refusal.length end
+Bodied (some s) end (Ok b) = b.now ≡ s
+Bodied (some s) end (Err f) = ⊥
+
+-- what a line says, by what its bytes before the line feed say
+abbrev pub in_line : {A : Type 0} → (List ℕ → Option A) → Option (List ℕ) → Option A
+in_line says none = none
+in_line says (some s) = says s
+
+-- a record, or what is wrong with its line
+abbrev pub form_as : {A : Type 0} → Fault → Option A → Result A Fault
+form_as wrong none = Err wrong
+form_as wrong (some a) = Ok a
+
+-- a reader that tells the fields of every body, and a line of which nothing is told, with which something is wrong
+abbrev pub TellsFields : {A : Type 0} → (Bor (List ℕ) → Fields A → Type 0) → (List ℕ → Option A) → Type 0
+TellsFields post says = (s : Bor (List ℕ)) (r : _) → post s r → TellsLine s.now itself (says s.now) r.record r.next
+
+abbrev pub WrongUnsaid : {A : Type 0} → (List ℕ → Option A) → List ℕ → Fault → Type 0
+WrongUnsaid says line f = in_line says (body line) ≡ none → 0 < f.number
+
+-- ---- a record of three numbers or five, as the code makes it, and as it is carried
+abbrev pub MakesThree : {A : Type 0} → (ℤ → ℤ → ℤ → A → Type 0) → (ℤ → ℤ → ℤ → A) → Type 0
+MakesThree {A} post of = (x y z : ℤ) (r : A) → FitsSigned w64 x → FitsSigned w64 y → FitsSigned w64 z → post x y z r → r ≡ of x y z
+
+abbrev pub CarriesThree : {A : Type 0} → (A → A) → (ℤ → ℤ → ℤ → A) → Type 0
+CarriesThree image of = (x y z : ℤ) → of (capped_z x) (capped_z y) (capped_z z) ≡ image (of x y z)
+
+abbrev pub MakesFive : {A : Type 0} → (ℤ → ℤ → ℤ → ℤ → ℤ → A → Type 0) → (ℤ → ℤ → ℤ → ℤ → ℤ → A) → Type 0
+MakesFive {A} post of =
+    (v w x y z : ℤ) (r : A) → FitsSigned w64 v → FitsSigned w64 w → FitsSigned w64 x → FitsSigned w64 y → FitsSigned w64 z → post v w x y z r → r ≡ of v w x y z
+
+abbrev pub CarriesFive : {A : Type 0} → (A → A) → (ℤ → ℤ → ℤ → ℤ → ℤ → A) → Type 0
+CarriesFive image of = (v w x y z : ℤ) → of (capped_z v) (capped_z w) (capped_z x) (capped_z y) (capped_z z) ≡ image (of v w x y z)

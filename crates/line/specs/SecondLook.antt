@@ -1,5 +1,6 @@
 -- How the code looks at a bad line a second time, field by field.
-use Rattle.std.specs.Prelude.{◌≡◌, ℕ, ◌+◌, ◌≤◌, List, [], ◌∷◌, ◌++◌, length, ◌==◌, nat_le}
+use Rattle.std.specs.Prelude.{◌≡◌, ℕ, ◌+◌, ◌≤◌, List, [], ◌∷◌, ◌++◌, length, ◌==◌, Some, None}
+use Rattle.std.specs.declared.option.Option as declared
 use Rattle.std.proofs.Math.Option.{Option, none, some}
 use Rattle.refusal.specs.Numbers as refusal
 use Rattle.refusal.specs.Order.{pick}
@@ -60,19 +61,31 @@ pub record Passed (s : List ℕ) (at next : ℕ) : Type 0 where
   pub inside : next ≤ length s + 1
 
 -- ---- the whole line
--- a place that was found before, or what is found from here on; a place past the end says that nothing was
-abbrev pub earlier : List ℕ → ℕ → Option ℕ → Option ℕ
-earlier s p later = pick (nat_le p (length s)) (some p) later
+-- a place that the code has found
+abbrev pub place_told : declared.Option ℕ → Option ℕ
+place_told None = none
+place_told (Some place) = some place
+
+-- it is within the line
+abbrev pub Within : List ℕ → declared.Option ℕ → Type 0
+Within s None = Unit {0}
+Within s (Some place) = place ≤ length s
+
+-- a place that was found before, or what is found from here on
+abbrev pub earlier : Option ℕ → Option ℕ → Option ℕ
+earlier none later = later
+earlier (some place) later = some place
 
 -- where the first field with fault n begins, of those from `at` on, which are to be of these classes
-pub record FirstWrong (n : ℕ) (s : List ℕ) (at : ℕ) (cs : List Class) (place : ℕ) : Type 0 where
-  pub is : earlier s place none ≡ offending n at cs (from s at)
+pub record FirstWrong (n : ℕ) (s : List ℕ) (at : ℕ) (cs : List Class) (place : declared.Option ℕ) : Type 0 where
+  pub is : place_told place ≡ offending n at cs (from s at)
+  pub within : Within s place
 
 -- so many numbers from `at` on are passed: a letter that is wrong after them is the same from `next` on
 pub record Skipped (s : List ℕ) (many at next : ℕ) : Type 0 where
   pub same : (cs : List Class) → offending refusal.letter at (numbers many ++ cs) (from s at) ≡ offending refusal.letter next cs (from s next)
 
 -- ids and numbers
-pub record Looked (s : List ℕ) (cs : List Class) (id plain : ℕ) : Type 0 where
+pub record Looked (s : List ℕ) (cs : List Class) (id plain : declared.Option ℕ) : Type 0 where
   pub id-at : FirstWrong refusal.id s 0 cs id
   pub plain_at : FirstWrong refusal.plain s 0 cs plain

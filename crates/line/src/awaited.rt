@@ -1,6 +1,7 @@
 // What each field of a line is to be, by the line's mark and, of a step, by its kind. The mark is the first letter, but for the lines of a velocity grid.
 ghost use Rattle.std.specs.Prelude.{◌≡◌, ◌+◌, ◌∷◌, length};
 ghost use Rattle.std.proofs.Math.ListN.{get_elem?};
+ghost use Rattle.line.specs.Bytes.{letter_b};
 ghost use Rattle.line.specs.Malformed.{identifier, numbers, kind_shape};
 ghost use Rattle.line.specs.SecondLook.{class_of, step_rest, lettered_of, grid_classes, classes_of};
 
@@ -42,23 +43,26 @@ fn named_at(index: usize, count: usize) -> Awaited
     }
 }
 
+// Of a convention and seven numbers.
+fn convention_at(index: usize) -> Awaited
+    ensures { class_of result ≡ get_elem? (kind_shape letter_b) index }
+{
+    if index == 0 {
+        Awaited::Convention
+    } else {
+        number_at(index - 1, 7)
+    }
+}
+
 // Of what a step has after its second epoch.
 fn by_kind_at(kind: u8, index: usize) -> Awaited
     ensures { class_of result ≡ get_elem? (kind_shape kind) index }
 {
-    if kind == b'T' {
-        return number_at(index, 3);
+    match kind {
+        b'T' | b'V' => number_at(index, 3),
+        b'B' => convention_at(index),
+        _ => Awaited::Nothing,
     }
-    if kind == b'V' {
-        return number_at(index, 3);
-    }
-    if kind == b'B' {
-        if index == 0 {
-            return Awaited::Convention;
-        }
-        return number_at(index - 1, 7);
-    }
-    Awaited::Nothing
 }
 
 // Of what a step has after its first letter.
@@ -82,22 +86,14 @@ fn lettered_at(first: u8, kind: u8, index: usize) -> Awaited
         return Awaited::Letter(first);
     }
     let i = index - 1;
-    if first == b'P' {
-        return named_at(i, 7);
+    match first {
+        b'P' => named_at(i, 7),
+        b'S' => step_at(kind, i),
+        b'O' => number_at(i, 5),
+        b'G' => named_at(i, 2),
+        b'E' => number_at(i, 1),
+        _ => Awaited::Nothing,
     }
-    if first == b'S' {
-        return step_at(kind, i);
-    }
-    if first == b'O' {
-        return number_at(i, 5);
-    }
-    if first == b'G' {
-        return named_at(i, 2);
-    }
-    if first == b'E' {
-        return number_at(i, 1);
-    }
-    Awaited::Nothing
 }
 
 // Of the header of a velocity grid.
@@ -114,56 +110,45 @@ fn grid_at(index: usize) -> Awaited
 pub fn class_at(mark: u8, kind: u8, index: usize) -> Awaited
     ensures { class_of result ≡ get_elem? (classes_of mark kind) index }
 {
-    if mark == NODE {
-        return number_at(index, 3);
+    match mark {
+        NODE => number_at(index, 3),
+        GRID => grid_at(index),
+        _ => lettered_at(mark, kind, index),
     }
-    if mark == GRID {
-        return grid_at(index);
-    }
-    lettered_at(mark, kind, index)
 }
 
 // How many fields a step line is to have, by its kind.
 fn step_count(kind: u8) -> usize
     ensures { result ≡ length (step_rest kind) + 1 }
 {
-    if kind == b'T' {
-        return 9;
+    match kind {
+        b'T' | b'V' => 9,
+        b'B' => 14,
+        _ => 6,
     }
-    if kind == b'V' {
-        return 9;
-    }
-    if kind == b'B' { 14 } else { 6 }
 }
 
 // How many fields a line is to have that begins with a letter of its own.
 fn lettered_count(first: u8, kind: u8) -> usize
     ensures { result ≡ length (lettered_of first kind) }
 {
-    if first == b'P' {
-        return 9;
+    match first {
+        b'P' => 9,
+        b'S' => step_count(kind),
+        b'O' => 6,
+        b'G' => 4,
+        b'E' => 2,
+        _ => 1,
     }
-    if first == b'S' {
-        return step_count(kind);
-    }
-    if first == b'O' {
-        return 6;
-    }
-    if first == b'G' {
-        return 4;
-    }
-    if first == b'E' { 2 } else { 1 }
 }
 
 // How many fields a line is to have.
 pub fn count_of(mark: u8, kind: u8) -> usize
     ensures { result ≡ length (classes_of mark kind) }
 {
-    if mark == NODE {
-        return 3;
+    match mark {
+        NODE => 3,
+        GRID => 6,
+        _ => lettered_count(mark, kind),
     }
-    if mark == GRID {
-        return 6;
-    }
-    lettered_count(mark, kind)
 }

@@ -27,18 +27,13 @@ fn among_sixteen(input: &[u8], at: usize) -> bool
 }
 
 // A place in the line that begins at `from`, with its line feed, or the input's end, less than sixteen bytes on.
+// stays a while: it goes on by sixteen until one of three tests ends it
 fn past_sixteens(input: &[u8], from: usize) -> usize
     ensures { Onward input.now from result }
 {
     let mut place = from;
-    while place < input.len() {
-        if input.len() - place < 16 {
-            break;
-        }
-        if among_sixteen(input, place) {
-            break;
-        }
-        place = place + 16;
+    while place < input.len() && 16 <= input.len() - place && !among_sixteen(input, place) {
+        place += 16;
     }
     place
 }
@@ -47,14 +42,12 @@ fn past_sixteens(input: &[u8], from: usize) -> usize
 fn end_near(input: &[u8], from: usize) -> usize
     ensures { result ≡ line_end input.now from }
 {
-    let mut place = from;
-    while place < input.len() {
+    for place in from..input.len() {
         if input[place] == LINE_FEED {
             return place + 1;
         }
-        place = place + 1;
     }
-    place
+    from.max(input.len())
 }
 
 // The same where sixteen bytes are left: their number is fixed, so the compiler sets the sixteen tests in a row, with no test of the input's end between them.
@@ -62,12 +55,10 @@ fn end_in_sixteen(input: &[u8], from: usize) -> usize
     requires { from + 16 ≤ length input.now }
     ensures { result ≡ line_end input.now from }
 {
-    let mut clear: usize = 0;
-    while clear < 16 {
+    for clear in 0..16 {
         if input[from + clear] == LINE_FEED {
             return from + clear + 1;
         }
-        clear = clear + 1;
     }
     end_near(input, from + 16)
 }
@@ -77,10 +68,8 @@ pub fn line_end(input: &[u8], from: usize) -> usize
     ensures { result ≡ line_end input.now from }
 {
     let near = past_sixteens(input, from);
-    if near < input.len() {
-        if 16 <= input.len() - near {
-            return end_in_sixteen(input, near);
-        }
+    if near < input.len() && 16 <= input.len() - near {
+        return end_in_sixteen(input, near);
     }
     end_near(input, near)
 }

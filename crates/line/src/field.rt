@@ -1,7 +1,8 @@
 // Where fields begin and end. A reader is handed the line's bytes before its line feed and the place where its field begins, and tells
 // the place where the next field begins: one past the length where there is none, and two past it where its own field is bad or missing.
 // So a bad field makes every later one bad, and a line is read in one pass with a single test at its end.
-ghost use Rattle.std.specs.Prelude.{◌≡◌, ◌+◌, ◌<◌, length};
+// stays a place, and no Option: an Option would be tested after each of a good line's nine fields
+ghost use Rattle.std.specs.Prelude.{◌≡◌, ◌+◌, ◌<◌, ◌≤◌, true, length};
 ghost use Rattle.line.specs.Fields.{single, letter, body};
 ghost use Rattle.line.specs.Reading.{Got, Framed, empty, itself, unit};
 
@@ -21,6 +22,13 @@ pub fn nowhere(s: &[u8]) -> usize
     ensures { result ≡ length s.now + 2 }
 {
     s.len() + 2
+}
+
+// Are there so many bytes from `at` on, of so many in all?
+pub fn reaches(length: usize, at: usize, many: usize) -> bool
+    ensures { result ≡ true → at + many ≤ length }
+{
+    many <= length && at <= length - many
 }
 
 // Where the next field begins, if this one ends at `at`.

@@ -4,11 +4,14 @@
 // of any length. What is refused is refused for its form first, whatever its numbers are.
 #![tactic(auto)]
 
+ghost use Rattle.line.specs.Answers.{gives_malformed, gives_refused};
+
 mod awaited;
 mod compare;
 mod edition_line;
 mod ends;
 mod field;
+mod form;
 mod geodetic_line;
 mod grid_line;
 mod name;
@@ -31,17 +34,41 @@ pub use node_line::read_node;
 pub use origin_line::read_origin;
 pub use other_line::strange;
 pub use point_line::{read_one, read_placed, read_point};
+use refusal::Refusal;
 pub use step_line::read_step;
 pub use write::feeds::write_feeds;
 pub use write::lot::write_lot;
 pub use write::{write_moved, write_point, write_projected, write_refusal};
 
-// What is wrong with the form of a line: a number of the refusal table, and the byte in the line, from 0, where the first offending field begins. For LENGTH and
-// COUNT the place is the line's length without its line feed, at most 200.
+// What is wrong with the form of a line, and the byte in the line, from 0, where the first offending field begins. For LENGTH and COUNT the place is the
+// line's length without its line feed, at most 200.
 #[derive(Clone, Copy)]
 pub struct Fault {
-    pub number: u8,
+    pub refusal: Refusal,
     pub place: u8,
+}
+
+// Why a line is not read as a record: it is not of the form, or the form is good and what the fields say is not.
+#[derive(Clone, Copy)]
+pub enum Unread {
+    Malformed(Fault),
+    Refused(Refusal),
+}
+
+impl From<Fault> for Unread {
+    ghost from_gives = { gives_malformed };
+
+    fn from(fault: Fault) -> Unread {
+        Unread::Malformed(fault)
+    }
+}
+
+impl From<Refusal> for Unread {
+    ghost from_gives = { gives_refused };
+
+    fn from(refusal: Refusal) -> Unread {
+        Unread::Refused(refusal)
+    }
 }
 
 // Bare line feeds that were answered: how many, and the place past what was written for them.
@@ -51,40 +78,13 @@ pub struct Feeds {
     pub at: usize,
 }
 
-// A reader answers three ways: the record; malformed, where the line is not of the form; refused with a number of the refusal table, where the form is
-// good and what the fields say is not.
-
-// P: a control point.
-#[derive(Clone, Copy)]
-pub enum PointLine {
-    Point(chain::Point),
-    Malformed(Fault),
-    Refused(u8),
-}
-
-// P: the line of an input that begins at some place, as a point line; the place in the line where the datum begins, 0 where the line is malformed: what stands before it
-// is the point's label, as it is written; and the place in the input where the line ends.
+// P: the line of an input that begins at some place, as a point line; the place in the line where the datum begins, 0 where the line is malformed: what
+// stands before it is the point's label, as it is written; and the place in the input where the line ends.
 #[derive(Clone, Copy)]
 pub struct PlacedLine {
-    pub line: PointLine,
+    pub line: Result<chain::Point, Unread>,
     pub place: usize,
     pub end: usize,
-}
-
-// S: a step of a chain.
-#[derive(Clone, Copy)]
-pub enum StepLine {
-    Step(chain::Step),
-    Malformed(Fault),
-    Refused(u8),
-}
-
-// O: a state origin, by its whole numbers.
-#[derive(Clone, Copy)]
-pub enum OriginLine {
-    Origin(angle::OriginNumbers),
-    Malformed(Fault),
-    Refused(u8),
 }
 
 // G: a named position, latitude and longitude in 0.00001".
@@ -93,21 +93,6 @@ pub struct Geodetic {
     pub id: chain::Id,
     pub latitude: i64,
     pub longitude: i64,
-}
-
-#[derive(Clone, Copy)]
-pub enum GeodeticLine {
-    Geodetic(Geodetic),
-    Malformed(Fault),
-    Refused(u8),
-}
-
-// E: the edition of the circular that a job is under, by its year. The year is not examined: that is for whoever knows where the line may stand. It is carried up
-// to 10^13 in size, and a larger one as 10^13.
-#[derive(Clone, Copy)]
-pub enum EditionLine {
-    Edition(i64),
-    Malformed(Fault),
 }
 
 // G, of a velocity grid: the latitude and longitude of its south-west corner in 0.00001", rows, columns, and the mesh in minutes.
@@ -120,13 +105,6 @@ pub struct GridHeader {
     pub mesh: i64,
 }
 
-// The numbers are not examined, and are carried up to 10^13 in size, a larger one as 10^13: their ranges are for the grid.
-#[derive(Clone, Copy)]
-pub enum GridLine {
-    Header(GridHeader),
-    Malformed(Fault),
-}
-
 // East, north and up, in hundredths of a millimetre a year.
 #[derive(Clone, Copy)]
 pub struct VelocityParts {
@@ -135,34 +113,18 @@ pub struct VelocityParts {
     pub up: i64,
 }
 
-// A node of a velocity grid: its parts, carried likewise, or no value.
-#[derive(Clone, Copy)]
-pub enum NodeLine {
-    Parts(VelocityParts),
-    NoValue,
-    Malformed(Fault),
-}
-
-// Why neither of two point lines is the later one: a number of the refusal table; the line it is given for, 1 or 2, or 0 where neither alone is at fault; and the
-// place in that line, 0 but for a line of bad form. All three are 0 where nothing is refused.
+// Why neither of two point lines is the later one; the line it is given for, 1 or 2, or 0 where neither alone is at fault; and the place in that line,
+// 0 but for a line of bad form.
 #[derive(Clone, Copy)]
 pub struct LaterFault {
-    pub number: u8,
+    pub refusal: Refusal,
     pub line: u8,
     pub place: u8,
 }
 
-// Which of two point lines is the later one, or why neither is.
+// Which of two point lines is the later one.
 #[derive(Clone, Copy)]
-pub enum Verdict {
+pub enum Which {
     First,
     Second,
-    Refused(LaterFault),
-}
-
-// The later of two point lines: that part of the caller's bytes, and no fault; or an empty part of the first and the fault.
-#[derive(Clone, Copy)]
-pub struct Later<'a> {
-    pub part: &'a [u8],
-    pub fault: LaterFault,
 }

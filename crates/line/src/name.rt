@@ -4,6 +4,7 @@ ghost use Rattle.line.specs.Name.{is_name_byte, name_of};
 ghost use Rattle.line.specs.Reading.{Got, Packed, itself};
 
 use crate::field::{closed, nowhere};
+use crate::number::wide;
 
 // The bytes of a name, each as the bit at its own place, less 64 from there on.
 const NAME_BYTES: u64 = 287984085681307646;
@@ -20,12 +21,6 @@ pub struct Named {
 struct Word {
     value: u64,
     end: usize,
-}
-
-fn wide(b: u8) -> u64
-    ensures { result ≡ b }
-{
-    b as u64
 }
 
 // By one bit for each byte from the hyphen to Z: fewer tests than by the three kinds of byte.
@@ -47,9 +42,8 @@ fn eight(s: &[u8], at: usize) -> Word
 {
     let mut value: u64 = 0;
     let mut scale: u64 = 72057594037927936;
-    let mut left: u64 = 8;
     let mut i = at;
-    while 0 < left {
+    for _ in 0..8u64 {
         if s.len() <= i {
             break;
         }
@@ -57,10 +51,9 @@ fn eight(s: &[u8], at: usize) -> Word
         if !is_name_byte(b) {
             break;
         }
-        value = value + wide(b) * scale;
-        scale = scale / 256;
-        left = left - 1;
-        i = i + 1;
+        value += wide(b) * scale;
+        scale /= 256;
+        i += 1;
     }
     Word { value, end: i }
 }

@@ -4,7 +4,7 @@ ghost use Rattle.std.specs.Prelude.{◌≡◌, ◌<◌, ◌≤◌, pos, neg_ℤ}
 ghost use Rattle.line.specs.Number.{digits, plain, number_of};
 ghost use Rattle.line.specs.Reading.{Got, capped, capped_z, cap, Long, Sized, Onto, Carried};
 
-use crate::field::{closed, nowhere};
+use crate::field::{closed, nowhere, reaches};
 use crate::number::words::{ZEROS, eight, other_eight, word};
 
 pub mod counted;
@@ -34,7 +34,7 @@ struct Natural {
     next: usize,
 }
 
-fn wide(b: u8) -> u64
+pub fn wide(b: u8) -> u64
     ensures { (result ≡ b) × (result < 256) }
 {
     b as u64
@@ -43,7 +43,7 @@ fn wide(b: u8) -> u64
 fn at_most_cap(a: u64) -> u64
     ensures { result ≡ capped a }
 {
-    if a < CAP { a } else { CAP }
+    a.min(CAP)
 }
 
 // The digits from `at` on, of a number that is past the cap already: only the field's end is told.
@@ -51,14 +51,9 @@ fn rest(s: &[u8], at: usize) -> usize
     ensures { Long s.now at result }
 {
     let mut i = at;
-    while i < s.len() {
-        if s[i] < ZERO {
-            return closed(s, i);
-        }
-        if NINE < s[i] {
-            return closed(s, i);
-        }
-        i = i + 1;
+    // stays a while: it goes on as long as there are digits, and tells where they end
+    while i < s.len() && s[i].is_ascii_digit() {
+        i += 1;
     }
     closed(s, i)
 }
@@ -68,15 +63,13 @@ fn ahead(s: &[u8], at: usize, first: u64) -> Natural
     requires { first < 10 }
     ensures { Carried s.now at first result.next result.value }
 {
-    if 8 <= s.len() {
-        if at <= s.len() - 8 {
-            let d = word(s, at) ^ ZEROS;
-            if !other_eight(d) {
-                return Natural {
-                    value: first * 100000000 + eight(d),
-                    next: at + 8,
-                };
-            }
+    if reaches(s.len(), at, 8) {
+        let d = word(s, at) ^ ZEROS;
+        if !other_eight(d) {
+            return Natural {
+                value: first * 100000000 + eight(d),
+                next: at + 8,
+            };
         }
     }
     Natural {
@@ -92,21 +85,16 @@ fn few(s: &[u8], at: usize, first: u64) -> Natural
 {
     let mut a = first;
     let mut i = at;
-    let mut left: u64 = 4;
-    while 0 < left {
+    for _ in 0..4u64 {
         if s.len() <= i {
             break;
         }
         let b = s[i];
-        if b < ZERO {
-            break;
-        }
-        if NINE < b {
+        if !b.is_ascii_digit() {
             break;
         }
         a = a * 10 + (wide(b) - 48);
-        i = i + 1;
-        left = left - 1;
+        i += 1;
     }
     Natural { value: a, next: i }
 }
@@ -120,22 +108,16 @@ fn magnitude(s: &[u8], at: usize, first: u64) -> Natural
     let begun = few(s, nine.next, nine.value);
     let mut a = begun.value;
     let mut i = begun.next;
-    while i < s.len() {
-        let b = s[i];
-        if b < ZERO {
-            break;
-        }
-        if NINE < b {
-            break;
-        }
+    // stays a while, likewise
+    while i < s.len() && s[i].is_ascii_digit() {
         if ROOM <= a {
             return Natural {
                 value: CAP,
                 next: rest(s, i),
             };
         }
-        a = a * 10 + (wide(b) - 48);
-        i = i + 1;
+        a = a * 10 + (wide(s[i]) - 48);
+        i += 1;
     }
     Natural {
         value: at_most_cap(a),
@@ -155,10 +137,8 @@ fn unsigned(s: &[u8], at: usize) -> Natural
                 next: closed(s, at + 1),
             };
         }
-        if ZERO < b {
-            if b <= NINE {
-                return magnitude(s, at + 1, wide(b) - 48);
-            }
+        if b.is_ascii_digit() {
+            return magnitude(s, at + 1, wide(b) - 48);
         }
     }
     Natural {

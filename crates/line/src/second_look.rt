@@ -1,6 +1,8 @@
 // A second look at a line that its reader has found bad: what is wrong with it, and at which byte. Good lines never come here.
 ghost use Rattle.std.specs.Prelude.{◌≡◌, ◌+◌, ◌≤◌, length, ◌==◌, nat_le};
-ghost use Rattle.refusal.specs.Order.{pick};
+ghost use Rattle.refusal.specs.Numbers as numbers;
+ghost use Rattle.refusal.specs.Refusals as refusals;
+ghost use Rattle.line.specs.Answers.{fault_told, form_fault_told};
 ghost use Rattle.line.specs.Fields.{fields};
 ghost use Rattle.line.specs.Reading.{from};
 ghost use Rattle.line.specs.Malformed.{kind_of, end_of, fault, fields_fault, fault_of};
@@ -8,19 +10,19 @@ ghost use Rattle.line.specs.SecondLook.{classes_of, class_of, first_fault, Passe
 
 use crate::Fault;
 use crate::awaited::{Awaited, class_at, count_of};
-use crate::field::{LINE_FEED, TAB, body_end, letter, nowhere, single};
+use crate::field::{LINE_FEED, TAB, body_end, single};
 use crate::name::name;
 use crate::number::number;
 use crate::second_look::letters::letter_place;
-use crate::step_line::{convention_letter, kind_letter};
+use refusal::Refusal;
 
 mod letters;
 
-// Where the first field begins that is wrong as an id, and as a number; past the end where there is none.
+// Where the first field begins that is wrong as an id, and as a number.
 #[derive(Clone, Copy)]
 struct Seen {
-    id: usize,
-    plain: usize,
+    id: Option<usize>,
+    plain: Option<usize>,
 }
 
 // Where the field after the one at `at` begins.
@@ -28,23 +30,21 @@ pub(crate) fn after(s: &[u8], at: usize) -> usize
     requires { at ≤ length s.now }
     ensures { Passed s.now at result }
 {
-    let mut i = at;
-    while i < s.len() {
+    for i in at..s.len() {
         if s[i] == TAB {
             return i + 1;
         }
-        i = i + 1;
     }
-    i + 1
+    s.len() + 1
 }
 
 // The kind of a step: its second field, 0 where that is not one byte.
+// stays a byte: the classes go by any byte, and no kind is 0
 fn kind_of(s: &[u8]) -> u8
     ensures { result ≡ kind_of (fields s.now) }
 {
-    let second = after(s, 0);
-    let c = single(s, second);
-    if c.next <= s.len() + 1 { c.byte } else { 0 }
+    let c = single(s, after(s, 0));
+    if is_read(s, c.next) { c.byte } else { 0 }
 }
 
 // The kind by which the classes of the line's fields go. Only a step has one, and no other line is asked for it.
@@ -61,89 +61,69 @@ fn tabs(s: &[u8]) -> u8
     ensures { result + 1 ≡ length (fields s.now) }
 {
     let mut count: u8 = 0;
-    let mut i: usize = 0;
-    while i < s.len() {
-        if s[i] == TAB {
-            count = count + 1;
+    for b in s {
+        if *b == TAB {
+            count += 1;
         }
-        i = i + 1;
     }
     count
 }
 
-// The number of a field's class, where its reader has told no place for the next field.
-fn unless_read(s: &[u8], next: usize, number: u8) -> u8
-    ensures { result ≡ pick (nat_le next (length s.now + 1)) 0 number }
+// Has the field's reader told a place for the next one?
+pub(crate) fn is_read(s: &[u8], next: usize) -> bool
+    ensures { result ≡ nat_le next (length s.now + 1) }
 {
-    if next <= s.len() + 1 { 0 } else { number }
+    next <= s.len() + 1
 }
 
-// What is wrong with the field at `at`: LETTER, ID, PLAIN, or 0.
-fn field_fault(s: &[u8], at: usize, awaited: Awaited) -> u8
+// Is the field at `at` to be an id, and none?
+fn is_bad_id(s: &[u8], at: usize, awaited: Awaited) -> bool
     requires { at ≤ length s.now }
-    ensures { result ≡ first_fault (class_of awaited) (from s.now at) }
+    ensures { result ≡ (first_fault (class_of awaited) (from s.now at) == numbers.id) }
 {
     match awaited {
-        Awaited::Letter(l) => {
-            let next = letter(s, at, l);
-            unless_read(s, next, refusal::LETTER)
-        }
-        Awaited::Kind => {
-            let c = kind_letter(s, at);
-            unless_read(s, c.next, refusal::LETTER)
-        }
-        Awaited::Convention => {
-            let c = convention_letter(s, at);
-            unless_read(s, c.next, refusal::LETTER)
-        }
-        Awaited::Identifier => {
-            let n = name(s, at);
-            unless_read(s, n.next, refusal::ID)
-        }
-        Awaited::Number => {
-            let n = number(s, at);
-            unless_read(s, n.next, refusal::PLAIN)
-        }
-        Awaited::Nothing => 0,
+        Awaited::Identifier => !is_read(s, name(s, at).next),
+        _ => false,
     }
 }
 
-// The place found before, or this one where the fault of the field here is the one looked for.
-fn sooner(s: &[u8], before: usize, at: usize, fault: u8, number: u8) -> usize
-    ensures { result ≡ pick (nat_le before (length s.now)) before (pick (fault == number) at before) }
+// Is it to be a number, and none?
+fn is_bad_number(s: &[u8], at: usize, awaited: Awaited) -> bool
+    requires { at ≤ length s.now }
+    ensures { result ≡ (first_fault (class_of awaited) (from s.now at) == numbers.plain) }
 {
-    if before <= s.len() {
-        return before;
+    match awaited {
+        Awaited::Number => !is_read(s, number(s, at).next),
+        _ => false,
     }
-    if fault == number { at } else { before }
 }
 
 // Every field, once, for ids and numbers.
 fn look(s: &[u8], first: u8, kind: u8) -> Seen
     ensures { Looked s.now (classes_of first kind) result.id result.plain }
 {
-    let mut id = nowhere(s);
-    let mut plain = id;
+    let mut id = None;
+    let mut plain = None;
     let mut count: usize = 0;
     let mut at: usize = 0;
+    // stays a while: a turn goes on to the next field, wherever `after` finds it
     while at <= s.len() {
         let awaited = class_at(first, kind, count);
-        let fault = field_fault(s, at, awaited);
-        id = sooner(s, id, at, fault, refusal::ID);
-        plain = sooner(s, plain, at, fault, refusal::PLAIN);
+        id = id.or(is_bad_id(s, at, awaited).then_some(at));
+        plain = plain.or(is_bad_number(s, at, awaited).then_some(at));
         at = after(s, at);
-        count = count + 1;
+        count += 1;
     }
     Seen { id, plain }
 }
 
-// A number and its place, which is within a line.
-pub(crate) fn found(number: u8, place: usize) -> Fault
+// A refusal and its place, which is within a line.
+pub(crate) fn found(refusal: Refusal, place: usize) -> Fault
     requires { place ≤ 200 }
-    ensures { result ≡ fault number place }
+    ensures { fault_told result ≡ fault (refusals.number refusal) place }
 {
     Fault {
-        number,
+        refusal,
         place: place as u8,
     }
 }
@@ -167,27 +147,26 @@ pub(crate) fn is_counted(s: &[u8], mark: u8) -> bool
 
 // The fields of a line that ends at `end`: LETTER, COUNT, ID, PLAIN, or 0. Most bad lines have a wrong letter or a wrong count, which take little to see:
 // ids and numbers are read only where both are right.
-fn fields_fault(s: &[u8], first: u8, end: usize) -> Fault
+fn fields_fault(s: &[u8], first: u8, end: usize) -> Result<(), Fault>
     requires s_len_bound { length s.now ≤ 200 }
     requires end_bound { end ≤ 200 }
-    ensures { result ≡ fields_fault (shape_of first (fields s.now)) end (fields s.now) }
+    ensures { form_fault_told result ≡ fields_fault (shape_of first (fields s.now)) end (fields s.now) }
 {
     let kind = kind_in(s, first);
-    let wrong = letter_place(s, first, kind);
-    if wrong <= s.len() {
-        return found(refusal::LETTER, wrong);
+    if let Some(place) = letter_place(s, first, kind) {
+        return Err(found(Refusal::Letter, place));
     }
     if !has_count(s, first, kind) {
-        return found(refusal::COUNT, end);
+        return Err(found(Refusal::Count, end));
     }
     let seen = look(s, first, kind);
-    if seen.id <= s.len() {
-        return found(refusal::ID, seen.id);
+    if let Some(place) = seen.id {
+        return Err(found(Refusal::Id, place));
     }
-    if seen.plain <= s.len() {
-        return found(refusal::PLAIN, seen.plain);
+    if let Some(place) = seen.plain {
+        return Err(found(Refusal::Plain, place));
     }
-    found(0, 0)
+    Ok(())
 }
 
 // The line's length without the line feed at its end, at most 200.
@@ -206,8 +185,8 @@ pub fn end_of(line: &[u8]) -> usize
 }
 
 // A line that the reader of lines with this mark (P, S, O, G, E, or that of a velocity grid's header or node) has found bad: LENGTH, LETTER, COUNT, ID, PLAIN, and the place.
-pub fn fault_of(line: &[u8], first: u8) -> Fault
-    ensures { result ≡ fault_of (shape_of first) line.now }
+pub fn fault_of(line: &[u8], first: u8) -> Result<(), Fault>
+    ensures { form_fault_told result ≡ fault_of (shape_of first) line.now }
 {
     let last = end_of(line);
     let end = body_end(line);
@@ -215,5 +194,5 @@ pub fn fault_of(line: &[u8], first: u8) -> Fault
         let s = &line[..end];
         return fields_fault(s, first, last);
     }
-    found(refusal::LENGTH, last)
+    Err(found(Refusal::Length, last))
 }

@@ -1,10 +1,12 @@
 // Lines into a lent slice, from a place on. What has no room is dropped, so no caller has to show that there is room; the answer is the
 // place past the line, the slice's end where the line is cut off there. A place past the end stays as it is and nothing is written.
 // A line that surely has room is written by the module below; the functions here write what may be cut off, byte by byte.
-ghost use Rattle.std.specs.Prelude.{◌≡◌, true, [], ◌∷◌, ◌++◌, take, unsigned_abs};
+// stay two writers: one for both would test the room at each byte of every good line
+ghost use Rattle.std.specs.Prelude.{◌≡◌, true, [], ◌∷◌, ◌++◌, take};
 ghost use Rattle.line.specs.Text.{decimal, integer, letters, name_text, point_text, moved_text, projected_text, refusal_text, Wrote, Copied};
 
-use crate::field::{LINE_FEED, TAB};
+use crate::field::{LINE_FEED, TAB, reaches};
+use crate::number::wide;
 
 mod roomy;
 
@@ -45,21 +47,11 @@ fn natural(out: &mut [u8], at: usize, n: u64) -> usize
     }
 }
 
-fn size(z: i64) -> u64
-    ensures { result ≡ unsigned_abs z }
-{
-    if z < 0 {
-        ((0 - (z + 1)) as u64) + 1
-    } else {
-        z as u64
-    }
-}
-
 // A number with its sign, and the byte after it.
 fn whole(out: &mut [u8], at: usize, z: i64, after: u8) -> usize
     ensures { Wrote out.old at (integer z ++ (after ∷ [])) out.new result }
 {
-    let n = size(z);
+    let n = z.unsigned_abs();
     if z < 0 {
         let a = byte(out, at, MINUS);
         let b = natural(out, a, n);
@@ -76,15 +68,13 @@ fn word(out: &mut [u8], at: usize, w: u64) -> usize
 {
     let mut p = at;
     let mut v = w;
-    let mut left: u64 = 8;
-    while 0 < left {
+    for _ in 0..8u64 {
         let b = v / HIGHEST;
         if b == 0 {
             break;
         }
         p = byte(out, p, b as u8);
         v = v % HIGHEST * 256;
-        left = left - 1;
     }
     p
 }
@@ -106,12 +96,6 @@ fn letter(out: &mut [u8], at: usize, l: u8) -> usize
     byte(out, a, TAB)
 }
 
-fn wide(n: u8) -> u64
-    ensures { result ≡ n }
-{
-    n as u64
-}
-
 // A point's line, as far as there is room.
 fn cut_point(out: &mut [u8], at: usize, p: chain::Point) -> usize
     ensures { Wrote out.old at (point_text p) out.new result }
@@ -130,13 +114,8 @@ fn cut_copy(out: &mut [u8], at: usize, line: &[u8], place: usize) -> usize
     ensures { Wrote out.old at (take place line.now) out.new result }
 {
     let mut p = at;
-    let mut i: usize = 0;
-    while i < place {
-        if line.len() <= i {
-            break;
-        }
-        p = byte(out, p, line[i]);
-        i = i + 1;
+    for b in &line[..place.min(line.len())] {
+        p = byte(out, p, *b);
     }
     p
 }
@@ -179,11 +158,8 @@ fn cut_refusal(out: &mut [u8], at: usize, line: u64, number: u8, place: u8) -> u
 pub fn write_point(out: &mut [u8], at: usize, p: chain::Point) -> usize
     ensures { Wrote out.old at (point_text p) out.new result }
 {
-    let room = out.len();
-    if POINT_ROOM <= room {
-        if at <= room - POINT_ROOM {
-            return roomy::point(out, at, p);
-        }
+    if reaches(out.len(), at, POINT_ROOM) {
+        return roomy::point(out, at, p);
     }
     cut_point(out, at, p)
 }
@@ -221,13 +197,8 @@ fn write_apart(
 {
     let r = chain::Realization { datum, epoch };
     let p = chain::Position { x, y, z };
-    let room = out.len();
-    if POINT_ROOM <= room {
-        if at <= room - POINT_ROOM {
-            if is_copied_whole(line, place, p) {
-                return roomy::relabelled(out, at, line, place, r, p);
-            }
-        }
+    if reaches(out.len(), at, POINT_ROOM) && is_copied_whole(line, place, p) {
+        return roomy::relabelled(out, at, line, place, r, p);
     }
     let a = cut_copy(out, at, line, place);
     cut_moved(out, a, r, p)
@@ -252,11 +223,8 @@ pub fn write_moved(
 pub fn write_projected(out: &mut [u8], at: usize, id: chain::Id, e: i64, n: i64) -> usize
     ensures { Wrote out.old at (projected_text id e n) out.new result }
 {
-    let room = out.len();
-    if PROJECTED_ROOM <= room {
-        if at <= room - PROJECTED_ROOM {
-            return roomy::projected(out, at, id, e, n);
-        }
+    if reaches(out.len(), at, PROJECTED_ROOM) {
+        return roomy::projected(out, at, id, e, n);
     }
     cut_projected(out, at, id, e, n)
 }
@@ -265,11 +233,8 @@ pub fn write_projected(out: &mut [u8], at: usize, id: chain::Id, e: i64, n: i64)
 pub fn write_refusal(out: &mut [u8], at: usize, line: u64, number: u8, place: u8) -> usize
     ensures { Wrote out.old at (refusal_text line number place) out.new result }
 {
-    let room = out.len();
-    if REFUSAL_ROOM <= room {
-        if at <= room - REFUSAL_ROOM {
-            return roomy::refused(out, at, line, number, place);
-        }
+    if reaches(out.len(), at, REFUSAL_ROOM) {
+        return roomy::refused(out, at, line, number, place);
     }
     cut_refusal(out, at, line, number, place)
 }

@@ -1,8 +1,6 @@
 // How each reader's answer is printed: what was read of an accepted line; the number of a refused one, and the place of a malformed one after it; of two lines the
 // number, the line and the place.
-use line::{
-    EditionLine, Fault, GeodeticLine, LaterFault, OriginLine, PointLine, StepLine, Verdict,
-};
+use line::{Fault, LaterFault, Unread, Which};
 use std::io;
 
 fn number(rt: &impl Print, n: u8) -> io::Result<()> {
@@ -11,13 +9,13 @@ fn number(rt: &impl Print, n: u8) -> io::Result<()> {
 }
 
 fn malformed(rt: &impl Print, f: Fault) -> io::Result<()> {
-    rt.print(f.number)?;
+    rt.print(f.refusal.number())?;
     rt.write_all(b" ")?;
     number(rt, f.place)
 }
 
 fn neither(rt: &impl Print, f: LaterFault) -> io::Result<()> {
-    rt.print(f.number)?;
+    rt.print(f.refusal.number())?;
     rt.write_all(b" ")?;
     rt.print(f.line)?;
     rt.write_all(b" ")?;
@@ -43,11 +41,17 @@ fn projected(rt: &impl Print, id: chain::Id, a: i64, b: i64) -> io::Result<()> {
     print(rt, &out, n)
 }
 
+fn unread(rt: &impl Print, why: Unread) -> io::Result<()> {
+    match why {
+        Unread::Malformed(fault) => malformed(rt, fault),
+        Unread::Refused(refusal) => number(rt, refusal.number()),
+    }
+}
+
 pub(crate) fn point(rt: &impl Print, l: &[u8]) -> io::Result<()> {
     match line::read_point(chain::LATEST, l) {
-        PointLine::Malformed(f) => malformed(rt, f),
-        PointLine::Refused(n) => number(rt, n),
-        PointLine::Point(p) => {
+        Err(why) => unread(rt, why),
+        Ok(p) => {
             let mut out = [0u8; 200];
             let n = line::write_point(&mut out, 0, p);
             print(rt, &out, n)
@@ -86,22 +90,19 @@ fn bursa_wolf(rt: &impl Print, t: chain::BursaWolf) -> io::Result<()> {
 
 pub(crate) fn step(rt: &impl Print, l: &[u8]) -> io::Result<()> {
     match line::read_step(chain::LATEST, l) {
-        StepLine::Malformed(f) => malformed(rt, f),
-        StepLine::Refused(n) => number(rt, n),
-        StepLine::Step(s) => {
+        Err(why) => unread(rt, why),
+        Ok(s) => {
             pair(rt, s.before.datum, s.before.epoch)?;
             pair(rt, s.after.datum, s.after.epoch)?;
-            let k = s.kind;
-            kind(rt, k)
+            kind(rt, s.kind)
         }
     }
 }
 
 pub(crate) fn origin(rt: &impl Print, l: &[u8]) -> io::Result<()> {
     match line::read_origin(l) {
-        OriginLine::Malformed(f) => malformed(rt, f),
-        OriginLine::Refused(n) => number(rt, n),
-        OriginLine::Origin(o) => {
+        Err(why) => unread(rt, why),
+        Ok(o) => {
             pair(rt, o.ellipsoid, o.latitude)?;
             pair(rt, o.longitude, o.false_easting)?;
             pair(rt, o.false_northing, 0)
@@ -111,26 +112,22 @@ pub(crate) fn origin(rt: &impl Print, l: &[u8]) -> io::Result<()> {
 
 pub(crate) fn geodetic(rt: &impl Print, l: &[u8]) -> io::Result<()> {
     match line::read_geodetic(l) {
-        GeodeticLine::Malformed(f) => malformed(rt, f),
-        GeodeticLine::Refused(n) => number(rt, n),
-        GeodeticLine::Geodetic(g) => {
-            let id = g.id;
-            projected(rt, id, g.latitude, g.longitude)
-        }
+        Err(why) => unread(rt, why),
+        Ok(g) => projected(rt, g.id, g.latitude, g.longitude),
     }
 }
 
 pub(crate) fn edition(rt: &impl Print, l: &[u8]) -> io::Result<()> {
     match line::read_edition(l) {
-        EditionLine::Malformed(f) => malformed(rt, f),
-        EditionLine::Edition(year) => pair(rt, year, 0),
+        Err(fault) => malformed(rt, fault),
+        Ok(year) => pair(rt, year, 0),
     }
 }
 
-pub(crate) fn later(rt: &impl Print, first: &[u8], second: &[u8]) -> io::Result<()> {
+pub(crate) fn later(rt: &impl Print, [first, second]: [&[u8]; 2]) -> io::Result<()> {
     match line::later_verdict(first, second) {
-        Verdict::First => rt.write_all(b"first\n"),
-        Verdict::Second => rt.write_all(b"second\n"),
-        Verdict::Refused(f) => neither(rt, f),
+        Ok(Which::First) => rt.write_all(b"first\n"),
+        Ok(Which::Second) => rt.write_all(b"second\n"),
+        Err(fault) => neither(rt, fault),
     }
 }

@@ -13,8 +13,7 @@ use Rattle.chain.specs.Faults.{latest}
 use Rattle.chain.specs.Prepared.{Holds}
 use Rattle.line.specs.Lines.{lines, line_end}
 use Rattle.line.proofs.Lines.{piece, lines_none}
-use Rattle.lot_plan.specs.declared.Read.{Read}
-use Rattle.lot_plan.specs.declared.Read.TheVariants.{Profile, Refused}
+use Rattle.std.proofs.Common.{Result, Ok, Err}
 use Rattle.lot_plan.specs.LotPlan.{Chained, chain, refused, with_line, with_lines, chain_text}
 use Rattle.lot_plan.specs.Reading.{Took}
 
@@ -36,7 +35,7 @@ nothing_left : (text : List ℕ) (y : ℤ) (numbers : List ℤ) (from : ℕ) →
 unfolding with_lines
 nothing_left text y numbers from h k = ap (with_lines (eqb from 0) y k.steps) (sym (lines_none text from h)) ∙ k.left
 
-pub ends : (text : List ℕ) (y : ℤ) (numbers : List ℤ) (from : ℕ) → length text ≤ from → Midway text y numbers from → Took (chain_text text) numbers (Profile y)
+pub ends : (text : List ℕ) (y : ℤ) (numbers : List ℤ) (from : ℕ) → length text ≤ from → Midway text y numbers from → Took (chain_text text) numbers (Ok y)
 ends text y numbers from h k = rw (sym (nothing_left text y numbers from h k)) (refl, k.holds)
 
 -- a line of the text
@@ -52,7 +51,7 @@ module _ (isFirst : Bool) (y : ℤ) (ss : List Step) (l : List ℕ) (ls : List (
 never : false ≡ true → ⊥
 never e = let z : ◌≡◌ {A = ℕ} 0 1 = cc in omega arith
 
-no_number : (n : ℕ) (y : ℤ) → Refused n ≡ Profile y → ⊥
+no_number : (n : ℕ) (y : ℤ) → (◌≡◌ {A = Result ℤ ℕ} (Err n) (Ok y)) → ⊥
 no_number n y e = let z : ◌≡◌ {A = ℕ} 0 1 = cc in omega arith
 
 -- ---- what was read, and what it says of the text
@@ -61,18 +60,18 @@ pub record Found (said : Chained) (y : ℤ) (numbers : List ℤ) : Type 0 where
   pub is : said ≡ chain y steps
   pub holds : Holds y numbers steps
 
-pub found : (said : Chained) (numbers : List ℤ) (r : Read) (y : ℤ) → Took said numbers r → r ≡ Profile y → Found said y numbers
+pub found : (said : Chained) (numbers : List ℤ) (r : Result ℤ ℕ) (y : ℤ) → Took said numbers r → r ≡ Ok y → Found said y numbers
 found (chain v ss) numbers r y t q =
     let e : v ≡ y = cc t.0 in
     record { steps = ss; is = rw e; holds = rw e at t.1 }
 found (refused n) numbers r y t q = absurd (no_number n y (sym t ∙ q))
 
-pub missed : (said : Chained) (numbers : List ℤ) (r : Read) (n : ℕ) → Took said numbers r → r ≡ Refused n → said ≡ refused n
+pub missed : (said : Chained) (numbers : List ℤ) (r : Result ℤ ℕ) (n : ℕ) → Took said numbers r → r ≡ Err n → said ≡ refused n
 missed (chain v ss) numbers r n t q = absurd (no_number n v (sym q ∙ t.0))
 missed (refused m) numbers r n t q = cc
 
 -- ---- a turn of the loop
-module _ (text : List ℕ) (y : ℤ) (before after : List ℤ) (from e : ℕ) (r : Read)
+module _ (text : List ℕ) (y : ℤ) (before after : List ℤ) (from e : ℕ) (r : Result ℤ ℕ)
     (ended : e ≡ line_end text from) (more : from < length text)
     (taken : (ss : List Step) → (eqb from 0 ≡ true → ss ≡ []) → Holds y before ss
     → Took (with_line (eqb from 0) y ss (take (e - from) (drop from text))) after r)
@@ -87,7 +86,7 @@ module _ (text : List ℕ) (y : ℤ) (before after : List ℤ) (from e : ℕ) (r
   here : with_lines (eqb from 0) y k.steps (line ∷ lines (drop e text)) ≡ chain_text text
   here = ap (with_lines (eqb from 0) y k.steps) (sym (piece text from e ended more).others) ∙ k.left
 
-  pub goes_on : (z : ℤ) → r ≡ Profile z → Midway text z after e
+  pub goes_on : (z : ℤ) → r ≡ Ok z → Midway text z after e
   goes_on z q =
       let f = found said after r z (taken k.steps k.none k.holds) q in
       let l = piece text from e ended more in
@@ -100,7 +99,7 @@ module _ (text : List ℕ) (y : ℤ) (before after : List ℤ) (from e : ℕ) (r
         none = λ o. absurd (never (sym later ∙ o));
       }
 
-  pub stops : (n : ℕ) → r ≡ Refused n → Took (chain_text text) after (Refused n)
+  pub stops : (n : ℕ) → r ≡ Err n → Took (chain_text text) after (Err n)
   stops n q =
       let m = missed said after r n (taken k.steps k.none k.holds) q in
       rw (sym (sym (stop (eqb from 0) y k.steps line (lines (drop e text)) n m) ∙ here)) refl

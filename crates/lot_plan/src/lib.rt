@@ -4,16 +4,10 @@
 
 pub mod chain_text;
 
-// What the chain's text says so far: the profile of its chain, whose steps stand prepared beside it; or the number of the first refused line.
+// A point on the state's grid: its label, easting and northing in millimetres.
 #[derive(Clone, Copy)]
-enum Read {
-    Profile(i64),
-    Refused(u8),
-}
-
-// A point on the state's grid: its label, easting and northing in millimetres; or the refusal number.
-#[derive(Clone, Copy)]
-enum Lot {
-    Laid(chain::Label, i64, i64),
-    Refused(u8),
+struct Lot {
+    label: chain::Label,
+    easting: i64,
+    northing: i64,
 }

@@ -18,9 +18,9 @@ use Rattle.bounds.proofs.Among.{untold, told, Ends, Among, is_finite}
 use Rattle.bounds.proofs.Formula.{All, none, also, value, tested, proved, Fine, every}
 use Rattle.bounds.proofs.Zero.{ranged, wholes, told-among, whole-among, of_int-among}
 use Rattle.elementary.specs.Floats.{near, whole}
-use Rattle.angle.specs.Units.{k}
 use Rattle.angle.proofs.UnitLaws.{k-is}
-use Rattle.angle.specs.declared.Projected.TheVariants.{Refused}
+use Rattle.angle.specs.declared.Projected.{Projected}
+use Rattle.std.specs.Prelude.{Ok, Err}
 use Rattle.angle.proofs.Sizes.{axis, eccentricity, shaped}
 use Rattle.angle.proofs.Wholes.{upto}
 use Rattle.oblique_mercator.specs.Parameters.{parameters_range}
@@ -112,9 +112,9 @@ module _ (p : Parameters) (lat lon : ℤ) (h : parameters_range p ≡ true) (a :
       let c : num x * 1 ≤ 30000000 * den x = b.most.cross in
       record { is_finite = is_finite b; size = omega arith }
 
-  pub laid-bounded : PlaneBounded (plane_at (projection_made p) lat lon)
+  pub laid-bounded : PlaneBounded (Ok (plane_at (projection_made p) lat lon))
   laid-bounded =
-      subst PlaneBounded (sym (plane-is p lat lon))
+      subst (λ (q : Projected). PlaneBounded (Ok q)) (sym (plane-is p lat lon))
       (at_most (value (given p lat lon) east_f) (proved all east_f plane_b plane-tests.0), at_most (value (given p lat lon) north_f) (proved all north_f plane_b plane-tests.1))
 
 -- ---- whatever is refused, and whatever is answered
@@ -123,7 +123,7 @@ unfolding forward_of projection_of forward_from_of projection_made
 bounded p lat lon = go (parameters_range p) refl
   where
     point : (x y z : Bool) → longitude_range p.longitude ≡ x → latitude_range lat ≡ y → longitude_range lon ≡ z → parameters_range p ≡ true
-        → PlaneBounded (unless (pick (not x) range (pick (not y) geodetic (pick (not z) geodetic 0))) Refused (plane_at (projection_made p) lat lon))
+        → PlaneBounded (unless (pick (not x) range (pick (not y) geodetic (pick (not z) geodetic 0))) Err (Ok (plane_at (projection_made p) lat lon)))
     point false y z d e f h = tt
     point true false z d e f h = tt
     point true true false d e f h = tt

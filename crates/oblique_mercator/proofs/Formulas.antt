@@ -12,7 +12,6 @@ use Rattle.elementary.proofs.Formulas.{sine-is, cosine-is, sinh-is, cosh-is, arc
 use Rattle.angle.specs.Units.{k}
 use Rattle.angle.proofs.UnitLaws.{radians-is, metres-is}
 use Rattle.angle.specs.Ellipsoids.{ellipsoid_of}
-use Rattle.angle.specs.declared.Projected.TheVariants.{Metres}
 use Rattle.oblique_mercator.specs.Parameters.{reduced}
 use Rattle.oblique_mercator.specs.Projection.{isometric_of, centre_of, natural_of, projection_made}
 use Rattle.oblique_mercator.specs.Forward.{plane_of, plane_at}
@@ -235,6 +234,6 @@ given p latitude longitude =
     ∷ []
 
 pub plane-is : (p : Parameters) (latitude longitude : ℤ)
-    → plane_at (projection_made p) latitude longitude ≡ Metres (value (given p latitude longitude) east_f) (value (given p latitude longitude) north_f)
+    → plane_at (projection_made p) latitude longitude ≡ record { easting = value (given p latitude longitude) east_f; northing = value (given p latitude longitude) north_f }
 unfolding value plane_at plane_of projection_made centre_of natural_of isometric_of
 plane-is p latitude longitude = simp (radians-is, metres-is, arctangent-is, artanh-is, arcsine-is, artanh-small-is, arctan-series-is, sinh-is, cosh-is, root_is, sine-is, cosine-is)

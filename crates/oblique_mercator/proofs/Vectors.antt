@@ -5,21 +5,20 @@ use mathlib.Core.List.{List, [], ◌∷◌, ◌++◌, map}
 use Prim.Native.Nat.{ℕ}
 use lib.IntN.{ℤ, pos, negsuc}
 use lib.Ieee.{Float, nan, binary64, round, neg, add, sub, mul, div, lt, le, eq, of_int, of_bits}
+use Rattle.std.specs.Prelude.{Result, Ok, Err}
 use Rattle.refusal.specs.Numbers.{range, geodetic}
 use Rattle.refusal.specs.Numbers as numbers
 use Rattle.elementary.specs.Floats.{#}
 use Rattle.elementary.proofs.Same.{sames-are}
 use Rattle.angle.specs.declared.Projected.{Projected}
 use Rattle.angle.specs.Worked.{open_angles}
-use Rattle.angle.specs.declared.Projected.TheVariants as projected
 use Rattle.oblique_mercator.specs.Parameters.{reduced, parameters_range}
 use Rattle.oblique_mercator.specs.Projection.{isometric_of, centre_of, natural_of, series_of, projection_made, projection_of}
 use Rattle.oblique_mercator.specs.Forward.{plane_of, plane_at, forward_from_of, forward_of}
 use Rattle.oblique_mercator.specs.Reverse.{in_plane, turned_of, gate_of, latitude_of, found_of, in_ranges, from_rounded, in_units, reverse_at, reverse_from_of, reverse_of}
 use Rattle.oblique_mercator.specs.declared.Parameters.{Parameters}
 use Rattle.oblique_mercator.specs.declared.Projection.{Projection}
-use Rattle.oblique_mercator.specs.declared.Angles.{Angles}
-use Rattle.oblique_mercator.specs.declared.Angles.TheVariants as angles
+use Rattle.oblique_mercator.specs.declared.Place.{Place}
 
 abbrev f64 : ℕ → Float
 f64 n = of_bits binary64 n
@@ -45,8 +44,7 @@ fields p =
     ∷ []
 
 abbrev plane : Projected → List Float
-plane (projected.Metres e n) = e ∷ n ∷ []
-plane (projected.Refused n) = []
+plane p = p.easting ∷ p.northing ∷ []
 
 -- ---- an example: the projection's numbers and its bits, a point's angles, and where it lies
 record Example : Type 0 where
@@ -138,20 +136,23 @@ abbrev all : (Example → List Float) → List Example → List Float
 all f [] = []
 all f (e ∷ es) = f e ++ all f es
 
+abbrev at : Example → Result Place ℕ
+at e = Ok (record { latitude = e.latitude; longitude = e.longitude })
+
 -- each made from its numbers; each point forward from the bits, and back
 record Worked : Type 0 where
   made : all (λ (e : Example). fields (projection_made e.given)) examples ≡ all (λ (e : Example). fields e.made) examples
   laid : all (λ (e : Example). plane (plane_at e.made e.latitude e.longitude)) examples ≡ all (λ (e : Example). e.easting ∷ e.northing ∷ []) examples
-  back : map (λ (e : Example). reverse_at e.made e.easting e.northing) examples ≡ map (λ (e : Example). angles.Units e.latitude e.longitude) examples
+  back : map (λ (e : Example). reverse_at e.made e.easting e.northing) examples ≡ map at examples
 
 -- ---- refusals: the parameters first, then the angles; 23 before 12, for a NaN too; the far side of the earth is 12
 abbrev bad : Parameters
 bad = record { ellipsoid = pos 4; latitude = pos 0; longitude = pos 41400000000; azimuth = pos 19193695370; rectified = pos 19126836850; scale = pos 99984000000; false_easting = pos 0; false_northing = pos 0 }
 
-refused : List Projected
+refused : List (Result Projected ℕ)
 refused = forward_of bad (negsuc 0) (pos 0) ∷ forward_from_of borneo-made (negsuc 0) (pos 41400000000) ∷ forward_from_of borneo-made (pos 0) (pos 43200000001) ∷ []
 
-back-refused : List Angles
+back-refused : List (Result Place ℕ)
 back-refused =
     reverse_of bad nan nan
     ∷ reverse_from_of borneo-made nan (# 0)
@@ -160,8 +161,8 @@ back-refused =
     ∷ []
 
 record InOrder : Type 0 where
-  there : refused ≡ (projected.Refused range ∷ projected.Refused geodetic ∷ projected.Refused geodetic ∷ [])
-  back : back-refused ≡ (angles.Refused range ∷ angles.Refused numbers.plane ∷ angles.Refused numbers.plane ∷ angles.Refused geodetic ∷ [])
+  there : refused ≡ (Err range ∷ Err geodetic ∷ Err geodetic ∷ [])
+  back : back-refused ≡ (Err range ∷ Err numbers.plane ∷ Err numbers.plane ∷ Err geodetic ∷ [])
 
 -- ---- each worked out
 record Vectors : Type 0 where

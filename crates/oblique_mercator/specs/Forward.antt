@@ -1,5 +1,5 @@
 -- Latitude and longitude to easting and northing, in document 004's order and names. u is not offset: variant A's false origin is at the natural origin.
-use Rattle.std.specs.Prelude.{not, List, [], ◌∷◌, ℤ, ◌-ℤ◌, Float}
+use Rattle.std.specs.Prelude.{ℕ, not, List, [], ◌∷◌, ℤ, ◌-ℤ◌, Float, Result, Ok, Err}
 use Rattle.std.specs.Float.Ieee.{neg}
 use Rattle.refusal.specs.Numbers.{range, geodetic}
 use Rattle.refusal.specs.Order.{Test, ◌gives◌, first, unless}
@@ -10,12 +10,9 @@ use Rattle.elementary.specs.Half.{arctangent_of}
 use Rattle.elementary.specs.Hyperbolic.{sinh_of, cosh_of, artanh_of}
 use Rattle.angle.specs.Units.{radians}
 use Rattle.angle.specs.declared.Projected.{Projected}
-use Rattle.angle.specs.declared.Projected.TheVariants.{Metres, Refused}
 use Rattle.oblique_mercator.specs.Projection.{isometric_of, projection_of}
 use Rattle.oblique_mercator.specs.declared.Parameters.{Parameters}
 use Rattle.oblique_mercator.specs.declared.Projection.{Projection}
-use Rattle.oblique_mercator.specs.declared.ProjectionAnswer.{ProjectionAnswer}
-use Rattle.oblique_mercator.specs.declared.ProjectionAnswer.TheVariants as projection
 
 -- of the latitude φ and the longitude less the centre's, in radians. S and T are the halves of Q - 1/Q and Q + 1/Q; V and W sine and cosine of B(λ - λ₀)
 unfoldable pub plane_of : Projection → Float → Float → Projected
@@ -33,7 +30,7 @@ plane_of p φ difference =
     let u = p.r ⊗ arctangent_of n in
     let E = (v ⊗ p.cos_rectified ⊕ u ⊗ p.sin_rectified) ⊕ p.false_easting in
     let N = (u ⊗ p.cos_rectified ⊖ v ⊗ p.sin_rectified) ⊕ p.false_northing in
-    Metres E N
+    record { easting = E; northing = N }
 
 -- the difference of the longitudes is taken in whole numbers
 unfoldable pub plane_at : Projection → ℤ → ℤ → Projected
@@ -44,14 +41,14 @@ abbrev pub centre_and_angles_tests : Projection → ℤ → ℤ → List Test
 centre_and_angles_tests p latitude longitude =
     (not (longitude_range p.centre) gives range) ∷ (not (latitude_range latitude) gives geodetic) ∷ (not (longitude_range longitude) gives geodetic) ∷ []
 
-unfoldable pub forward_from_of : Projection → ℤ → ℤ → Projected
-forward_from_of p latitude longitude = unless (first (centre_and_angles_tests p latitude longitude)) Refused (plane_at p latitude longitude)
+unfoldable pub forward_from_of : Projection → ℤ → ℤ → Result Projected ℕ
+forward_from_of p latitude longitude = unless (first (centre_and_angles_tests p latitude longitude)) Err (Ok (plane_at p latitude longitude))
 
 -- on a projection as it is answered
-abbrev pub laid_on : ProjectionAnswer → ℤ → ℤ → Projected
-laid_on (projection.Refused n) latitude longitude = Refused n
-laid_on (projection.Made p) latitude longitude = forward_from_of p latitude longitude
+abbrev pub laid_on : Result Projection ℕ → ℤ → ℤ → Result Projected ℕ
+laid_on (Err n) latitude longitude = Err n
+laid_on (Ok p) latitude longitude = forward_from_of p latitude longitude
 
 -- refused: 2, 12
-unfoldable pub forward_of : Parameters → ℤ → ℤ → Projected
+unfoldable pub forward_of : Parameters → ℤ → ℤ → Result Projected ℕ
 forward_of p latitude longitude = laid_on (projection_of p) latitude longitude

@@ -1,6 +1,6 @@
 -- The projection, made once for many points, in document 004's order and names; the order of operations is docs/ORDERS.md's. ln t₀, ln F and ln H stand for t₀, F and H,
 -- of which only the logarithms are needed.
-use Rattle.std.specs.Prelude.{not, [], ◌∷◌, Float}
+use Rattle.std.specs.Prelude.{ℕ, not, [], ◌∷◌, Float, Result, Ok, Err}
 use Rattle.std.specs.Float.Ieee.{neg}
 use Rattle.refusal.specs.Numbers.{range}
 use Rattle.refusal.specs.Order.{◌gives◌, first, unless}
@@ -15,8 +15,6 @@ use Rattle.angle.specs.declared.Ellipsoid.{Ellipsoid}
 use Rattle.oblique_mercator.specs.Parameters.{reduced, parameters_range}
 use Rattle.oblique_mercator.specs.declared.Parameters.{Parameters}
 use Rattle.oblique_mercator.specs.declared.Projection.{Projection}
-use Rattle.oblique_mercator.specs.declared.ProjectionAnswer.{ProjectionAnswer}
-use Rattle.oblique_mercator.specs.declared.ProjectionAnswer.TheVariants.{Made, Refused}
 use Rattle.oblique_mercator.specs.declared.making.Centre.{Centre}
 use Rattle.oblique_mercator.specs.declared.making.Natural.{Natural}
 use Rattle.oblique_mercator.specs.declared.making.Series.{Series}
@@ -97,5 +95,5 @@ projection_made p =
     }
 
 -- refused: 2
-unfoldable pub projection_of : Parameters → ProjectionAnswer
-projection_of p = unless (first ((not (parameters_range p) gives range) ∷ [])) Refused (Made (projection_made p))
+unfoldable pub projection_of : Parameters → Result Projection ℕ
+projection_of p = unless (first ((not (parameters_range p) gives range) ∷ [])) Err (Ok (projection_made p))

@@ -1,14 +1,11 @@
 -- Easting and northing to latitude and longitude, in document 004's order and names, with γ₀, the angle at the natural origin, in U' and in the longitude.
-use Rattle.std.specs.Prelude.{Bool, not, ◌&&◌, List, [], ◌∷◌, ℤ, ◌+ℤ◌, Float}
+use Rattle.std.specs.Prelude.{ℕ, Bool, not, ◌&&◌, List, [], ◌∷◌, ℤ, ◌+ℤ◌, Float, Result, Ok, Err}
 use Rattle.std.specs.Float.Ieee.{neg, lt, le}
 use Rattle.refusal.specs.Numbers.{range, geodetic}
 use Rattle.refusal.specs.Numbers as numbers
 use Rattle.refusal.specs.Order.{Test, ◌gives◌, pick, first, unless}
 use Rattle.ranges.specs.Ranges.{latitude_range, longitude_range}
-use Rattle.rounding.specs.Decimals.{rounded_of}
-use Rattle.rounding.specs.declared.decimals.Rounded.{Rounded}
-use Rattle.rounding.specs.declared.decimals.Rounded.TheVariants.{Whole}
-use Rattle.rounding.specs.declared.decimals.Rounded.TheVariants as rounded
+use Rattle.rounding.specs.Decimals.{Rounded, rounded_of}
 use Rattle.elementary.specs.Floats.{◌⊗◌, ◌⊘◌, ◌⊕◌, ◌⊖◌, near, #}
 use Rattle.elementary.specs.Series.{sine_of, cosine_of, arctan_small_of}
 use Rattle.elementary.specs.Half.{arctangent_of}
@@ -17,10 +14,7 @@ use Rattle.angle.specs.Units.{seconds}
 use Rattle.oblique_mercator.specs.Projection.{projection_of}
 use Rattle.oblique_mercator.specs.declared.Parameters.{Parameters}
 use Rattle.oblique_mercator.specs.declared.Projection.{Projection}
-use Rattle.oblique_mercator.specs.declared.ProjectionAnswer.{ProjectionAnswer}
-use Rattle.oblique_mercator.specs.declared.ProjectionAnswer.TheVariants as projection
-use Rattle.oblique_mercator.specs.declared.Angles.{Angles}
-use Rattle.oblique_mercator.specs.declared.Angles.TheVariants.{Units, Refused}
+use Rattle.oblique_mercator.specs.declared.Place.{Place}
 use Rattle.oblique_mercator.specs.declared.from_plane.Turned.{Turned}
 use Rattle.oblique_mercator.specs.declared.from_plane.Found.{Found}
 
@@ -61,35 +55,35 @@ found_of p t =
     record { latitude = latitude_of p U ⊗ seconds; difference = w ⊗ seconds }
 
 -- a result in its ranges: 12
-unfoldable pub in_ranges : ℤ → ℤ → Angles
+unfoldable pub in_ranges : ℤ → ℤ → Result Place ℕ
 in_ranges latitude longitude =
-    unless (first ((not (latitude_range latitude) gives geodetic) ∷ (not (longitude_range longitude) gives geodetic) ∷ [])) Refused (Units latitude longitude)
+    unless (first ((not (latitude_range latitude) gives geodetic) ∷ (not (longitude_range longitude) gives geodetic) ∷ [])) Err (Ok (record { latitude = latitude; longitude = longitude }))
 
 -- both rounded, the longitude with the centre's; what a rounding refuses is 12
-unfoldable pub from_rounded : ℤ → Rounded → Rounded → Angles
-from_rounded centre (rounded.Refused n) w = Refused geodetic
-from_rounded centre (Whole latitude) (rounded.Refused n) = Refused geodetic
-from_rounded centre (Whole latitude) (Whole w) = in_ranges latitude (w +ℤ centre)
+unfoldable pub from_rounded : ℤ → Rounded → Rounded → Result Place ℕ
+from_rounded centre (Err n) w = Err geodetic
+from_rounded centre (Ok latitude) (Err n) = Err geodetic
+from_rounded centre (Ok latitude) (Ok w) = in_ranges latitude (w +ℤ centre)
 
 -- each at 5 places
-unfoldable pub in_units : ℤ → Found → Angles
+unfoldable pub in_units : ℤ → Found → Result Place ℕ
 in_units centre f = from_rounded centre (rounded_of f.latitude 5) (rounded_of f.difference 5)
 
-unfoldable pub reverse_at : Projection → Float → Float → Angles
-reverse_at p E N = let t = turned_of p E N in pick (gate_of t) (in_units p.centre (found_of p t)) (Refused geodetic)
+unfoldable pub reverse_at : Projection → Float → Float → Result Place ℕ
+reverse_at p E N = let t = turned_of p E N in pick (gate_of t) (in_units p.centre (found_of p t)) (Err geodetic)
 
 -- a point on a made projection, refused: 2 for a record that was not made here, 23, 12
 abbrev pub centre_and_plane_tests : Projection → Float → Float → List Test
 centre_and_plane_tests p E N = (not (longitude_range p.centre) gives range) ∷ (not (in_plane E && in_plane N) gives numbers.plane) ∷ []
 
-unfoldable pub reverse_from_of : Projection → Float → Float → Angles
-reverse_from_of p E N = unless (first (centre_and_plane_tests p E N)) Refused (reverse_at p E N)
+unfoldable pub reverse_from_of : Projection → Float → Float → Result Place ℕ
+reverse_from_of p E N = unless (first (centre_and_plane_tests p E N)) Err (reverse_at p E N)
 
 -- on a projection as it is answered
-abbrev pub found_on : ProjectionAnswer → Float → Float → Angles
-found_on (projection.Refused n) E N = Refused n
-found_on (projection.Made p) E N = reverse_from_of p E N
+abbrev pub found_on : Result Projection ℕ → Float → Float → Result Place ℕ
+found_on (Err n) E N = Err n
+found_on (Ok p) E N = reverse_from_of p E N
 
 -- refused: 2, 23, 12
-unfoldable pub reverse_of : Parameters → Float → Float → Angles
+unfoldable pub reverse_of : Parameters → Float → Float → Result Place ℕ
 reverse_of p E N = found_on (projection_of p) E N

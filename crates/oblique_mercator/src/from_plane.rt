@@ -1,15 +1,14 @@
 // Easting and northing to latitude and longitude.
-ghost use Rattle.std.specs.Prelude.{◌≡◌, true, ◌+ℤ◌};
-ghost use Rattle.ranges.specs.Ranges.{longitude_range};
-ghost use Rattle.oblique_mercator.specs.Reverse.{in_plane, turned_of, gate_of, latitude_of, found_of, in_ranges, from_rounded, in_units, reverse_at, reverse_from_of, reverse_of};
+ghost use Rattle.std.specs.Prelude.{◌≡◌, ◌+ℤ◌};
+ghost use Rattle.refusal.specs.Refusals.{told};
+ghost use Rattle.oblique_mercator.specs.Reverse.{in_plane, turned_of, gate_of, latitude_of, found_of, in_ranges, in_units, reverse_from_of, reverse_of};
 
 use crate::making::make_projection;
-use crate::{Angles, Parameters, Projection, ProjectionAnswer};
+use crate::{Longitude, Parameters, Place, Projection};
+use angle::SECONDS;
 use elementary::{arctan_small, arctangent, artanh_small, cosh, cosine, sine, sinh};
-use rounding::{Rounded, round_places};
-
-// Seconds in a radian.
-const SECONDS: f64 = 206264.806247096355;
+use refusal::Refusal;
+use rounding::round_places;
 
 // A turned back by the rectified angle, as angles of the sphere: theta across the initial line, mu along it.
 #[derive(Clone, Copy)]
@@ -82,76 +81,59 @@ fn find(p: Projection, t: Turned) -> Found
     }
 }
 
-// Latitude and longitude, each tested: GEODETIC outside its range. The longitude is tested less the centre's, so that no sum passes an i64.
-fn in_ranges(centre: i64, latitude: i64, difference: i64) -> Angles
-    requires { longitude_range centre ≡ true }
-    ensures { result ≡ in_ranges latitude (difference +ℤ centre) }
+// Latitude and longitude, each tested: Geodetic outside its range. The longitude is tested less the centre's, so that no sum passes an i64.
+fn in_ranges(centre: Longitude, latitude: i64, difference: i64) -> Result<Place, Refusal>
+    ensures { told result ≡ in_ranges latitude (difference +ℤ centre.units) }
 {
     if !ranges::is_latitude(latitude) {
-        return Angles::Refused(refusal::GEODETIC);
+        return Err(Refusal::Geodetic);
     }
-    if !ranges::within(35640000000 - centre, difference, 43200000000 - centre) {
-        return Angles::Refused(refusal::GEODETIC);
+    if !ranges::within(
+        35640000000 - centre.units,
+        difference,
+        43200000000 - centre.units,
+    ) {
+        return Err(Refusal::Geodetic);
     }
-    Angles::Units(latitude, difference + centre)
+    let longitude = difference + centre.units;
+    Ok(Place {
+        latitude,
+        longitude,
+    })
 }
 
-// The same of what the roundings answered. What they refuse is GEODETIC.
-fn from_rounded(centre: i64, latitude: Rounded, difference: Rounded) -> Angles
-    requires { longitude_range centre ≡ true }
-    ensures { result ≡ from_rounded centre latitude difference }
+// Each rounded at 5 places by itself. What a rounding refuses is Geodetic.
+fn in_units(centre: Longitude, f: Found) -> Result<Place, Refusal>
+    ensures { told result ≡ in_units centre.units f }
 {
-    match latitude {
-        Rounded::Refused(_) => Angles::Refused(refusal::GEODETIC),
-        Rounded::Whole(a) => match difference {
-            Rounded::Refused(_) => Angles::Refused(refusal::GEODETIC),
-            Rounded::Whole(b) => in_ranges(centre, a, b),
-        },
-    }
+    let latitude = round_places(f.latitude, 5).or(Err(Refusal::Geodetic))?;
+    let difference = round_places(f.difference, 5).or(Err(Refusal::Geodetic))?;
+    in_ranges(centre, latitude, difference)
 }
 
-// Each rounded at 5 places by itself.
-fn in_units(centre: i64, f: Found) -> Angles
-    requires { longitude_range centre ≡ true }
-    ensures { result ≡ in_units centre f }
-{
-    let latitude = round_places(f.latitude, 5);
-    let difference = round_places(f.difference, 5);
-    from_rounded(centre, latitude, difference)
-}
-
-// The formulas behind the gate.
-fn unproject(p: Projection, easting: f64, northing: f64) -> Angles
-    requires { longitude_range p.centre ≡ true }
-    ensures { result ≡ reverse_at p easting northing }
-{
-    let t = turn(p, easting, northing);
-    if !gate(t) {
-        return Angles::Refused(refusal::GEODETIC);
-    }
-    in_units(p.centre, find(p, t))
-}
-
-// A point on a made projection, whatever the projection holds: latitude and longitude. Refused: RANGE where the projection's longitude is out of its range, which
-// make_projection never makes; PLANE where easting or northing is 10,000,000 m or more in size or not finite; then GEODETIC for a result out of its range or not finite.
-pub fn reverse_from(p: Projection, easting: f64, northing: f64) -> Angles
-    ensures { result ≡ reverse_from_of p easting northing }
+// A point on a made projection, whatever the projection holds: latitude and longitude. Refused: Range where the projection's longitude is out
+// of its range, which make_projection never makes; Plane where easting or northing is 10,000,000 m or more in size or not finite; then
+// Geodetic for a result out of its range or not finite.
+pub fn reverse_from(p: Projection, easting: f64, northing: f64) -> Result<Place, Refusal>
+    ensures { told result ≡ reverse_from_of p easting northing }
 {
     if !ranges::is_longitude(p.centre) {
-        return Angles::Refused(refusal::RANGE);
+        return Err(Refusal::Range);
     }
+    let centre = Longitude { units: p.centre };
     if !(in_plane(easting) & in_plane(northing)) {
-        return Angles::Refused(refusal::PLANE);
+        return Err(Refusal::Plane);
     }
-    unproject(p, easting, northing)
+    let t = turn(p, easting, northing);
+    if !gate(t) {
+        return Err(Refusal::Geodetic);
+    }
+    in_units(centre, find(p, t))
 }
 
-// A point on a projection as it is written. Refused: RANGE for the parameters, then PLANE, then GEODETIC.
-pub fn reverse(p: Parameters, easting: f64, northing: f64) -> Angles
-    ensures { result ≡ reverse_of p easting northing }
+// A point on a projection as it is written. Refused: Range for the parameters, then Plane, then Geodetic.
+pub fn reverse(p: Parameters, easting: f64, northing: f64) -> Result<Place, Refusal>
+    ensures { told result ≡ reverse_of p easting northing }
 {
-    match make_projection(p) {
-        ProjectionAnswer::Refused(n) => Angles::Refused(n),
-        ProjectionAnswer::Made(made) => reverse_from(made, easting, northing),
-    }
+    reverse_from(make_projection(p)?, easting, northing)
 }

@@ -1,12 +1,14 @@
 // The projection made from its parameters, in document 004's order. ln t0, ln F and ln H stand for t0, F and H.
 ghost use Rattle.std.specs.Prelude.{◌≡◌, true};
+ghost use Rattle.refusal.specs.Refusals.{told};
 ghost use Rattle.oblique_mercator.specs.Parameters.{parameters_range};
 ghost use Rattle.oblique_mercator.specs.Projection.{isometric_of, centre_of, natural_of, series_of, projection_made, projection_of};
 
 use crate::limits::{in_range, reduced};
-use crate::{Parameters, Projection, ProjectionAnswer};
+use crate::{Parameters, Projection};
 use angle::Ellipsoid;
 use elementary::{arcsine, arctan_series, artanh_small, cosine, root, sine};
+use refusal::Refusal;
 
 // At the centre: A, B, D, G, which is the root of D * D - 1, and ln H.
 #[derive(Clone, Copy)]
@@ -132,12 +134,12 @@ fn made(p: Parameters) -> Projection
     }
 }
 
-// A projection made ready for many points. Refused: RANGE for any parameter out of its range.
-pub fn make_projection(p: Parameters) -> ProjectionAnswer
-    ensures { result ≡ projection_of p }
+// A projection made ready for many points. Refused: Range for any parameter out of its range.
+pub fn make_projection(p: Parameters) -> Result<Projection, Refusal>
+    ensures { told result ≡ projection_of p }
 {
     if !in_range(p) {
-        return ProjectionAnswer::Refused(refusal::RANGE);
+        return Err(Refusal::Range);
     }
-    ProjectionAnswer::Made(made(p))
+    Ok(made(p))
 }

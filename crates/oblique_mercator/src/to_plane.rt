@@ -1,12 +1,14 @@
 // Latitude and longitude to easting and northing.
 ghost use Rattle.std.specs.Prelude.{◌≡◌, true};
+ghost use Rattle.refusal.specs.Refusals.{told};
 ghost use Rattle.ranges.specs.Ranges.{latitude_range, longitude_range};
 ghost use Rattle.oblique_mercator.specs.Forward.{plane_of, plane_at, forward_from_of, forward_of};
 
 use crate::making::{isometric, make_projection};
-use crate::{Parameters, Projection, ProjectionAnswer};
+use crate::{Parameters, Projection};
 use angle::Projected;
 use elementary::{arctangent, artanh, cosh, cosine, sine, sinh};
+use refusal::Refusal;
 
 // The formulas, of the latitude and of the longitude less the centre's, both in radians.
 fn plane(p: Projection, latitude: f64, difference: f64) -> Projected
@@ -25,7 +27,7 @@ fn plane(p: Projection, latitude: f64, difference: f64) -> Projected
     let u = p.r * arctangent(n);
     let easting = v * p.cos_rectified + u * p.sin_rectified + p.false_easting;
     let northing = u * p.cos_rectified - v * p.sin_rectified + p.false_northing;
-    Projected::Metres(easting, northing)
+    Projected { easting, northing }
 }
 
 // The same of whole units, for longitudes in their range: the difference is taken in whole numbers.
@@ -38,29 +40,21 @@ fn project(p: Projection, latitude: i64, longitude: i64) -> Projected
     plane(p, phi, difference)
 }
 
-// A point on a made projection, whatever the projection holds: easting and northing in metres. Refused: RANGE where the projection's longitude is out of its range, which
-// make_projection never makes, then GEODETIC for the point's angles.
-pub fn forward_from(p: Projection, latitude: i64, longitude: i64) -> Projected
-    ensures { result ≡ forward_from_of p latitude longitude }
+// A point on a made projection, whatever the projection holds: easting and northing in metres. Refused: Range where the projection's longitude
+// is out of its range, which make_projection never makes, then Geodetic for the point's angles.
+pub fn forward_from(p: Projection, latitude: i64, longitude: i64) -> Result<Projected, Refusal>
+    ensures { told result ≡ forward_from_of p latitude longitude }
 {
     if !ranges::is_longitude(p.centre) {
-        return Projected::Refused(refusal::RANGE);
+        return Err(Refusal::Range);
     }
-    if !ranges::is_latitude(latitude) {
-        return Projected::Refused(refusal::GEODETIC);
-    }
-    if !ranges::is_longitude(longitude) {
-        return Projected::Refused(refusal::GEODETIC);
-    }
-    project(p, latitude, longitude)
+    angle::angles_fault(latitude, longitude)?;
+    Ok(project(p, latitude, longitude))
 }
 
-// A point on a projection as it is written, in metres. Refused: RANGE for the parameters, then GEODETIC for the point's angles.
-pub fn forward(p: Parameters, latitude: i64, longitude: i64) -> Projected
-    ensures { result ≡ forward_of p latitude longitude }
+// A point on a projection as it is written, in metres. Refused: Range for the parameters, then Geodetic for the point's angles.
+pub fn forward(p: Parameters, latitude: i64, longitude: i64) -> Result<Projected, Refusal>
+    ensures { told result ≡ forward_of p latitude longitude }
 {
-    match make_projection(p) {
-        ProjectionAnswer::Refused(n) => Projected::Refused(n),
-        ProjectionAnswer::Made(made) => forward_from(made, latitude, longitude),
-    }
+    forward_from(make_projection(p)?, latitude, longitude)
 }

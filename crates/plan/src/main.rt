@@ -7,6 +7,7 @@ ghost use Rattle.plan_rules.specs.Plan.{plan_of};
 
 use std::io;
 
+// The sheet and the plan program stay two: each promises what its own definition prints.
 // What the plan prints, whole, whatever the input: the very part of the room that is to be written.
 fn answer<'a>(text: &[u8], printed: &'a mut [u8]) -> &'a mut [u8]
     requires { room_for (length text.now) ≤ length printed.old }
@@ -35,7 +36,7 @@ fn print_any(rt: &impl Print, text: &[u8]) -> io::Result<()> {
 
 fn main(rt: HostRuntime) -> io::Result<()> {
     let mut text = listing::input_space();
-    let input::Input::Whole(held) = input::read_all(&mut rt.stdin(), &mut text) else {
+    let Some(held) = input::read_all(&mut rt.stdin(), &mut text) else {
         return Ok(());
     };
     if held <= listing::SHORT_INPUT {

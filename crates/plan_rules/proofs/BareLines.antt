@@ -4,14 +4,14 @@ use mathlib.Core.Path.{◌≡◌, refl, ap}
 use mathlib.Core.List.{List, [], ◌∷◌}
 use native.Mathlib.Nat.{add-zero}
 use native.Mathlib.Omega.{arith}
-use Rattle.line.specs.declared.Fault.{Fault}
+use Rattle.line.specs.Answers.{Fault}
 use Rattle.line.specs.Bytes.{line_feed}
 use Rattle.line.specs.Text.{refusal_text}
 use Rattle.line.proofs.BareLines.{feed-fault}
 use Rattle.listing.proofs.Fold.{Bare, after_feeds, after-feeds}
 use Rattle.plan_rules.specs.declared.State.{State}
 use Rattle.plan_rules.specs.Plan.{Plan, rules, reply_of, next_of}
-use Rattle.plan_rules.specs.State.{Holds, passed_in}
+use Rattle.plan_rules.specs.State.{Holds}
 
 pub bare : Bare rules (λ (p : Plan). p.line)
 unfolding reply_of next_of
@@ -29,6 +29,6 @@ further-one : (k : ℕ) (p : Plan) → further (suc k) p ≡ further k (rules.ne
 unfolding further next_of
 further-one k p = let e : p.line + suc k ≡ p.line + 1 + k = omega arith in rw e
 
-pub hold-feeds : {st : State} {p : Plan} (k : ℕ) → Holds st p → Holds (passed_in st k) (after_feeds rules k p)
-unfolding passed_in further
+pub hold-feeds : {st : State} {p : Plan} (k : ℕ) → Holds st p → Holds (record { line = st.line + k; origin = st.origin }) (after_feeds rules k p)
+unfolding further
 hold-feeds {p = p} k h = rw (after-feeds rules further further-none further-one k p) (record { line = ap (λ (n : ℕ). n + k) h.line; origin = h.origin })

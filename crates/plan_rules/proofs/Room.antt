@@ -4,17 +4,16 @@ use mathlib.Core.Bool.{Bool, true, false}
 use mathlib.Core.List.{List}
 use mathlib.Core.Option.{Option, none, some}
 use Prim.Native.Nat.{ℕ, ◌*◌, ◌<◌, ◌≤◌}
+use Rattle.std.proofs.Common.{Result}
 use native.Mathlib.Omega.{arith}
 use lib.ListN.{length}
 use Rattle.refusal.specs.Numbers as refusal
 use Rattle.refusal.specs.Order.{pick}
 use Rattle.angle.specs.declared.OriginNumbers.{OriginNumbers}
-use Rattle.angle.specs.declared.ProjectedMillimetres.{ProjectedMillimetres}
+use Rattle.angle.specs.declared.Millimetres.{Millimetres}
 use Rattle.angle.proofs.Outcomes as projection
-use Rattle.line.specs.declared.Fault.{Fault}
+use Rattle.line.specs.Answers.{Fault, Line}
 use Rattle.line.specs.declared.Geodetic.{Geodetic}
-use Rattle.line.specs.declared.OriginLine.{OriginLine}
-use Rattle.line.specs.declared.GeodeticLine.{GeodeticLine}
 use Rattle.line.specs.Bytes.{letter_o, letter_g}
 use Rattle.line.specs.Readers.{strange_fault, read_origin, read_geodetic}
 use Rattle.line.proofs.Lengths.{length-projected}
@@ -43,7 +42,7 @@ module _ (p : Plan) (l : List ℕ) (full : 0 < length l) (few : p.line < 100000)
   bad-form f h = refusal-fits l p.line f.number f.place full few h.number h.inside h.low
 
   origin : Fits (length l) (origin_reply p (read_origin l))
-  origin = origin-outcome (λ (r : OriginLine). Fits (length l) (origin_reply p r)) l (λ o f. good (not_first p)) bad-form (λ n h. refused _ (either (not_first p) refusal.misplaced n (omega arith) h))
+  origin = origin-outcome (λ (r : Line OriginNumbers). Fits (length l) (origin_reply p r)) l (λ o f. good (not_first p)) bad-form (λ n h. refused _ (either (not_first p) refusal.misplaced n (omega arith) h))
     where
       good : (b : Bool) → Fits (length l) (pick b (refuse p refusal.misplaced) reply.Nothing)
       good true = refused refusal.misplaced (omega arith)
@@ -51,12 +50,12 @@ module _ (p : Plan) (l : List ℕ) (full : 0 < length l) (few : p.line < 100000)
 
   -- a good position line has 8 bytes or more, and the projected line at most 60
   geodetic : Fits (length l) (geodetic_reply p (read_geodetic l))
-  geodetic = geodetic-outcome (λ (r : GeodeticLine). Fits (length l) (geodetic_reply p r)) l (λ g h. good g h p.origin) bad-form (λ n h. refused _ (either (no_origin p.origin) refusal.earlier n (omega arith) h))
+  geodetic = geodetic-outcome (λ (r : Line Geodetic). Fits (length l) (geodetic_reply p r)) l (λ g h. good g h p.origin) bad-form (λ n h. refused _ (either (no_origin p.origin) refusal.earlier n (omega arith) h))
     where
       good : (g : Geodetic) → 8 ≤ length l → (o : Option OriginNumbers) → Fits (length l) (laid p o g)
       good g h none = refused refusal.earlier (omega arith)
       good g h (some o) =
-          projection.outcome o g.latitude g.longitude (λ (r : ProjectedMillimetres). Fits (length l) (projected_reply p g.id r))
+          projection.outcome o g.latitude g.longitude (λ (r : Result Millimetres ℕ). Fits (length l) (projected_reply p g.id r))
           (λ e n i j. omega (arith, length-projected g.id e n (omega arith) (omega arith))) refused
 
   short : Fits (length l) (reply_of p l)

@@ -1,19 +1,14 @@
 -- What a plan prints. The first line is the origin; each good position prints its easting and northing, each refused line prints R.
-use Rattle.std.specs.Prelude.{ℕ, ◌+◌, Bool, true, false, not, List, [], eqb}
+use Rattle.std.specs.Prelude.{ℕ, ◌+◌, Bool, true, false, not, List, [], eqb, Result, Ok, Err}
 use Rattle.std.proofs.Math.Option.{Option, none, some}
 use Rattle.refusal.specs.Numbers as refusal
 use Rattle.refusal.specs.Order.{pick}
 use Rattle.chain.specs.declared.Id.{Id}
 use Rattle.angle.specs.declared.OriginNumbers.{OriginNumbers}
-use Rattle.angle.specs.declared.ProjectedMillimetres.{ProjectedMillimetres}
-use Rattle.angle.specs.declared.ProjectedMillimetres.TheVariants as projected
+use Rattle.angle.specs.declared.Millimetres.{Millimetres}
 use Rattle.angle.specs.Cassini.{cassini_millimetres_of}
-use Rattle.line.specs.declared.Fault.{Fault}
 use Rattle.line.specs.declared.Geodetic.{Geodetic}
-use Rattle.line.specs.declared.OriginLine.{OriginLine}
-use Rattle.line.specs.declared.OriginLine.TheVariants as origin-line
-use Rattle.line.specs.declared.GeodeticLine.{GeodeticLine}
-use Rattle.line.specs.declared.GeodeticLine.TheVariants as geodetic-line
+use Rattle.line.specs.Answers.{Fault, Line, Good, Malformed, Refused}
 use Rattle.line.specs.Bytes.{letter_o, letter_g}
 use Rattle.line.specs.Readers.{strange_fault, read_origin, read_geodetic}
 use Rattle.line.specs.Text.{projected_text, refusal_text}
@@ -52,33 +47,33 @@ abbrev pub with_origin : Plan → Option OriginNumbers → Plan
 with_origin p origin = record { line = p.line + 1; origin = origin }
 
 -- ---- an origin line: its form, 7, 2, 12; an accepted one prints nothing
-abbrev pub origin_reply : Plan → OriginLine → Reply
-origin_reply p (origin-line.Malformed f) = malformed p f
-origin_reply p (origin-line.Refused n) = refuse p (pick (not_first p) refusal.misplaced n)
-origin_reply p (origin-line.Origin o) = pick (not_first p) (refuse p refusal.misplaced) reply.Nothing
+abbrev pub origin_reply : Plan → Line OriginNumbers → Reply
+origin_reply p (Malformed f) = malformed p f
+origin_reply p (Refused n) = refuse p (pick (not_first p) refusal.misplaced n)
+origin_reply p (Good o) = pick (not_first p) (refuse p refusal.misplaced) reply.Nothing
 
-abbrev pub origin_after : Plan → OriginLine → Option OriginNumbers
-origin_after p (origin-line.Malformed f) = p.origin
-origin_after p (origin-line.Refused n) = p.origin
-origin_after p (origin-line.Origin o) = pick (not_first p) p.origin (some o)
+abbrev pub origin_after : Plan → Line OriginNumbers → Option OriginNumbers
+origin_after p (Malformed f) = p.origin
+origin_after p (Refused n) = p.origin
+origin_after p (Good o) = pick (not_first p) p.origin (some o)
 
 -- ---- a position line: its form, 8, 12, then 13 and 14 of the projection
 abbrev pub no_origin : Option OriginNumbers → Bool
 no_origin none = true
 no_origin (some o) = false
 
-abbrev pub projected_reply : Plan → Id → ProjectedMillimetres → Reply
-projected_reply p id (projected.Millimetres e n) = reply.Projected id e n
-projected_reply p id (projected.Refused number) = refuse p number
+abbrev pub projected_reply : Plan → Id → Result Millimetres ℕ → Reply
+projected_reply p id (Ok at) = reply.Projected id at.easting at.northing
+projected_reply p id (Err number) = refuse p number
 
 abbrev pub laid : Plan → Option OriginNumbers → Geodetic → Reply
 laid p none g = refuse p refusal.earlier
 laid p (some o) g = projected_reply p g.id (cassini_millimetres_of o g.latitude g.longitude)
 
-abbrev pub geodetic_reply : Plan → GeodeticLine → Reply
-geodetic_reply p (geodetic-line.Malformed f) = malformed p f
-geodetic_reply p (geodetic-line.Refused n) = refuse p (pick (no_origin p.origin) refusal.earlier n)
-geodetic_reply p (geodetic-line.Geodetic g) = laid p p.origin g
+abbrev pub geodetic_reply : Plan → Line Geodetic → Reply
+geodetic_reply p (Malformed f) = malformed p f
+geodetic_reply p (Refused n) = refuse p (pick (no_origin p.origin) refusal.earlier n)
+geodetic_reply p (Good g) = laid p p.origin g
 
 -- ---- one line, by its first byte
 unfoldable pub reply_of : Plan → List ℕ → Reply

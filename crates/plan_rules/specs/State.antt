@@ -1,41 +1,41 @@
--- How the code carries a plan: the accepted origin's values, made once.
-use Rattle.std.specs.Prelude.{◌≡◌, ℕ, ◌+◌}
+-- How the code carries a plan: the accepted origin's values, made once; and what it decides on a line.
+use Rattle.std.specs.Prelude.{◌≡◌, ℕ, Result, Ok, Err, Some, None}
+use Rattle.std.specs.Prelude as declared
 use Rattle.std.proofs.Math.Option.{Option, none, some}
+use Rattle.refusal.specs.Refusals.{number}
+use Rattle.angle.specs.declared.Origin.{Origin}
 use Rattle.angle.specs.declared.OriginNumbers.{OriginNumbers}
-use Rattle.angle.specs.declared.OriginAnswer.TheVariants as answer
 use Rattle.angle.specs.Cassini.{origin_of}
-use Rattle.plan_rules.specs.declared.PlanOrigin.{PlanOrigin}
-use Rattle.plan_rules.specs.declared.PlanOrigin.TheVariants.{Missing, Made}
+use Rattle.line.specs.declared.Unread.{Unread}
+use Rattle.line.specs.declared.Unread.TheVariants as unread
 use Rattle.plan_rules.specs.declared.Reply.{Reply}
 use Rattle.plan_rules.specs.declared.Reply.TheVariants as reply
 use Rattle.plan_rules.specs.declared.State.{State}
-use Rattle.plan_rules.specs.declared.Decided.{Decided}
 use Rattle.plan_rules.specs.Plan.{Plan}
 
 -- the values are those that the accepted origin's numbers give
-abbrev pub Values : PlanOrigin → Option OriginNumbers → Type 0
-Values Missing none = Unit {0}
-Values Missing (some o) = ⊥
-Values (Made m) none = ⊥
-Values (Made m) (some o) = origin_of o ≡ answer.Made m
+abbrev pub Values : declared.Option Origin → Option OriginNumbers → Type 0
+Values None none = Unit {0}
+Values None (some o) = ⊥
+Values (Some m) none = ⊥
+Values (Some m) (some o) = origin_of o ≡ Ok m
 
 -- the state holds the plan
 pub record Holds (st : State) (p : Plan) : Type 0 where
   pub line : st.line ≡ p.line
   pub origin : Values st.origin p.origin
 
--- what was decided on a line: the reply to it, and the plan after it held
-pub record Gave (answer : Reply) (next : Plan) (r : Decided) : Type 0 where
-  pub reply : r.reply ≡ answer
-  pub holds : Holds r.state next
+-- the reply to a line that is not read or not answered, with the line's number
+abbrev pub unread_reply : ℕ → Unread → Reply
+unread_reply line (unread.Malformed f) = reply.Refused line (number f.refusal) f.place
+unread_reply line (unread.Refused refusal) = reply.Refused line (number refusal) 0
 
--- the state after a line that leaves the origin as it is, and what is decided on a refused line
-unfoldable pub after_in : State → State
-after_in st = record { line = st.line + 1; origin = st.origin }
+-- the reply to any line
+abbrev pub reply_told : ℕ → Result Reply Unread → Reply
+reply_told line (Ok r) = r
+reply_told line (Err u) = unread_reply line u
 
--- the state after k lines that leave it
-unfoldable pub passed_in : State → ℕ → State
-passed_in st k = record { line = st.line + k; origin = st.origin }
-
-unfoldable pub refused_in : State → ℕ → ℕ → Decided
-refused_in st number place = record { reply = reply.Refused st.line number place; state = after_in st }
+-- what was decided on a line: the reply to it, and the origin after it
+pub record Gave (p : Plan) (answer : Reply) (origin : Option OriginNumbers) (r : Result Reply Unread) (st : State) : Type 0 where
+  pub reply : reply_told p.line r ≡ answer
+  pub after : Values st.origin origin

@@ -1,11 +1,11 @@
-// A plan's rules: one line decided by value over a state, and a whole plan from bytes to bytes.
+// A plan's rules: one line decided over a state, and a whole plan from bytes to bytes.
 #![tactic(auto)]
 
 mod decide;
 
 pub use decide::whole::plan;
 
-// The reply to a line.
+// The reply to a line. It stays an enum of three: what prints nothing is no error, and a refusal has its line beside its number.
 #[derive(Clone, Copy)]
 enum Reply {
     // An accepted origin prints nothing.
@@ -16,24 +16,11 @@ enum Reply {
     Refused(u64, u8, u8),
 }
 
-// The plan's origin: none accepted, or its values, made once for all positions.
-#[derive(Clone, Copy)]
-enum PlanOrigin {
-    Missing,
-    Made(angle::Origin),
-}
-
 // What has been read so far.
 #[derive(Clone, Copy)]
 struct State {
     // The number of the line to come, from 1.
     line: u64,
-    origin: PlanOrigin,
-}
-
-// What is decided on a line: the reply to it, and the state after it.
-#[derive(Clone, Copy)]
-struct Decided {
-    reply: Reply,
-    state: State,
+    // The accepted origin's values, made once for all positions.
+    origin: Option<angle::Origin>,
 }

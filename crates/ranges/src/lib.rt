@@ -1,22 +1,22 @@
-// The table of ranges: which whole numbers the product takes. All ends are allowed, every i64 is answered, and a range is said as (low, number, high) everywhere.
-// Tests are joined by `&`, so that each function is one expression with no branch.
+// The table of ranges: which whole numbers the product takes. All ends are allowed, every i64 is answered, and a range is said as (low,
+// number, high) everywhere. Tests are joined by `&`, so that each function is one expression with no branch.
 #![tactic(auto)]
 
 ghost use Rattle.std.specs.Prelude.{◌≡◌, ◌&&◌};
 ghost use Rattle.ranges.specs.Ranges.{within, equal, area, ellipsoid_range, latitude_range, longitude_range, height_range, offset_range, profile_range};
 
-// Whether lo <= z <= hi.
+// Whether lo <= z <= hi. It stays as it is, and no `(lo..=hi).contains(&z)`: every coordinate and every step passes by here, with no branch.
 pub fn within(lo: i64, z: i64, hi: i64) -> bool
     ensures { result ≡ within lo z hi }
 {
     (lo <= z) & (z <= hi)
 }
 
-// Whether two numbers are one.
+// Whether two numbers are one. It stays for its callers, whose tests of ranges are calls joined by `&` and `|`.
 pub fn equal(a: i64, b: i64) -> bool
     ensures { result ≡ equal a b }
 {
-    within(a, b, a)
+    a == b
 }
 
 // Whether three numbers lie in one range.

@@ -16,14 +16,14 @@ use Rattle.rounding.proofs.Nearest.{near_apart, near-mono, near-size, near-least
 
 -- ---- z = t·d + r
 module _ (d : ℕ) (d>0 : 0 < d) where
-  divided : (z : ℤ) → z ≡ floor z d *ℤ pos d +ℤ pos (rest z d)
+  pub divided : (z : ℤ) → z ≡ floor z d *ℤ pos d +ℤ pos (rest z d)
   unfolding floor rest
   divided (pos a) = eq (k a) (k (a / d) ⊗ k d ⊕ k (a % d)) (omega (arith, NatL.div-add-mod' a d))
   divided (negsuc a) =
       let l = NatL.mod-lt a d>0 in
       eq (k- a) (k- (a / d) ⊗ k d ⊕ k _) (omega (arith, NatL.div-add-mod' a d))
 
-  below : (z : ℤ) → rest z d < d
+  pub below : (z : ℤ) → rest z d < d
   unfolding rest
   below (pos a) = NatL.mod-lt a d>0
   below (negsuc a) = omega arith

@@ -6,13 +6,13 @@ use native.Mathlib.Nat.{add-zero}
 use native.Mathlib.Omega.{arith}
 use lib.IntN.{ℤ}
 use lib.ListN.{length}
-use Rattle.line.specs.declared.Fault.{Fault}
 use Rattle.line.specs.Bytes.{line_feed}
 use Rattle.line.specs.Text.{refusal_text}
 use Rattle.line.proofs.BareLines.{feed-fault}
 use Rattle.listing.proofs.Fold.{Bare, after_feeds, after-feeds}
 use Rattle.sheet_rules.specs.declared.State.{State}
 use Rattle.sheet_rules.specs.Sheet.{Sheet, rules, reply_of, next_of}
+use Rattle.line.specs.Answers.{Fault}
 use Rattle.sheet_rules.specs.State.{Holds, passed_in}
 
 pub bare : Bare rules (λ (s : Sheet). s.line)

@@ -12,25 +12,18 @@ use lib.ListN.{length, get_or, take, drop, set, length-append, length-take, take
 use lib.Seq.{drop-nil, take-length, take-append_seam, length-take-le, set_split}
 use Rattle.refusal.specs.Numbers as refusal
 use Rattle.refusal.specs.Order.{first, pick, unless, ◌gives◌}
+use Rattle.std.specs.Prelude.{Some, None, Result, Ok, Err}
+use Rattle.line.specs.Answers.{Fault, Line, Good, Malformed, Refused}
 use Rattle.refusal.proofs.Orders.{head-holds, step-passed, unless-none}
 use Rattle.ranges.specs.Ranges.{profile_range}
 use Rattle.chain.specs.declared.Step.{Step}
 use Rattle.chain.specs.declared.Point.{Point}
 use Rattle.chain.specs.declared.Chain.{Chain}
-use Rattle.chain.specs.declared.Answer.{Answer}
-use Rattle.chain.specs.declared.Answer.TheVariants as answer
 use Rattle.chain.specs.Faults.{step_fault, steps_tests, chain_tests, steps_of}
 use Rattle.chain.specs.Convert.{forward_of, joins, more_tests}
 use Rattle.chain.specs.Prepared as prepared
 use Rattle.chain.specs.Prepared.{chain_of}
 use Rattle.chain.proofs.Keeping.{sound_more, holds-fresh}
-use Rattle.line.specs.declared.Fault.{Fault}
-use Rattle.line.specs.declared.PointLine.{PointLine}
-use Rattle.line.specs.declared.PointLine.TheVariants as point-line
-use Rattle.line.specs.declared.StepLine.{StepLine}
-use Rattle.line.specs.declared.StepLine.TheVariants as step_line
-use Rattle.line.specs.declared.EditionLine.{EditionLine}
-use Rattle.line.specs.declared.EditionLine.TheVariants as edition-line
 use Rattle.line.specs.Bytes.{letter_s, letter_p, letter_e}
 use Rattle.line.specs.Readers.{read_step, read_point, read_edition, strange_fault}
 use Rattle.line.proofs.Readers.{step-outcome}
@@ -40,7 +33,6 @@ use Rattle.sheet_rules.specs.declared.Reply.TheVariants as reply
 use Rattle.sheet_rules.specs.declared.State.{State}
 use Rattle.sheet_rules.specs.declared.Standing.{Standing}
 use Rattle.sheet_rules.specs.declared.Answered.{Answered}
-use Rattle.sheet_rules.specs.declared.Response.TheVariants as response
 use Rattle.sheet_rules.specs.Sheet.{Sheet, refuse, malformed, step_line_tests, step_reply, point_reply, edition_reply, after_step, after_point, with_step, without_step, with_edition, edition_tests, after_edition, passed, reply_of, next_of}
 use Rattle.sheet_rules.specs.State.{Holds, Gave}
 use Rattle.sheet_rules.proofs.Laws.{next-line, no_steps}
@@ -51,7 +43,7 @@ steps-by : (s : Sheet) (l : List ℕ) → (next_of s l).steps ≡ steps_after s.
 unfolding next_of reply_of
 steps-by s l = go (eqb (get_or l 0 0) letter_s) (eqb (get_or l 0 0) letter_p) (eqb (get_or l 0 0) letter_e) (read_step s.profile l) (read_edition l) (point_reply s (read_point s.profile l))
   where
-    of-step : (t : Step) (n : ℕ) → (unless n (λ _. without_step s) (with_step s t)).steps ≡ steps_after s.steps true (unless n (refuse s) reply.Nothing) (step_line.Step t)
+    of-step : (t : Step) (n : ℕ) → (unless n (λ _. without_step s) (with_step s t)).steps ≡ steps_after s.steps true (unless n (refuse s) reply.Nothing) (Good t)
     of-step t zero = refl
     of-step t (suc n) = refl
 
@@ -59,13 +51,13 @@ steps-by s l = go (eqb (get_or l 0 0) letter_s) (eqb (get_or l 0 0) letter_p) (e
     of-edition y zero = refl
     of-edition y (suc n) = refl
 
-    go : (a b c : Bool) (r : StepLine) (d : EditionLine) (x : Reply) → (pick a (after_step s r) (pick b (after_point s (read_point s.profile l)) (pick c (after_edition s d) (passed s)))).steps ≡ steps_after s.steps a (pick a (step_reply s r) (pick b x (pick c (edition_reply s d) (malformed s (strange_fault l))))) r
-    go true b c (step_line.Malformed f) d x = refl
-    go true b c (step_line.Refused n) d x = refl
-    go true b c (step_line.Step t) d x = of-step t (first (step_line_tests s t))
+    go : (a b c : Bool) (r : Line Step) (d : Result ℤ Fault) (x : Reply) → (pick a (after_step s r) (pick b (after_point s (read_point s.profile l)) (pick c (after_edition s d) (passed s)))).steps ≡ steps_after s.steps a (pick a (step_reply s r) (pick b x (pick c (edition_reply s d) (malformed s (strange_fault l))))) r
+    go true b c (Malformed f) d x = refl
+    go true b c (Refused n) d x = refl
+    go true b c (Good t) d x = of-step t (first (step_line_tests s t))
     go false true c r d x = refl
-    go false false true r (edition-line.Malformed f) x = refl
-    go false false true r (edition-line.Edition y) x = of-edition y (first (edition_tests s y))
+    go false false true r (Err f) x = refl
+    go false false true r (Ok y) x = of-edition y (first (edition_tests s y))
     go false false false r d x = refl
 
 -- a reply with a text is not the one with none
@@ -85,14 +77,14 @@ joins-few s t z =
     (c.0, leb-false 8 (length s.steps) (step-passed (leb 8 (length s.steps)) refusal.ninth 0 tt c.1).0)
 
 -- an accepted step is the eighth at most
-pub accepted-few : (s : Sheet) (l : List ℕ) (t : Step) → eqb (get_or l 0 0) letter_s ≡ true → reply_of s l ≡ reply.Nothing → read_step s.profile l ≡ step_line.Step t → length s.steps < 8
+pub accepted-few : (s : Sheet) (l : List ℕ) (t : Step) → eqb (get_or l 0 0) letter_s ≡ true → reply_of s l ≡ reply.Nothing → read_step s.profile l ≡ Good t → length s.steps < 8
 unfolding reply_of
 accepted-few s l t b e f = go (read_step s.profile l) (rw b at e) f
   where
-    go : (r : StepLine) → step_reply s r ≡ reply.Nothing → r ≡ step_line.Step t → length s.steps < 8
-    go (step_line.Malformed f) q e = told-refusal _ _ _ q
-    go (step_line.Refused n) q e = told-refusal _ _ _ q
-    go (step_line.Step u) q e = (joins-few s u (no-fault s (first (step_line_tests s u)) q)).1
+    go : (r : Line Step) → step_reply s r ≡ reply.Nothing → r ≡ Good t → length s.steps < 8
+    go (Malformed f) q e = told-refusal _ _ _ q
+    go (Refused n) q e = told-refusal _ _ _ q
+    go (Good u) q e = (joins-few s u (no-fault s (first (step_line_tests s u)) q)).1
 
 -- ---- the chain after a line
 pub chain_same : (c : Chain) → c.length ≤ length c.steps → c ≡ chain_with c c.profile (steps_of c)
@@ -104,17 +96,17 @@ chain_more c t h =
     rw (n, add-one, set_split c.steps c.length t h, append_assoc)
 
 -- by the line's letter, the reply and what the line reads as
-module _ (c : Chain) (h : c.length ≤ length c.steps) (a : Bool) (r : Reply) (q : StepLine) where
+module _ (c : Chain) (h : c.length ≤ length c.steps) (a : Bool) (r : Reply) (q : Line Step) where
   pub after-other : a ≡ false → c ≡ chain_with c c.profile (steps_after (steps_of c) a r q)
   after-other d = rw d (chain_same c h)
 
-  pub after-accepted : (t : Step) → a ≡ true → r ≡ reply.Nothing → q ≡ step_line.Step t → chain_with c c.profile (steps_of c ++ (t ∷ [])) ≡ chain_with c c.profile (steps_after (steps_of c) a r q)
+  pub after-accepted : (t : Step) → a ≡ true → r ≡ reply.Nothing → q ≡ Good t → chain_with c c.profile (steps_of c ++ (t ∷ [])) ≡ chain_with c c.profile (steps_after (steps_of c) a r q)
   after-accepted t d e f = rw (d, e, f)
 
-  pub after-malformed : (g : Fault) → a ≡ true → r ≡ reply.Nothing → q ≡ step_line.Malformed g → c ≡ chain_with c c.profile (steps_after (steps_of c) a r q)
+  pub after-malformed : (g : Fault) → a ≡ true → r ≡ reply.Nothing → q ≡ Malformed g → c ≡ chain_with c c.profile (steps_after (steps_of c) a r q)
   after-malformed g d e f = rw (d, e, f) (chain_same c h)
 
-  pub after-refused : (n : ℕ) → a ≡ true → r ≡ reply.Nothing → q ≡ step_line.Refused n → c ≡ chain_with c c.profile (steps_after (steps_of c) a r q)
+  pub after-refused : (n : ℕ) → a ≡ true → r ≡ reply.Nothing → q ≡ Refused n → c ≡ chain_with c c.profile (steps_after (steps_of c) a r q)
   after-refused n d e f = rw (d, e, f) (chain_same c h)
 
   pub after-point : (p : Point) → a ≡ true → r ≡ reply.Point p → c ≡ chain_with c c.profile (steps_after (steps_of c) a r q)
@@ -129,15 +121,15 @@ module _ (st : Standing) (l : List ℕ) where
   chain_by c r y e g f = rw (f, e, g, steps-by (sheet_at st) l)
 
   -- ---- the answer
-  pub within-answered : st.line ≤ most_lines → (n : ℕ) (c : Chain) (a b : Bool) (r : Reply) → n ≡ (next_of (sheet_at st) l).line → c ≡ chain_with st.chain (next_of (sheet_at st) l).profile (next_of (sheet_at st) l).steps → a ≡ (next_of (sheet_at st) l).refused → b ≡ (next_of (sheet_at st) l).closed → r ≡ reply_of (sheet_at st) l → answered (record { line = n; chain = c; refused = a; closed = b }) (response.Replied r) ≡ line_answered st l
+  pub within-answered : st.line ≤ most_lines → (n : ℕ) (c : Chain) (a b : Bool) (r : Reply) → n ≡ (next_of (sheet_at st) l).line → c ≡ chain_with st.chain (next_of (sheet_at st) l).profile (next_of (sheet_at st) l).steps → a ≡ (next_of (sheet_at st) l).refused → b ≡ (next_of (sheet_at st) l).closed → r ≡ reply_of (sheet_at st) l → answered (record { line = n; chain = c; refused = a; closed = b }) (Some r) ≡ line_answered st l
   unfolding line_answered after_line reply_to past_lines
   within-answered h n c a b r e f g i j = rw (le-ltb most_lines st.line h, e, f, g, i, j)
 
-  pub past-answered : most_lines < st.line → answered st (response.Replied (reply.Refused (suc most_lines) refusal.limit 0)) ≡ line_answered st l
+  pub past-answered : most_lines < st.line → answered st (Some (reply.Refused (suc most_lines) refusal.limit 0)) ≡ line_answered st l
   unfolding line_answered after_line reply_to past_lines
   past-answered h = rw (lt-ltb most_lines st.line h)
 
-  pub unsound-answered : sound_standing st ≡ false → answered st response.Unsound ≡ answered_to st l
+  pub unsound-answered : sound_standing st ≡ false → answered st None ≡ answered_to st l
   unfolding answered_to
   unsound-answered e = rw e
 
@@ -191,18 +183,18 @@ grows s l = by-letters (λ (x : Sheet). length s.steps ≤ length x.steps) lette
     same : length s.steps ≤ length s.steps
     same = omega arith
 
-    step : (r : StepLine) → length s.steps ≤ length (after_step s r).steps
-    step (step_line.Malformed f) = same
-    step (step_line.Refused n) = same
-    step (step_line.Step t) = go (first (step_line_tests s t))
+    step : (r : Line Step) → length s.steps ≤ length (after_step s r).steps
+    step (Malformed f) = same
+    step (Refused n) = same
+    step (Good t) = go (first (step_line_tests s t))
       where
         go : (n : ℕ) → length s.steps ≤ length (unless n (λ _. without_step s) (with_step s t)).steps
         go zero = omega (arith, length-append s.steps (t ∷ []))
         go (suc n) = same
 
-    edition : (d : EditionLine) → length s.steps ≤ length (after_edition s d).steps
-    edition (edition-line.Malformed f) = same
-    edition (edition-line.Edition y) = go (first (edition_tests s y))
+    edition : (d : Result ℤ Fault) → length s.steps ≤ length (after_edition s d).steps
+    edition (Err f) = same
+    edition (Ok y) = go (first (edition_tests s y))
       where
         go : (n : ℕ) → length s.steps ≤ length (unless n (λ _. without_step s) (with_edition s y)).steps
         go zero = same
@@ -256,8 +248,8 @@ pub fresh-sound : (spare : List Step) → Sound (fresh_at spare)
 fresh-sound spare = record { from = omega arith; to = omega arith; chain = holds-fresh.sound }
 
 -- ---- it stays sound
-abbrev Good : ℤ → List Step → Type 0
-Good y ss = first (chain_tests (chain_of y ss)) ≡ 0
+abbrev GoodSteps : ℤ → List Step → Type 0
+GoodSteps y ss = first (chain_tests (chain_of y ss)) ≡ 0
 
 -- a chain's tests: its profile, its length and its steps
 parts : (y : ℤ) (n : ℕ) (ss : List Step) → first ((not (profile_range y) gives refusal.range) ∷ (ltb 8 n gives refusal.ninth) ∷ steps_tests y ss) ≡ 0 → (profile_range y ≡ true) × (n ≤ 8) × (first (steps_tests y ss) ≡ 0)
@@ -269,38 +261,38 @@ parts y n ss e =
 pub sound-short : (st : Standing) → sound_standing st ≡ true → st.chain.length ≤ 8
 sound-short st e = (parts st.chain.profile st.chain.length (steps_of st.chain) (sound-parts st e).chain).1
 
-good-said : (c : Chain) → first (chain_tests c) ≡ 0 → Good c.profile (steps_of c)
+good-said : (c : Chain) → first (chain_tests c) ≡ 0 → GoodSteps c.profile (steps_of c)
 good-said c e =
     let p = parts c.profile c.length (steps_of c) e in
     rw (take-length (steps_of c), p.0, le-ltb 8 (length (steps_of c)) (omega (arith, few-steps c, p.1))) p.2
 
-good-with : (c : Chain) (y : ℤ) (ss : List Step) → Good y ss → first (chain_tests (chain_with c y ss)) ≡ 0
+good-with : (c : Chain) (y : ℤ) (ss : List Step) → GoodSteps y ss → first (chain_tests (chain_with c y ss)) ≡ 0
 good-with c y ss g = rw (take-append_seam ss (drop (length ss) c.steps)) (rw (take-length ss) at g)
 
 -- a chain that is good by value, of no more steps than lines
 abbrev Kept : Sheet → Type 0
-Kept s = Good s.profile s.steps × (length s.steps < s.line)
+Kept s = GoodSteps s.profile s.steps × (length s.steps < s.line)
 
 kept_next : (s : Sheet) (l : List ℕ) → Kept s → Kept (next_of s l)
 unfolding next_of
 kept_next s l g = by-letters Kept letter_s letter_p letter_e l _ _ _ _ step same (edition (read_edition l)) same
   where
-    same : Good s.profile s.steps × (length s.steps < s.line + 1)
+    same : GoodSteps s.profile s.steps × (length s.steps < s.line + 1)
     same = (g.0, omega (arith, g.1))
 
     step : Kept (after_step s (read_step s.profile l))
-    step = step-outcome s.profile (λ (r : StepLine). Kept (after_step s r)) l good (λ f h. same) (λ n h. same)
+    step = step-outcome s.profile (λ (r : Line Step). Kept (after_step s r)) l good (λ f h. same) (λ n h. same)
       where
-        good : (t : Step) → step_fault s.profile t ≡ 0 → Kept (after_step s (step_line.Step t))
+        good : (t : Step) → step_fault s.profile t ≡ 0 → Kept (after_step s (Good t))
         good t f = go (first (step_line_tests s t)) (λ z. z)
           where
             go : (n : ℕ) → (n ≡ 0 → first (step_line_tests s t) ≡ 0) → Kept (unless n (λ _. without_step s) (with_step s t))
             go zero k = let j = joins-few s t (k refl) in (sound_more s.profile s.steps t g.0 j.1 f j.0, omega (arith, g.1, length-append s.steps (t ∷ [])))
             go (suc n) k = same
 
-    edition : (d : EditionLine) → Kept (after_edition s d)
-    edition (edition-line.Malformed f) = same
-    edition (edition-line.Edition y) = go (first (edition_tests s y)) (λ z. z)
+    edition : (d : Result ℤ Fault) → Kept (after_edition s d)
+    edition (Err f) = same
+    edition (Ok y) = go (first (edition_tests s y)) (λ z. z)
       where
         go : (n : ℕ) → (n ≡ 0 → first (edition_tests s y) ≡ 0) → Kept (unless n (λ _. without_step s) (with_edition s y))
         go zero k =

@@ -11,13 +11,15 @@ use lib.Dec.{ltb, leb, eqb}
 use lib.IntN.{ℤ, pos}
 use lib.ListN.{length, take, drop, get_or, replicate}
 use lib.Seq.{take-suc, take-length, length-take-le}
+use Rattle.std.specs.Prelude.{Result, Ok, Err, is_ok, IsErr}
+use Rattle.refusal.specs.declared.Refusal.{Refusal}
 use Rattle.refusal.specs.Numbers as refusal
 use Rattle.refusal.specs.Order.{first, pick}
 use Rattle.ranges.specs.Ranges.{profile_range}
 use Rattle.refusal.proofs.Orders.{head-holds, step-passed}
 use Rattle.chain.specs.declared.Step.{Step}
 use Rattle.chain.specs.declared.Chain.{Chain}
-use Rattle.chain.specs.Faults.{steps_tests, chain_tests, steps_of}
+use Rattle.chain.specs.Faults.{profile_fault, steps_tests, chain_tests, steps_of}
 use Rattle.chain.specs.Convert.{joins, more_tests}
 use Rattle.chain.specs.Prepared as prepared
 use Rattle.chain.specs.Prepared.{extend_fault, extended_by, chain_of}
@@ -65,8 +67,21 @@ module _ (c : Chain) (short : c.length ≤ 8) (room : length c.steps ≡ 8) (l :
   next-step z m e = rw (e, add-one, take-suc c.steps i d (omega arith)) (extend-holds c.profile l (take i c.steps) here held z)
 
 -- of no profile
-pub no-profile : (c : Chain) → profile_range c.profile ≡ false → (m : List ℤ) → PreparesChain c m false
-no-profile c h m = bad c m (λ e. let z : ◌≡◌ {A = ℕ} 0 1 = omega (arith, rw h at e) in absurd (omega arith))
+pub profile-known : (y : ℤ) → profile_fault y ≡ 0 → profile_range y ≡ true
+unfolding profile_fault
+profile-known y e = (head-holds (profile_range y) _ _ e).0
+
+known-profile : (y : ℤ) → profile_range y ≡ true → profile_fault y ≡ 0
+unfolding profile_fault
+known-profile y e = rw e
+
+pub no-profile : (c : Chain) → (profile_fault c.profile ≡ 0 → ⊥) → (m : List ℤ) → PreparesChain c m false
+no-profile c h m = bad c m (λ e. h (known-profile c.profile (head-holds (profile_range c.profile) _ _ e).0))
+
+-- what is told of a bad chain
+pub told-bad : (c : Chain) (m : List ℤ) (r : Result (Unit {0}) Refusal) → IsErr r → PreparesChain c m false → PreparesChain c m (is_ok r)
+told-bad c m (Ok x) h p = absurd (let z : ◌≡◌ {A = ℕ} 0 1 = cc in omega arith)
+told-bad c m (Err e) h p = p
 
 -- too long
 pub long-chain : (c : Chain) → profile_range c.profile ≡ true → 8 < c.length → (m : List ℤ) → PreparesChain c m false

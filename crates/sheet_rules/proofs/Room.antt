@@ -4,22 +4,19 @@ use mathlib.Core.Bool.{Bool, true, false}
 use mathlib.Core.List.{List}
 use Prim.Native.Nat.{ℕ, zero, suc, ◌*◌, ◌<◌, ◌≤◌}
 use native.Mathlib.Omega.{arith}
+use lib.IntN.{ℤ}
 use lib.ListN.{length, length-append}
 use Rattle.refusal.specs.Numbers as refusal
 use Rattle.refusal.specs.Order.{pick, first, unless}
+use Rattle.std.specs.Prelude.{Result}
+use Rattle.line.specs.Answers.{Fault, Line, Good}
 use Rattle.refusal.proofs.Orders.{first_short}
 use Rattle.chain.specs.declared.Point.{Point}
 use Rattle.chain.specs.declared.Step.{Step}
-use Rattle.chain.specs.declared.Answer.{Answer}
 use Rattle.chain.specs.Faults.{point_fault}
-use Rattle.chain.specs.Convert.{forward_of}
+use Rattle.chain.specs.Convert.{Answer, forward_of}
 use Rattle.chain.specs.Prepared.{chain_of}
 use Rattle.chain.proofs.Outcomes as conversion
-use Rattle.line.specs.declared.Fault.{Fault}
-use Rattle.line.specs.declared.StepLine.{StepLine}
-use Rattle.line.specs.declared.PointLine.{PointLine}
-use Rattle.line.specs.declared.PointLine.TheVariants as point-line
-use Rattle.line.specs.declared.EditionLine.{EditionLine}
 use Rattle.line.specs.Bytes.{letter_s, letter_p, letter_e}
 use Rattle.line.specs.Readers.{strange_fault, read_point, read_step, read_edition}
 use Rattle.line.specs.Text.{decimal, refusal_text}
@@ -49,15 +46,15 @@ module _ (s : Sheet) (l : List ℕ) (n : ℕ) (refused : (k : ℕ) → k < 100 �
   unless-refused (suc k) h = refused (suc k) h
 
   step : Fits n (step_reply s (read_step s.profile l))
-  step = step-outcome s.profile (λ (r : StepLine). Fits n (step_reply s r)) l (λ t f. unless-refused (first (step_line_tests s t)) (first_short (step_line_tests s t) tt)) bad-form refused
+  step = step-outcome s.profile (λ (r : Line Step). Fits n (step_reply s r)) l (λ t f. unless-refused (first (step_line_tests s t)) (first_short (step_line_tests s t) tt)) bad-form refused
 
   edition : Fits n (edition_reply s (read_edition l))
-  edition = edition-outcome (λ (r : EditionLine). Fits n (edition_reply s r)) l (λ y. unless-refused (first (edition_tests s y)) (first_short (edition_tests s y) tt)) bad-form
+  edition = edition-outcome (λ (r : Result ℤ Fault). Fits n (edition_reply s r)) l (λ y. unless-refused (first (edition_tests s y)) (first_short (edition_tests s y) tt)) bad-form
 
   point : Fits n (point_reply s (read_point s.profile l))
-  point = point-outcome s.profile (λ (r : PointLine). Fits n (point_reply s r)) l good bad-form refused
+  point = point-outcome s.profile (λ (r : Line Point). Fits n (point_reply s r)) l good bad-form refused
     where
-      good : (p : Point) → point_fault s.profile p ≡ 0 → 18 ≤ length l → Fits n (point_reply s (point-line.Point p))
+      good : (p : Point) → point_fault s.profile p ≡ 0 → 18 ≤ length l → Fits n (point_reply s (Good p))
       good p f h = go s.refused
         where
           go : (b : Bool) → Fits n (pick b (refuse s refusal.earlier) (conversion_reply s (forward_of (chain_of s.profile s.steps) p)))

@@ -9,12 +9,12 @@ use lib.ListN.{length, get_or, take, length-append, length-take, get_or-append}
 use lib.Seq.{get_or-take}
 use native.Mathlib.Omega.{arith}
 use Rattle.refusal.specs.Numbers as refusal
+use Rattle.line.specs.Answers.{Malformed}
 use Rattle.refusal.specs.Order.{pick}
-use Rattle.line.specs.declared.PointLine.TheVariants as point-line
 use Rattle.line.specs.Bytes.{line_feed, letter_s, letter_p, letter_e}
 use Rattle.line.specs.Fields.{longest_line, body}
 use Rattle.line.specs.Malformed.{fault, end_of}
-use Rattle.line.proofs.Unread.{NoFeed, no-feed-in, no-feed-last, no_body, long-body, unread_fault, unread-step, unread-point, unread-edition, unread-strange, end-open, end-fed}
+use Rattle.line.proofs.NotRead.{NoFeed, no-feed-in, no-feed-last, no_body, long-body, unread_fault, unread-step, unread-point, unread-edition, unread-strange, end-open, end-fed}
 use Rattle.sheet_rules.specs.declared.Reply.TheVariants as reply
 use Rattle.sheet_rules.specs.Sheet.{Sheet, malformed, without_step, after_point, passed, reply_of, next_of}
 
@@ -31,7 +31,7 @@ unread-length s l e =
     go false false false = refl
 
 -- after it the rules go by its first byte
-unread-after : (s : Sheet) (l : List ℕ) → body l ≡ none → next_of s l ≡ pick (eqb (get_or l 0 0) letter_s) (without_step s) (pick (eqb (get_or l 0 0) letter_p) (after_point s (point-line.Malformed (unread_fault l))) (pick (eqb (get_or l 0 0) letter_e) (without_step s) (passed s)))
+unread-after : (s : Sheet) (l : List ℕ) → body l ≡ none → next_of s l ≡ pick (eqb (get_or l 0 0) letter_s) (without_step s) (pick (eqb (get_or l 0 0) letter_p) (after_point s (Malformed (unread_fault l))) (pick (eqb (get_or l 0 0) letter_e) (without_step s) (passed s)))
 unfolding next_of
 unread-after s l e = rw (unread-step s.profile l e, unread-point s.profile l e, unread-edition l e)
 

@@ -1,6 +1,7 @@
 -- Where a sheet stands between two lines, by value, for a sheet that arrives in fragments: its chain is steps, as a caller keeps them and hands them back.
-use Rattle.std.specs.Prelude.{◌≡◌, Bool, true, false, ◌&&◌, List, [], ◌∷◌, ◌++◌, ℕ, suc, eqb, leb, ltb, ℤ, length, drop}
+use Rattle.std.specs.Prelude.{◌≡◌, Bool, true, false, ◌&&◌, List, [], ◌∷◌, ◌++◌, ℕ, suc, eqb, leb, ltb, ℤ, length, drop, Option, Some, None, IsSomeAnd}
 use Rattle.refusal.specs.Numbers as refusal
+use Rattle.line.specs.Answers.{Line, Good, Malformed, Refused}
 use Rattle.refusal.specs.Order.{pick, first}
 use Rattle.chain.specs.declared.Step.{Step}
 use Rattle.chain.specs.declared.Chain.{Chain}
@@ -8,12 +9,8 @@ use Rattle.chain.specs.Faults.{latest, chain_tests, steps_of}
 use Rattle.chain.specs.Prepared as prepared
 use Rattle.line.specs.Readers.{read_point}
 use Rattle.line.specs.Text.{Wrote}
-use Rattle.line.specs.declared.StepLine.{StepLine}
-use Rattle.line.specs.declared.StepLine.TheVariants as step_line
 use Rattle.sheet_rules.specs.declared.Standing.{Standing}
 use Rattle.sheet_rules.specs.declared.Answered.{Answered}
-use Rattle.sheet_rules.specs.declared.Response.{Response}
-use Rattle.sheet_rules.specs.declared.Response.TheVariants as response
 use Rattle.sheet_rules.specs.declared.Reply.{Reply}
 use Rattle.sheet_rules.specs.declared.Reply.TheVariants as reply
 use Rattle.sheet_rules.specs.declared.LentPoint.{LentPoint}
@@ -57,28 +54,28 @@ reply_to s l = pick (past_lines s) (reply.Refused (suc most_lines) refusal.limit
 unfoldable pub after_line : Standing → List ℕ → Standing
 after_line s l = pick (past_lines s) s (standing_at s.chain (next_of (sheet_at s) l))
 
-abbrev pub answered : Standing → Response → Answered
+abbrev pub answered : Standing → Option Reply → Answered
 answered s r = record { standing = s; response = r }
 
 unfoldable pub line_answered : Standing → List ℕ → Answered
-line_answered s l = answered (after_line s l) (response.Replied (reply_to s l))
+line_answered s l = answered (after_line s l) (Some (reply_to s l))
 
 unfoldable pub answered_to : Standing → List ℕ → Answered
-answered_to s l = pick (sound_standing s) (line_answered s l) (answered s response.Unsound)
+answered_to s l = pick (sound_standing s) (line_answered s l) (answered s None)
 
 -- ---- over a chain by itself, for a caller that keeps the rest
 -- a sheet can stand before this line, with this chain
 unfoldable pub sound_at : ℕ → Chain → Bool
 sound_at line c = counted line c.length && eqb (first (chain_tests c)) 0
 
--- what a point line is answered, and whether it closes the chain
+-- what a point line is answered, if a sheet can stand there, and whether it closes the chain
 pub record PointAnswer : Type 0 where
-  pub response : Response
+  pub response : Option Reply
   pub closes : Bool
 
 -- what is answered where the chain is good, and whether the line closes it; no sheet stands at a bad one
 abbrev pub where_good : Chain → Reply → Bool → PointAnswer
-where_good c r b = pick (eqb (first (chain_tests c)) 0) (record { response = response.Replied r; closes = b }) (record { response = response.Unsound; closes = false })
+where_good c r b = pick (eqb (first (chain_tests c)) 0) (record { response = Some r; closes = b }) (record { response = None; closes = false })
 
 -- a line of this number, read as a point line, after a refused step or none
 unfoldable pub point_answered : Chain → ℕ → Bool → List ℕ → PointAnswer
@@ -88,12 +85,12 @@ point_answered c line refused l =
     (closes (read_point c.profile l))
 
 -- a response printed from a place on: where no sheet stands, nothing is written
-abbrev pub PrintedAs : Response → Bool → List ℕ → ℕ → List ℕ → LentPoint → Type 0
-PrintedAs response.Unsound closes before at after r = (r ≡ record { sound = false; at = at; closes = false }) × (after ≡ before)
-PrintedAs (response.Replied p) closes before at after r = (r.sound ≡ true) × (r.closes ≡ closes) × Wrote before at (reply_text p) after r.at
+abbrev pub PrintedAs : Option Reply → Bool → List ℕ → ℕ → List ℕ → Option LentPoint → Type 0
+PrintedAs None closes before at after r = (r ≡ None) × (after ≡ before)
+PrintedAs (Some p) closes before at after r = IsSomeAnd r (λ q. (q.closes ≡ closes) × Wrote before at (reply_text p) after q.at)
 
 -- what a point line is answered, printed
-pub record PointPrinted (a : PointAnswer) (before : List ℕ) (at : ℕ) (after : List ℕ) (r : LentPoint) : Type 0 where
+pub record PointPrinted (a : PointAnswer) (before : List ℕ) (at : ℕ) (after : List ℕ) (r : Option LentPoint) : Type 0 where
   pub printed : PrintedAs a.response a.closes before at after r
 
 -- ---- how the code gets there
@@ -103,10 +100,10 @@ pub record PreparesChain (c : Chain) (numbers : List ℤ) (good : Bool) : Type 0
   pub holds : good ≡ true → prepared.Holds c.profile numbers (steps_of c)
 
 -- the steps after a line: one that begins with S and prints nothing is an accepted step
-abbrev pub steps_after : List Step → Bool → Reply → StepLine → List Step
+abbrev pub steps_after : List Step → Bool → Reply → Line Step → List Step
 steps_after ss false r l = ss
-steps_after ss true reply.Nothing (step_line.Step t) = ss ++ (t ∷ [])
-steps_after ss true reply.Nothing (step_line.Malformed f) = ss
-steps_after ss true reply.Nothing (step_line.Refused n) = ss
+steps_after ss true reply.Nothing (Good t) = ss ++ (t ∷ [])
+steps_after ss true reply.Nothing (Malformed f) = ss
+steps_after ss true reply.Nothing (Refused n) = ss
 steps_after ss true (reply.Point p) l = ss
 steps_after ss true (reply.Refused line number place) l = ss

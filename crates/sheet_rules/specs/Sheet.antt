@@ -1,23 +1,15 @@
 -- What a sheet prints. A sheet is an edition line or none, then step lines, then point lines; each good point prints its line after the chain, each refused line
 -- prints R.
-use Rattle.std.specs.Prelude.{ℕ, ◌+◌, Bool, true, false, not, ◌||◌, List, [], ◌∷◌, ◌++◌, eqb, ℤ}
+use Rattle.std.specs.Prelude.{ℕ, ◌+◌, Bool, true, false, not, ◌||◌, List, [], ◌∷◌, ◌++◌, eqb, ℤ, Result, Ok, Err}
 use Rattle.refusal.specs.Numbers as refusal
+use Rattle.line.specs.Answers.{Fault, Line, Good, Malformed, Refused}
 use Rattle.refusal.specs.Order.{pick, Test, first, ◌gives◌, unless}
 use Rattle.ranges.specs.Ranges.{profile_range}
 use Rattle.chain.specs.declared.Step.{Step}
 use Rattle.chain.specs.declared.Point.{Point}
-use Rattle.chain.specs.declared.Answer.{Answer}
-use Rattle.chain.specs.declared.Answer.TheVariants as answer
 use Rattle.chain.specs.Faults.{latest}
-use Rattle.chain.specs.Convert.{more_tests, forward_of}
+use Rattle.chain.specs.Convert.{Answer, more_tests, forward_of}
 use Rattle.chain.specs.Prepared.{chain_of}
-use Rattle.line.specs.declared.Fault.{Fault}
-use Rattle.line.specs.declared.PointLine.{PointLine}
-use Rattle.line.specs.declared.PointLine.TheVariants as point-line
-use Rattle.line.specs.declared.StepLine.{StepLine}
-use Rattle.line.specs.declared.StepLine.TheVariants as step_line
-use Rattle.line.specs.declared.EditionLine.{EditionLine}
-use Rattle.line.specs.declared.EditionLine.TheVariants as edition-line
 use Rattle.line.specs.Bytes.{letter_p, letter_s, letter_e}
 use Rattle.line.specs.Readers.{strange_fault, read_point, read_step, read_edition}
 use Rattle.line.specs.Text.{point_text, refusal_text}
@@ -61,10 +53,10 @@ step_line_tests s step =
     (s.refused gives refusal.earlier) ∷ (s.closed gives refusal.misplaced) ∷ more_tests s.steps step
 
 -- an accepted step prints nothing
-abbrev pub step_reply : Sheet → StepLine → Reply
-step_reply s (step_line.Malformed f) = malformed s f
-step_reply s (step_line.Refused n) = refuse s n
-step_reply s (step_line.Step step) = unless (first (step_line_tests s step)) (refuse s) reply.Nothing
+abbrev pub step_reply : Sheet → Line Step → Reply
+step_reply s (Malformed f) = malformed s f
+step_reply s (Refused n) = refuse s n
+step_reply s (Good step) = unless (first (step_line_tests s step)) (refuse s) reply.Nothing
 
 abbrev pub with_step : Sheet → Step → Sheet
 with_step s step = record { line = s.line + 1; profile = s.profile; steps = s.steps ++ (step ∷ []); refused = s.refused; closed = s.closed }
@@ -73,28 +65,28 @@ with_step s step = record { line = s.line + 1; profile = s.profile; steps = s.st
 abbrev pub without_step : Sheet → Sheet
 without_step s = record { line = s.line + 1; profile = s.profile; steps = s.steps; refused = true; closed = s.closed }
 
-abbrev pub after_step : Sheet → StepLine → Sheet
-after_step s (step_line.Malformed f) = without_step s
-after_step s (step_line.Refused n) = without_step s
-after_step s (step_line.Step step) = unless (first (step_line_tests s step)) (λ _. without_step s) (with_step s step)
+abbrev pub after_step : Sheet → Line Step → Sheet
+after_step s (Malformed f) = without_step s
+after_step s (Refused n) = without_step s
+after_step s (Good step) = unless (first (step_line_tests s step)) (λ _. without_step s) (with_step s step)
 
 -- ---- a point line: its form, 2, 3, 25 by itself, then 8, then 9, 10, 11 of the conversion
 abbrev pub conversion_reply : Sheet → Answer → Reply
-conversion_reply s (answer.Converted p) = reply.Point p
-conversion_reply s (answer.Refused n) = refuse s n
+conversion_reply s (Ok p) = reply.Point p
+conversion_reply s (Err n) = refuse s n
 
-abbrev pub point_reply : Sheet → PointLine → Reply
-point_reply s (point-line.Malformed f) = malformed s f
-point_reply s (point-line.Refused n) = refuse s n
-point_reply s (point-line.Point p) = pick s.refused (refuse s refusal.earlier) (conversion_reply s (forward_of (chain_of s.profile s.steps) p))
+abbrev pub point_reply : Sheet → Line Point → Reply
+point_reply s (Malformed f) = malformed s f
+point_reply s (Refused n) = refuse s n
+point_reply s (Good p) = pick s.refused (refuse s refusal.earlier) (conversion_reply s (forward_of (chain_of s.profile s.steps) p))
 
 -- a point line of good form closes the chain, whatever it says
-abbrev pub closes : PointLine → Bool
-closes (point-line.Malformed f) = false
-closes (point-line.Refused n) = true
-closes (point-line.Point p) = true
+abbrev pub closes : Line Point → Bool
+closes (Malformed f) = false
+closes (Refused n) = true
+closes (Good p) = true
 
-abbrev pub after_point : Sheet → PointLine → Sheet
+abbrev pub after_point : Sheet → Line Point → Sheet
 after_point s l = record { line = s.line + 1; profile = s.profile; steps = s.steps; refused = s.refused; closed = s.closed || closes l }
 
 -- ---- an edition line: its form, then 7 where it is not the first line, then 2 for a year that is no profile
@@ -102,16 +94,16 @@ abbrev pub edition_tests : Sheet → ℤ → List Test
 edition_tests s year = (not (eqb s.line 1) gives refusal.misplaced) ∷ (not (profile_range year) gives refusal.range) ∷ []
 
 -- an accepted one prints nothing, and the chain is under its year from here on
-abbrev pub edition_reply : Sheet → EditionLine → Reply
-edition_reply s (edition-line.Malformed f) = malformed s f
-edition_reply s (edition-line.Edition year) = unless (first (edition_tests s year)) (refuse s) reply.Nothing
+abbrev pub edition_reply : Sheet → Result ℤ Fault → Reply
+edition_reply s (Err f) = malformed s f
+edition_reply s (Ok year) = unless (first (edition_tests s year)) (refuse s) reply.Nothing
 
 abbrev pub with_edition : Sheet → ℤ → Sheet
 with_edition s year = record { line = s.line + 1; profile = year; steps = s.steps; refused = s.refused; closed = s.closed }
 
-abbrev pub after_edition : Sheet → EditionLine → Sheet
-after_edition s (edition-line.Malformed f) = without_step s
-after_edition s (edition-line.Edition year) = unless (first (edition_tests s year)) (λ _. without_step s) (with_edition s year)
+abbrev pub after_edition : Sheet → Result ℤ Fault → Sheet
+after_edition s (Err f) = without_step s
+after_edition s (Ok year) = unless (first (edition_tests s year)) (λ _. without_step s) (with_edition s year)
 
 -- ---- one line, by its first byte
 unfoldable pub reply_of : Sheet → List ℕ → Reply

@@ -19,28 +19,29 @@ pub record Holds (st : State) (numbers : List ℤ) (s : Sheet) : Type 0 where
   -- no line gave more than one step: on the first there is none yet, so that an edition has none to judge
   pub counted : length s.steps < s.line
 
--- what was decided on a line: the reply to it, and the sheet after it held
-pub record Gave (answer : Reply) (next : Sheet) (numbers : List ℤ) (r : Decided) : Type 0 where
-  pub reply : r.reply ≡ answer
-  pub holds : Holds r.state numbers next
-
--- the state after a line, and what is decided on a refused one
-unfoldable pub after_in : State → Bool → Bool → State
-after_in st refused closed = record { line = st.line + 1; profile = st.profile; refused = refused; closed = closed }
-
--- the state after k lines that change nothing else
+-- the state k lines on, of which nothing else is changed
 unfoldable pub passed_in : State → ℕ → State
 passed_in st k = record { line = st.line + k; profile = st.profile; refused = st.refused; closed = st.closed }
 
-unfoldable pub refused_in : State → ℕ → ℕ → Bool → Bool → Decided
-refused_in st number place refused closed = record { reply = reply.Refused st.line number place; state = after_in st refused closed }
+-- what was decided on a line: the reply to it, and, once the line is counted, the sheet after it held
+pub record Gave (answer : Reply) (next : Sheet) (numbers : List ℤ) (r : Decided) : Type 0 where
+  pub reply : r.reply ≡ answer
+  pub holds : Holds (passed_in r.state 1) numbers next
+
+-- the state after a line that adds no step, but for the line's number
+abbrev pub after_in : State → Bool → Bool → State
+after_in st refused closed = record { line = st.line; profile = st.profile; refused = refused; closed = closed }
+
+-- what is decided on a refused line, where the state after it is this one, but for the line's number
+abbrev pub refused_in : State → ℕ → ℕ → Decided
+refused_in st number place = record { reply = reply.Refused st.line number place; state = st }
 
 -- ---- a line decided and printed at once
 -- what was decided is printed, and held
 abbrev pub Shows : Decided → List ℕ → ℕ → List ℕ → Printed → Type 0
 Shows d before at after r = Wrote before at (reply_text d.reply) after r.at × (r.state ≡ d.state)
 
--- the reply is printed, and the sheet after it held
+-- the reply is printed, and, once the line is counted, the sheet after it held
 pub record Shown (answer : Reply) (next : Sheet) (numbers : List ℤ) (before : List ℕ) (at : ℕ) (after : List ℕ) (r : Printed) : Type 0 where
   pub wrote : Wrote before at (reply_text answer) after r.at
-  pub holds : Holds r.state numbers next
+  pub holds : Holds (passed_in r.state 1) numbers next

@@ -15,6 +15,7 @@ pub enum Reply {
     // A point's new line.
     Point(chain::Point),
     // The line's number, the refusal's, and the place in the line: 0 but for a line of bad form.
+    // stays: a u8 for the refusal, since `write_reply` is public and writes any number.
     Refused(u64, u8, u8),
 }
 
@@ -31,14 +32,14 @@ struct State {
     closed: bool,
 }
 
-// What is decided on a line: the reply to it, and the state after it.
+// What is decided on a line: the reply to it, and the state after it, but for the line's number, which whoever reads the lines counts on.
 #[derive(Clone, Copy)]
 struct Decided {
     reply: Reply,
     state: State,
 }
 
-// What is printed for a line: the place past it, and the state after it.
+// What is printed for a line: the place past it, and the state after it, likewise.
 #[derive(Clone, Copy)]
 struct Printed {
     at: usize,
@@ -58,19 +59,9 @@ pub struct Standing {
     pub closed: bool,
 }
 
-// What a line is answered, where a sheet stands somewhere.
-#[derive(Clone, Copy)]
-pub enum Response {
-    Replied(Reply),
-    // No sheet can stand there: a count is out of range, or the chain is bad.
-    Unsound,
-}
-
-// What is printed for a point line over a lent chain: whether a sheet can stand there, where nothing is printed if not; the place past it; and whether the line closes
-// the chain.
+// What is printed for a point line over a lent chain: the place past it, and whether the line closes the chain.
 #[derive(Clone, Copy)]
 pub struct LentPoint {
-    pub sound: bool,
     pub at: usize,
     pub closes: bool,
 }
@@ -79,5 +70,6 @@ pub struct LentPoint {
 #[derive(Clone, Copy)]
 pub struct Answered {
     pub standing: Standing,
-    pub response: Response,
+    // None where no sheet can stand: a count is out of range, or the chain is bad.
+    pub response: Option<Reply>,
 }

@@ -6,12 +6,12 @@ use mathlib.Core.List.{List, [], ◌∷◌, ◌++◌, append_assoc}
 use lib.Dec.{eqb}
 use lib.ListN.{length, take, drop, length-drop}
 use native.Mathlib.Omega.{arith}
+use Rattle.std.specs.Prelude.{Some, Ok}
 use Rattle.refusal.specs.Order.{pick}
 use Rattle.line.specs.Bytes.{line_feed}
 use Rattle.sheet_rules.specs.declared.Reply.{Reply}
 use Rattle.sheet_stream.specs.declared.Stream.{Stream}
 use Rattle.sheet_stream.specs.declared.Fed.{Fed}
-use Rattle.sheet_stream.specs.declared.Outcome.TheVariants.{Open, Line, Refused}
 use Rattle.sheet_stream.specs.Fragments.{keep, ended, end_reply, fed, later, scan, sound, feed_of}
 use Rattle.sheet_stream.specs.Calls.{SoFar, so_far, after, said_by, calls, deliver, joined, bytes, AnyCalls, done, call}
 use Rattle.sheet_stream.specs.WholeSheet.{CutsDontMatter}
@@ -23,7 +23,7 @@ unfolding scan bytes
 scan-bytes s [] = refl
 scan-bytes s (b ∷ f) = go (eqb b line_feed) (scan-bytes (keep s b) f)
   where
-    go : (t : Bool) → after (said_by (scan (keep s b) f).outcome) (bytes (scan (keep s b) f).stream (drop (scan (keep s b) f).taken f)) ≡ bytes (keep s b) f → (let r : Fed = pick t (fed (ended s) 1 (Line (end_reply s))) (later (scan (keep s b) f)) in after (said_by r.outcome) (bytes r.stream (drop r.taken (b ∷ f)))) ≡ pick t (after (end_reply s ∷ []) (bytes (ended s) f)) (bytes (keep s b) f)
+    go : (t : Bool) → after (said_by (scan (keep s b) f).outcome) (bytes (scan (keep s b) f).stream (drop (scan (keep s b) f).taken f)) ≡ bytes (keep s b) f → (let r : Fed = pick t (fed (ended s) 1 (Ok (Some (end_reply s)))) (later (scan (keep s b) f)) in after (said_by r.outcome) (bytes r.stream (drop r.taken (b ∷ f)))) ≡ pick t (after (end_reply s ∷ []) (bytes (ended s) f)) (bytes (keep s b) f)
     go true ih = refl
     go false ih = ih
 
@@ -87,7 +87,7 @@ unfolding scan
 scan-any s [] rest = refl
 scan-any s (b ∷ f) rest = go (eqb b line_feed) refl (scan-any (keep s b) f rest)
   where
-    go : (t : Bool) → eqb b line_feed ≡ t → bytes (keep s b) (take (scan (keep s b) f).taken f ++ rest) ≡ after (said_by (scan (keep s b) f).outcome) (bytes (scan (keep s b) f).stream rest) → (let r : Fed = pick t (fed (ended s) 1 (Line (end_reply s))) (later (scan (keep s b) f)) in bytes s (take r.taken (b ∷ f) ++ rest) ≡ after (said_by r.outcome) (bytes r.stream rest))
+    go : (t : Bool) → eqb b line_feed ≡ t → bytes (keep s b) (take (scan (keep s b) f).taken f ++ rest) ≡ after (said_by (scan (keep s b) f).outcome) (bytes (scan (keep s b) f).stream rest) → (let r : Fed = pick t (fed (ended s) 1 (Ok (Some (end_reply s)))) (later (scan (keep s b) f)) in bytes s (take r.taken (b ∷ f) ++ rest) ≡ after (said_by r.outcome) (bytes r.stream rest))
     go true q ih = bytes-feed s b rest q
     go false q ih = bytes-keep s b (take (scan (keep s b) f).taken f ++ rest) q ∙ ih
 

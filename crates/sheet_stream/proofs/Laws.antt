@@ -9,6 +9,7 @@ use lib.Seq.{take-suc-set, take-set-lt, get_or-take, get_or-set_same, drop-cons,
 use native.Mathlib.Numerals.{add-one}
 use native.Mathlib.Omega.{arith}
 use borrow.Author.Tests.{le-leb, lt-leb, leb-true, ltb-true, ltb-false, not-true, lt-ltb, le-ltb, eq-eqb, ne_eqb, eqb-true, eqb-false}
+use Rattle.std.specs.Prelude.{Some, None, Ok}
 use Rattle.refusal.specs.Numbers as refusal
 use Rattle.refusal.specs.Order.{pick}
 use Rattle.line.specs.Bytes.{line_feed}
@@ -17,8 +18,6 @@ use Rattle.sheet_rules.specs.declared.Standing.{Standing}
 use Rattle.sheet_rules.specs.declared.Answered.{Answered}
 use Rattle.sheet_rules.specs.declared.Reply.{Reply}
 use Rattle.sheet_rules.specs.declared.Reply.TheVariants as reply
-use Rattle.sheet_rules.specs.declared.Response.{Response}
-use Rattle.sheet_rules.specs.declared.Response.TheVariants as response
 use Rattle.sheet_rules.specs.OneLine.{most_lines, sheet_at, sound_standing, reply_to, after_line, answered, answered_to, line_answered}
 use Rattle.sheet_rules.proofs.OneLine.{both, sound-after, reply-rules, reply-past}
 use Rattle.sheet_rules.proofs.OneLine as line
@@ -26,8 +25,7 @@ use Rattle.sheet_rules.proofs.Room.{answer-short}
 use Rattle.sheet_rules.proofs.Unread.{open-length}
 use Rattle.sheet_stream.specs.declared.Stream.{Stream}
 use Rattle.sheet_stream.specs.declared.Fed.{Fed}
-use Rattle.sheet_stream.specs.declared.Outcome.TheVariants.{Open, Line, Refused}
-use Rattle.sheet_stream.specs.Fragments.{between, no_bytes, keep, held, unended, closing, ended, end_reply, fed, later, scan, sound, unsound, feed_of, finish_of, Countable, Short}
+use Rattle.sheet_stream.specs.Fragments.{Outcome, between, no_bytes, keep, held, unended, closing, ended, end_reply, fed, later, scan, sound, unsound, feed_of, finish_of, Countable, Short}
 
 -- no bytes kept: a room of zeros
 pub no-bytes-is : replicate 200 0 ≡ no_bytes
@@ -73,7 +71,7 @@ unfolding scan
 sound-scan s [] p = p
 sound-scan s (b ∷ f) p = go (eqb b line_feed) (sound-scan (keep s b) f (sound-keep s b p))
   where
-    go : (t : Bool) → Sound (scan (keep s b) f).stream → Sound (pick {A = Fed} t (fed (ended s) 1 (Line (end_reply s))) (later (scan (keep s b) f))).stream
+    go : (t : Bool) → Sound (scan (keep s b) f).stream → Sound (pick {A = Fed} t (fed (ended s) 1 (Ok (Some (end_reply s)))) (later (scan (keep s b) f))).stream
     go true ih = sound-ended s p
     go false ih = ih
 
@@ -91,7 +89,7 @@ pub takes : (s : Stream) (b : ℕ) (f : List ℕ) → 1 ≤ (scan s (b ∷ f)).t
 unfolding scan
 takes s b f = go (eqb b line_feed)
   where
-    go : (t : Bool) → 1 ≤ (pick {A = Fed} t (fed (ended s) 1 (Line (end_reply s))) (later (scan (keep s b) f))).taken
+    go : (t : Bool) → 1 ≤ (pick {A = Fed} t (fed (ended s) 1 (Ok (Some (end_reply s)))) (later (scan (keep s b) f))).taken
     go true = omega arith
     go false = omega arith
 
@@ -132,11 +130,11 @@ pub finish-state : (s : Stream) → sound s ≡ false → finish_of s ≡ unsoun
 unfolding finish_of
 finish-state s e = rw e
 
-pub finish-none : (s : Stream) → sound s ≡ true → s.count ≡ 0 → finish_of s ≡ fed (between s.standing true) 0 Open
+pub finish-none : (s : Stream) → sound s ≡ true → s.count ≡ 0 → finish_of s ≡ fed (between s.standing true) 0 (Ok None)
 unfolding finish_of
 finish-none s e z = rw (e, eq-eqb s.count 0 z)
 
-pub finish-open : (s : Stream) → sound s ≡ true → (s.count ≡ 0 → ⊥) → finish_of s ≡ fed (between (after_line s.standing (unended (held s))) true) 0 (Line (reply_to s.standing (unended (held s))))
+pub finish-open : (s : Stream) → sound s ≡ true → (s.count ≡ 0 → ⊥) → finish_of s ≡ fed (between (after_line s.standing (unended (held s))) true) 0 (Ok (Some (reply_to s.standing (unended (held s)))))
 unfolding finish_of
 finish-open s e z = rw (e, ne_eqb s.count 0 z)
 
@@ -145,7 +143,7 @@ pub finish-finishes : (s : Stream) → sound s ≡ true → (finish_of s).stream
 unfolding finish_of
 finish-finishes s e = rw e (go (eqb s.count 0))
   where
-    go : (t : Bool) → (pick {A = Fed} t (fed (between s.standing true) 0 Open) (fed (between (after_line s.standing (unended (held s))) true) 0 (Line (reply_to s.standing (unended (held s)))))).stream.finished ≡ true
+    go : (t : Bool) → (pick {A = Fed} t (fed (between s.standing true) 0 (Ok None)) (fed (between (after_line s.standing (unended (held s))) true) 0 (Ok (Some (reply_to s.standing (unended (held s))))))).stream.finished ≡ true
     go true = refl
     go false = refl
 
@@ -159,17 +157,21 @@ fed-after-finish s f e = feed-state s f (not_going s e)
 pub finished-after-finish : (s : Stream) → s.finished ≡ true → finish_of s ≡ unsound s
 finished-after-finish s e = finish-state s (not_going s e)
 
+-- a line that ended
+abbrev replied : Reply → Outcome
+replied r = Ok (Some r)
+
 -- ---- what the finish answers to a line left open: 18 at its length within the limit; past the limit 28
-pub finish-length : (s : Stream) → sound s ≡ true → length s.kept ≡ longest_line → 0 < s.count → s.standing.line ≤ most_lines → (finish_of s).outcome ≡ Line (reply.Refused s.standing.line refusal.length s.count)
+pub finish-length : (s : Stream) → sound s ≡ true → length s.kept ≡ longest_line → 0 < s.count → s.standing.line ≤ most_lines → (finish_of s).outcome ≡ Ok (Some (reply.Refused s.standing.line refusal.length s.count))
 finish-length s e k h l =
     let p = sound-parts s e in
     let z : length (held s) ≡ s.count = length-take-le s.count s.kept (omega (arith, p.count)) in
     let m : min (length (unended (held s))) longest_line ≡ s.count = omega (arith, p.count, unended-length (held s)) in
     ap (λ (r : Fed). r.outcome) (finish-open s e (λ q. omega arith))
-    ∙ ap Line (reply-rules s.standing (unended (held s)) l ∙ open-length (sheet_at s.standing) (unended (held s)) (unended-last (held s)) ∙ ap (reply.Refused s.standing.line refusal.length) m)
+    ∙ ap replied (reply-rules s.standing (unended (held s)) l ∙ open-length (sheet_at s.standing) (unended (held s)) (unended-last (held s)) ∙ ap (reply.Refused s.standing.line refusal.length) m)
 
-pub finish-limit : (s : Stream) → sound s ≡ true → 0 < s.count → most_lines < s.standing.line → (finish_of s).outcome ≡ Line (reply.Refused (suc most_lines) refusal.limit 0)
-finish-limit s e h l = ap (λ (r : Fed). r.outcome) (finish-open s e (λ q. omega arith)) ∙ ap Line (reply-past s.standing (unended (held s)) l)
+pub finish-limit : (s : Stream) → sound s ≡ true → 0 < s.count → most_lines < s.standing.line → (finish_of s).outcome ≡ Ok (Some (reply.Refused (suc most_lines) refusal.limit 0))
+finish-limit s e h l = ap (λ (r : Fed). r.outcome) (finish-open s e (λ q. omega arith)) ∙ ap replied (reply-past s.standing (unended (held s)) l)
 
 -- ---- for callers: no more is taken than there is
 scan-within : (s : Stream) (f : List ℕ) → (scan s f).taken ≤ length f
@@ -177,7 +179,7 @@ unfolding scan
 scan-within s [] = omega arith
 scan-within s (b ∷ f) = go (eqb b line_feed) (scan-within (keep s b) f)
   where
-    go : (t : Bool) → (scan (keep s b) f).taken ≤ length f → (pick {A = Fed} t (fed (ended s) 1 (Line (end_reply s))) (later (scan (keep s b) f))).taken ≤ suc (length f)
+    go : (t : Bool) → (scan (keep s b) f).taken ≤ length f → (pick {A = Fed} t (fed (ended s) 1 (Ok (Some (end_reply s)))) (later (scan (keep s b) f))).taken ≤ suc (length f)
     go true h = omega arith
     go false h = omega arith
 
@@ -218,7 +220,7 @@ finished-countable s c = go (sound s) (eqb s.count 0) refl
       steps = line.sound-short st (line.sound-made st p);
     }
 
-    go : (t u : Bool) → sound s ≡ t → Countable (pick {A = Fed} t (pick {A = Fed} u (fed (between s.standing true) 0 Open) (fed (between (after_line s.standing (unended (held s))) true) 0 (Line (reply_to s.standing (unended (held s)))))) (unsound s)).stream
+    go : (t u : Bool) → sound s ≡ t → Countable (pick {A = Fed} t (pick {A = Fed} u (fed (between s.standing true) 0 (Ok None)) (fed (between (after_line s.standing (unended (held s))) true) 0 (Ok (Some (reply_to s.standing (unended (held s))))))) (unsound s)).stream
     go true true e = ended_so s.standing (sound-parts s e).standing
     go true false e = ended_so (after_line s.standing (unended (held s))) (sound-after s.standing (unended (held s)) (sound-parts s e).standing)
     go false u e = c
@@ -237,7 +239,7 @@ unfolding scan end_reply
 scan-short s [] h = tt
 scan-short s (b ∷ f) h = go (eqb b line_feed) (scan-short (keep s b) f (rw (keep-standing s b) h))
   where
-    go : (t : Bool) → Short (scan (keep s b) f).outcome → Short (pick {A = Fed} t (fed (ended s) 1 (Line (end_reply s))) (later (scan (keep s b) f))).outcome
+    go : (t : Bool) → Short (scan (keep s b) f).outcome → Short (pick {A = Fed} t (fed (ended s) 1 (Ok (Some (end_reply s)))) (later (scan (keep s b) f))).outcome
     go true i = answer-short s.standing (closing s) h
     go false i = i
 
@@ -253,7 +255,7 @@ pub finished-short : (s : Stream) → Countable s → Short (finish_of s).outcom
 unfolding finish_of
 finished-short s c = go (sound s) (eqb s.count 0)
   where
-    go : (t u : Bool) → Short (pick {A = Fed} t (pick {A = Fed} u (fed (between s.standing true) 0 Open) (fed (between (after_line s.standing (unended (held s))) true) 0 (Line (reply_to s.standing (unended (held s)))))) (unsound s)).outcome
+    go : (t u : Bool) → Short (pick {A = Fed} t (pick {A = Fed} u (fed (between s.standing true) 0 (Ok None)) (fed (between (after_line s.standing (unended (held s))) true) 0 (Ok (Some (reply_to s.standing (unended (held s))))))) (unsound s)).outcome
     go true true = tt
     go true false = answer-short s.standing (unended (held s)) c.to
     go false u = tt

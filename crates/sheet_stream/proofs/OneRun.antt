@@ -16,7 +16,7 @@ use Rattle.line.specs.Bytes.{line_feed}
 use Rattle.line.specs.Fields.{longest_line, front}
 use Rattle.line.specs.Lines.{lines}
 use Rattle.line.proofs.Lines.{no_lines, lines-on, count-lines}
-use Rattle.line.proofs.Unread.{NoFeed, none_yet, one_more, no-feed-in, no-feed-last}
+use Rattle.line.proofs.NotRead.{NoFeed, none_yet, one_more, no-feed-in, no-feed-last}
 use Rattle.listing.specs.Fold as listing
 use Rattle.listing.specs.Fold.{longest_input}
 use Rattle.sheet_rules.specs.declared.Reply.{Reply}
@@ -30,7 +30,6 @@ use Rattle.sheet_rules.proofs.OneLine as line
 use Rattle.sheet_rules.proofs.Room.{sheet-lines}
 use Rattle.sheet_rules.proofs.Unread.{cut-reply, cut-next, open-reply, open_next}
 use Rattle.sheet_stream.specs.declared.Stream.{Stream}
-use Rattle.sheet_stream.specs.declared.Outcome.TheVariants.{Open, Line, Refused}
 use Rattle.sheet_stream.specs.Fragments.{no_bytes, between, fresh, keep, held, unended, closing, ended, end_reply, finish_of}
 use Rattle.sheet_stream.specs.Calls.{SoFar, so_far, after, deliver, joined, bytes, finished, rules_run, rules_last, texts}
 use Rattle.sheet_stream.specs.WholeSheet.{OverTheLink, one_run, answers_to, closing_of, no_steps, past_limit}

@@ -2,14 +2,17 @@
 use Prim.Native.Nat.{ℕ, zero, suc, ◌+◌, ◌-◌, ◌≤◌, ◌<◌, min}
 use mathlib.Core.Path.{◌≡◌, refl, sym, ap, ◌∙◌}
 use mathlib.Core.Bool.{Bool, true, false, ◌&&◌, ◌||◌}
-use mathlib.Core.List.{List, [], ◌∷◌, ◌++◌}
+use mathlib.Core.List.{List, [], ◌∷◌, ◌++◌, append_assoc}
 use lib.Dec.{eqb, leb, ltb}
 use lib.ListN.{length, get_or, take, drop, set, get_or-eq_default}
-use lib.Seq.{sets, length-sets, take-nil, take_all, take-suc-set, take-set-lt, get_or-take, length-take-le}
+use lib.Seq.{sets, length-sets, take-nil, take_all, take-suc-set, take-set-lt, get_or-take, length-take-le, drop-drop}
+use borrow.Rule.Slice.PartMut.{put_mid}
+use Rattle.std.proofs.lemmas.List.Edits.{sets-eq}
 use native.Mathlib.Decide.{dec_lt}
 use native.Mathlib.Numerals.{add-one}
 use native.Mathlib.Omega.{arith}
 use borrow.Author.Tests.{le-leb, lt-leb, ltb-true, ltb-false, lt-ltb, le-ltb, eqb-true, eq-eqb, ne_eqb}
+use Rattle.std.specs.Prelude.{Some, None, Ok}
 use Rattle.refusal.specs.Order.{pick}
 use Rattle.line.specs.Bytes.{line_feed}
 use Rattle.line.specs.Fields.{longest_line}
@@ -18,13 +21,11 @@ use Rattle.line.proofs.Lines.{first-none, first_on, first-end, first_some, first
 use Rattle.sheet_rules.specs.declared.Standing.{Standing}
 use Rattle.sheet_rules.specs.declared.Answered.{Answered}
 use Rattle.sheet_rules.specs.declared.Reply.{Reply}
-use Rattle.sheet_rules.specs.declared.Response.TheVariants as response
 use Rattle.sheet_rules.specs.OneLine.{sound_standing, answered_to}
 use Rattle.sheet_rules.proofs.OneLine.{both}
 use Rattle.sheet_rules.proofs.Answers.{answered-unsound, answered-replied}
 use Rattle.sheet_stream.specs.declared.Stream.{Stream}
 use Rattle.sheet_stream.specs.declared.Fed.{Fed}
-use Rattle.sheet_stream.specs.declared.Outcome.TheVariants.{Open, Line}
 use Rattle.sheet_stream.specs.Fragments.{between, keep, held, unended, closing, ended, end_reply, fed, later, scan, sound, unsound, state_of, ends_with, fed_at, feed_of, finish_of}
 use Rattle.sheet_stream.proofs.Laws.{unended-same, unended-fed, feed-sound, feed-state, finish-state, not_going}
 
@@ -70,11 +71,12 @@ keeps-in st fin (b ∷ f) n kept h = go (dec_lt n 200) (λ (k : n + 1 ≤ 200). 
         let z : 200 - n ≡ 0 = omega arith in
         ap (λ (x : Stream). keeps x f) (keep-full st n kept fin b (omega arith)) ∙ same ∙ rw (e, z)
 
--- one byte more of them
-pub sets_more : (xs l : List ℕ) (c i : ℕ) → i < length xs → set (sets l c (take i xs)) (c + i) (get_or xs i 0) ≡ sets l c (take (i + 1) xs)
-sets_more [] l c i h = absurd (omega arith)
-sets_more (x ∷ xs) l c zero h = let z : c + 0 ≡ c = omega arith in rw z
-sets_more (x ∷ xs) l c (suc i) h = let z : c + suc i ≡ suc c + i = omega arith in rw (z, add-one) (sets_more xs (set l c x) (suc c) i (omega arith) ∙ rw add-one)
+-- a part of the room with other bytes in its place
+pub written : (l xs ys : List ℕ) (c n : ℕ) → ys ≡ take n xs → n ≤ length xs → c + n ≤ length l → put_mid c (c + n - c) l ys ≡ sets l c (take n xs)
+written l xs ys c n e some fits =
+    let z : c + n - c ≡ n = omega arith in
+    let k : length (take n xs) ≡ n = length-take-le n xs some in
+    rw (z, e, sets-eq (take n xs) l c (omega (arith, k)), k, drop-drop n c l) (sym (append_assoc (take c l) (take n xs) (drop (c + n) l)))
 
 -- as many as there are, or as there is room for
 pub take_min : (xs : List ℕ) (n m : ℕ) → n ≡ min (length xs) m → take n xs ≡ take m xs
@@ -86,7 +88,7 @@ take_min xs n m e = go (dec_lt (length xs) m)
 
 -- ---- a call takes the first line's bytes, and keeps them but for the line feed
 abbrev scanned_to : Stream → List ℕ → ℕ → Fed
-scanned_to s f n = pick (fed_at f n) (fed (ended (keeps s (take (n - 1) f))) n (Line (end_reply (keeps s (take (n - 1) f))))) (fed (keeps s f) n Open)
+scanned_to s f n = pick (fed_at f n) (fed (ended (keeps s (take (n - 1) f))) n (Ok (Some (end_reply (keeps s (take (n - 1) f)))))) (fed (keeps s f) n (Ok None))
 
 scanned : (f : List ℕ) (s : Stream) → scan s f ≡ scanned_to s f (first_length f)
 unfolding scan keeps fed_at
@@ -104,11 +106,11 @@ scanned (b ∷ f) s = rw (first_on b f) (go (eqb b line_feed) refl (scanned f (k
             let z : suc (suc m) - 1 ≡ suc m = omega arith in
             rw (e, y, z, lt-ltb 0 (suc m) (omega arith), lt-ltb 0 (suc (suc m)) (omega arith)) (each (eqb (get_or (c ∷ g) m 0) line_feed))
           where
-            each : (t : Bool) → later (pick t (fed (ended (keeps (keep s b) (take m (c ∷ g)))) (suc m) (Line (end_reply (keeps (keep s b) (take m (c ∷ g)))))) (fed (keeps (keep s b) (c ∷ g)) (suc m) Open)) ≡ pick t (fed (ended (keeps (keep s b) (take m (c ∷ g)))) (suc (suc m)) (Line (end_reply (keeps (keep s b) (take m (c ∷ g)))))) (fed (keeps (keep s b) (c ∷ g)) (suc (suc m)) Open)
+            each : (t : Bool) → later (pick t (fed (ended (keeps (keep s b) (take m (c ∷ g)))) (suc m) (Ok (Some (end_reply (keeps (keep s b) (take m (c ∷ g))))))) (fed (keeps (keep s b) (c ∷ g)) (suc m) (Ok None))) ≡ pick t (fed (ended (keeps (keep s b) (take m (c ∷ g)))) (suc (suc m)) (Ok (Some (end_reply (keeps (keep s b) (take m (c ∷ g))))))) (fed (keeps (keep s b) (c ∷ g)) (suc (suc m)) (Ok None))
             each true = refl
             each false = refl
 
-    go : (t : Bool) → eqb b line_feed ≡ t → scan (keep s b) f ≡ scanned_to (keep s b) f (first_length f) → pick t (fed (ended s) 1 (Line (end_reply s))) (later (scan (keep s b) f)) ≡ scanned_to s (b ∷ f) (pick t 1 (suc (first_length f)))
+    go : (t : Bool) → eqb b line_feed ≡ t → scan (keep s b) f ≡ scanned_to (keep s b) f (first_length f) → pick t (fed (ended s) 1 (Ok (Some (end_reply s)))) (later (scan (keep s b) f)) ≡ scanned_to s (b ∷ f) (pick t 1 (suc (first_length f)))
     go true q ih = rw q
     go false q ih = rest f q ih
 
@@ -211,20 +213,20 @@ module _ (s : Stream) (g : Going s) where
       unfolding feed_of ended end_reply
       fed-line q x r er =
           let z : keeps s (take (n - 1) f) ≡ state_of s.standing c kept false = rw (← x) kept-so in
-          let y : scan s f ≡ fed (ended (state_of s.standing c kept false)) n (Line (end_reply (state_of s.standing c kept false))) = scan-at ∙ rw (q, z) in
+          let y : scan s f ≡ fed (ended (state_of s.standing c kept false)) n (Ok (Some (end_reply (state_of s.standing c kept false)))) = scan-at ∙ rw (q, z) in
           rw (sound-as (sound_standing s.standing) refl, y) er
 
       -- or none does
-      pub fed-open : fed_at f n ≡ false → xs ≡ f → sound s ≡ true → fed (state_of s.standing c kept false) n Open ≡ feed_of s f
+      pub fed-open : fed_at f n ≡ false → xs ≡ f → sound s ≡ true → fed (state_of s.standing c kept false) n (Ok None) ≡ feed_of s f
       fed-open q x e =
           let z : keeps s f ≡ state_of s.standing c kept false = rw (← x) kept-so in
-          let y : scan s f ≡ fed (state_of s.standing c kept false) n Open = scan-at ∙ rw (q, z) in
+          let y : scan s f ≡ fed (state_of s.standing c kept false) n (Ok None) = scan-at ∙ rw (q, z) in
           sym (feed-sound s f e ∙ y)
 
 -- the answer to a line, as the rules gave it
 module _ (s : Stream) (l : List ℕ) (n : ℕ) (fin : Bool) (a : Answered) (e : a ≡ answered_to s.standing l) where
-  pub ended-unsound : a.response ≡ response.Unsound → unsound s ≡ ends_with s l n fin
+  pub ended-unsound : a.response ≡ None → unsound s ≡ ends_with s l n fin
   ended-unsound q = rw (answered-unsound s.standing l a e q)
 
-  pub ended-replied : (r : Reply) → a.response ≡ response.Replied r → fed (between a.standing fin) n (Line r) ≡ ends_with s l n fin
+  pub ended-replied : (r : Reply) → a.response ≡ Some r → fed (between a.standing fin) n (Ok (Some r)) ≡ ends_with s l n fin
   ended-replied r q = let h = answered-replied s.standing l a e r q in rw (h.0, h.1, h.2)

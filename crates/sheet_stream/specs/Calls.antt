@@ -1,13 +1,11 @@
 -- A whole sheet by calls, however it was cut, and in one run.
-use Rattle.std.specs.Prelude.{ℕ, zero, suc, List, [], ◌∷◌, ◌++◌, eqb, length, take, drop}
+use Rattle.std.specs.Prelude.{ℕ, zero, suc, List, [], ◌∷◌, ◌++◌, eqb, length, take, drop, Some, None, Ok, Err}
 use Rattle.refusal.specs.Order.{pick}
 use Rattle.line.specs.Bytes.{line_feed}
 use Rattle.sheet_rules.specs.declared.Reply.{Reply}
 use Rattle.sheet_rules.specs.Sheet.{Sheet, reply_text, reply_of, next_of}
 use Rattle.sheet_stream.specs.declared.Stream.{Stream}
-use Rattle.sheet_stream.specs.declared.Outcome.{Outcome}
-use Rattle.sheet_stream.specs.declared.Outcome.TheVariants.{Open, Line, Refused}
-use Rattle.sheet_stream.specs.Fragments.{keep, ended, end_reply, feed_of, finish_of}
+use Rattle.sheet_stream.specs.Fragments.{Outcome, keep, ended, end_reply, feed_of, finish_of}
 
 -- the answers so far, one for each line ended, and the state
 pub record SoFar : Type 0 where
@@ -21,9 +19,9 @@ abbrev pub after : List Reply → SoFar → SoFar
 after rs t = so_far (rs ++ t.replies) t.state
 
 abbrev pub said_by : Outcome → List Reply
-said_by Open = []
-said_by (Line r) = r ∷ []
-said_by (Refused n) = []
+said_by (Ok None) = []
+said_by (Ok (Some r)) = r ∷ []
+said_by (Err refused) = []
 
 -- a caller hands a fragment on until all of it is taken: n calls, each with what the one before left
 unfoldable pub calls : ℕ → Stream → List ℕ → SoFar

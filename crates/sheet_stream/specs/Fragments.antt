@@ -1,6 +1,7 @@
 -- A sheet that arrives in fragments: what a call with a fragment answers, and what the finish does.
-use Rattle.std.specs.Prelude.{ℕ, suc, ◌+◌, ◌-◌, ◌≤◌, Bool, true, false, not, ◌&&◌, List, [], ◌∷◌, ◌++◌, eqb, leb, ltb, pos, length, get_or, take, set, replicate}
-use Rattle.refusal.specs.Numbers as refusal
+use Rattle.std.specs.Prelude.{ℕ, suc, ◌+◌, ◌-◌, ◌≤◌, Bool, true, false, not, ◌&&◌, List, [], ◌∷◌, ◌++◌, eqb, leb, ltb, pos, length, get_or, take, set, replicate, Option, Some, None, Result, Ok, Err}
+use Rattle.refusal.specs.declared.Refusal.{Refusal}
+use Rattle.refusal.specs.declared.Refusal.TheVariants as refusal
 use Rattle.refusal.specs.Order.{pick}
 use Rattle.chain.specs.declared.Step.{Step}
 use Rattle.chain.specs.declared.Kind.TheVariants.{Frame}
@@ -11,8 +12,6 @@ use Rattle.sheet_rules.specs.declared.Standing.{Standing}
 use Rattle.sheet_rules.specs.Sheet.{reply_text}
 use Rattle.sheet_rules.specs.OneLine.{most_lines, fresh_at, sound_standing, reply_to, after_line}
 use Rattle.sheet_stream.specs.declared.Stream.{Stream}
-use Rattle.sheet_stream.specs.declared.Outcome.{Outcome}
-use Rattle.sheet_stream.specs.declared.Outcome.TheVariants.{Open, Line, Refused}
 use Rattle.sheet_stream.specs.declared.Fed.{Fed}
 
 -- no line is open: every byte of the room is 0, so that no earlier line's byte can tell two states apart
@@ -56,6 +55,10 @@ unfoldable pub end_reply : Stream → Reply
 end_reply s = reply_to s.standing (closing s)
 
 -- ---- a call: up to and with the first line feed, or the whole fragment
+-- what it answers: no line ended; or one did, and the reply to it, which may print nothing; or the refusal
+abbrev pub Outcome : Type 0
+Outcome = Result (Option Reply) Refusal
+
 abbrev pub fed : Stream → ℕ → Outcome → Fed
 fed s n o = record { stream = s; taken = n; outcome = o }
 
@@ -63,15 +66,15 @@ abbrev pub later : Fed → Fed
 later r = fed r.stream (suc r.taken) r.outcome
 
 unfoldable pub scan : Stream → List ℕ → Fed
-scan s [] = fed s 0 Open
-scan s (b ∷ f) = pick (eqb b line_feed) (fed (ended s) 1 (Line (end_reply s))) (later (scan (keep s b) f))
+scan s [] = fed s 0 (Ok None)
+scan s (b ∷ f) = pick (eqb b line_feed) (fed (ended s) 1 (Ok (Some (end_reply s)))) (later (scan (keep s b) f))
 
 -- 29 first, which takes and changes nothing
 unfoldable pub sound : Stream → Bool
 sound s = not s.finished && (leb s.count longest_line && sound_standing s.standing)
 
 abbrev pub unsound : Stream → Fed
-unsound s = fed s 0 (Refused refusal.state)
+unsound s = fed s 0 (Err refusal.State)
 
 unfoldable pub feed_of : Stream → List ℕ → Fed
 feed_of s f = pick (sound s) (scan s f) (unsound s)
@@ -81,8 +84,8 @@ unfoldable pub finish_of : Stream → Fed
 finish_of s =
     pick (sound s)
     (pick (eqb s.count 0)
-    (fed (between s.standing true) 0 Open)
-    (fed (between (after_line s.standing (unended (held s))) true) 0 (Line (reply_to s.standing (unended (held s))))))
+    (fed (between s.standing true) 0 (Ok None))
+    (fed (between (after_line s.standing (unended (held s))) true) 0 (Ok (Some (reply_to s.standing (unended (held s)))))))
     (unsound s)
 
 -- ---- how the code gets there
@@ -95,7 +98,7 @@ fed_at f n = ltb 0 n && eqb (get_or f (n - 1) 0) line_feed
 
 -- a line that ends, in whatever state, with so many bytes taken
 abbrev pub ends_with : Stream → List ℕ → ℕ → Bool → Fed
-ends_with s l n finished = pick (sound_standing s.standing) (fed (between (after_line s.standing l) finished) n (Line (reply_to s.standing l))) (unsound s)
+ends_with s l n finished = pick (sound_standing s.standing) (fed (between (after_line s.standing l) finished) n (Ok (Some (reply_to s.standing l)))) (unsound s)
 
 -- ---- for a caller that keeps the state as numbers: how large its counts are, and how long an answer is
 pub record Countable (s : Stream) : Type 0 where
@@ -105,6 +108,6 @@ pub record Countable (s : Stream) : Type 0 where
   pub steps : s.standing.chain.length ≤ 8
 
 abbrev pub Short : Outcome → Type 0
-Short Open = Unit {0}
-Short (Line r) = length (reply_text r) ≤ 100
-Short (Refused n) = Unit {0}
+Short (Ok None) = Unit {0}
+Short (Ok (Some r)) = length (reply_text r) ≤ 100
+Short (Err refused) = Unit {0}

@@ -4,14 +4,22 @@
 
 ghost use Rattle.std.specs.Prelude.{◌≡◌, ◌+◌, ◌-◌, ◌<◌, ◌≤◌, min, length, take, replicate};
 ghost use Rattle.std.proofs.lemmas.List.Edits.{sets};
-ghost use Rattle.sheet_stream.specs.Fragments.{no_bytes, spare_step, fresh as Fragments·fresh, unended, unsound, ends_with, fed_at, feed_of, finish_of};
+ghost use Rattle.sheet_stream.specs.Fragments.{spare_step, fresh as Fragments·fresh, unended, unsound, ends_with, fed_at, feed_of, finish_of};
 
 use chain::{Chain, Kind, Realization, Step};
 use line::LINE_FEED;
-use sheet_rules::{Reply, Response, Standing};
+use refusal::Refusal;
+use sheet_rules::{Reply, Standing};
 
 // The longest line, in bytes, with its line feed.
 const ROOM: usize = 200;
+
+// What stands past a chain's steps.
+const SPARE_STEP: Step = Step {
+    kind: Kind::Frame,
+    before: Realization { datum: 0, epoch: 0 },
+    after: Realization { datum: 0, epoch: 0 },
+};
 
 // A sheet part of which has come. `fresh` makes the first; it has no other than what `feed` and `finish` give back.
 #[derive(Clone, Copy)]
@@ -21,19 +29,8 @@ pub struct Stream {
     // How many bytes of the open line are kept, 0 to 200; 200 also where it has more.
     pub count: usize,
     // Those bytes; 0 past them.
-    pub kept: [u8; 200],
+    pub kept: [u8; ROOM],
     pub finished: bool,
-}
-
-// What a call answers.
-#[derive(Clone, Copy)]
-pub enum Outcome {
-    // No line ended.
-    Open,
-    // A line ended: the reply to it, which may print nothing.
-    Line(Reply),
-    // Refusal STATE: the sheet is finished, a count is out of range, or the chain is bad.
-    Refused(u8),
 }
 
 // The state after a call, how many bytes of the fragment it took, and what it answers.
@@ -41,38 +38,20 @@ pub enum Outcome {
 pub struct Fed {
     pub stream: Stream,
     pub taken: usize,
-    pub outcome: Outcome,
-}
-
-fn no_bytes() -> [u8; 200]
-    ensures { result ≡ no_bytes }
-{
-    [0; 200]
-}
-
-// What stands past a chain's steps.
-fn spare_step() -> Step
-    ensures { result ≡ spare_step }
-{
-    Step {
-        kind: Kind::Frame,
-        before: Realization { datum: 0, epoch: 0 },
-        after: Realization { datum: 0, epoch: 0 },
-    }
+    // The reply to the line that ended, which may print nothing; none where no line ended. Or refusal STATE: the sheet is finished, a count is out of range, or the
+    // chain is bad.
+    pub outcome: Result<Option<Reply>, Refusal>,
 }
 
 // Nothing has come yet.
 pub fn fresh() -> Stream
     ensures { result ≡ Fragments·fresh (replicate 8 spare_step) }
 {
-    let step = spare_step();
-    let steps = [step; 8];
-    let kept = no_bytes();
     Stream {
         standing: Standing {
             line: 1,
             chain: Chain {
-                steps: steps,
+                steps: [SPARE_STEP; 8],
                 length: 0,
                 profile: chain::LATEST,
             },
@@ -80,7 +59,7 @@ pub fn fresh() -> Stream
             closed: false,
         },
         count: 0,
-        kept: kept,
+        kept: [0; ROOM],
         finished: false,
     }
 }
@@ -90,9 +69,9 @@ fn refused(stream: Stream) -> Fed
     ensures { result ≡ unsound stream }
 {
     Fed {
-        stream: stream,
+        stream,
         taken: 0,
-        outcome: Outcome::Refused(refusal::STATE),
+        outcome: Err(Refusal::State),
     }
 }
 
@@ -101,42 +80,34 @@ fn end_line(stream: Stream, line: &[u8], taken: usize, finished: bool) -> Fed
     ensures { result ≡ ends_with stream line.now taken finished }
 {
     let answered = sheet_rules::answer_line(stream.standing, line);
-    let standing = answered.standing;
-    let response = answered.response;
-    match response {
-        Response::Unsound => refused(stream),
-        Response::Replied(reply) => {
-            let kept = no_bytes();
-            Fed {
-                stream: Stream {
-                    standing: standing,
-                    count: 0,
-                    kept: kept,
-                    finished: finished,
-                },
-                taken: taken,
-                outcome: Outcome::Line(reply),
-            }
-        }
+    let Some(reply) = answered.response else {
+        return refused(stream);
+    };
+    Fed {
+        stream: Stream {
+            standing: answered.standing,
+            count: 0,
+            kept: [0; ROOM],
+            finished,
+        },
+        taken,
+        outcome: Ok(Some(reply)),
     }
 }
 
 // The room for a line whose first `count` bytes no line feed ends: 0 for the last of them where it is one.
-fn without_end(kept: [u8; 200], count: usize) -> [u8; 200]
+fn without_end(mut kept: [u8; ROOM], count: usize) -> [u8; ROOM]
     requires { (0 < count) × (count ≤ 200) }
     ensures { (length result ≡ 200) × (take count result ≡ unended (take count kept)) }
 {
-    let last = count - 1;
-    if kept[last] != LINE_FEED {
-        return kept;
+    if kept[count - 1] == LINE_FEED {
+        kept[count - 1] = 0;
     }
-    let mut bytes = kept;
-    bytes[last] = 0;
-    bytes
+    kept
 }
 
 // A line that has not ended, or is too long: the reply to the bytes that are kept of it.
-fn end_open(stream: Stream, kept: [u8; 200], count: usize, taken: usize, finished: bool) -> Fed
+fn end_open(stream: Stream, kept: [u8; ROOM], count: usize, taken: usize, finished: bool) -> Fed
     requires { (0 < count) × (count ≤ 200) }
     ensures { result ≡ ends_with stream (unended (take count kept)) taken finished }
 {
@@ -157,15 +128,6 @@ pub fn is_fed(bytes: &[u8], end: usize) -> bool
     bytes[end - 1] == LINE_FEED
 }
 
-fn least(a: usize, b: usize) -> usize
-    ensures { result ≡ min a b }
-{
-    if a < b {
-        return a;
-    }
-    b
-}
-
 // More bytes behind the first `count` of a line's room, as far as it goes, and how many are kept then. Past a count that the room doesn't have nothing is written.
 pub fn keep_bytes(room: &mut [u8], count: usize, bytes: &[u8]) -> usize
     ensures { (room.new ≡ sets room.old count (take (length room.old - count) bytes.now)) × (result ≡ min (count + length bytes.now) (length room.old)) }
@@ -174,12 +136,8 @@ pub fn keep_bytes(room: &mut [u8], count: usize, bytes: &[u8]) -> usize
     if size <= count {
         return size;
     }
-    let n = least(bytes.len(), size - count);
-    let mut i: usize = 0;
-    while i < n {
-        room[count + i] = bytes[i];
-        i += 1;
-    }
+    let n = bytes.len().min(size - count);
+    room[count..count + n].copy_from_slice(&bytes[..n]);
     count + n
 }
 
@@ -194,28 +152,26 @@ pub fn feed(stream: Stream, fragment: &[u8]) -> Fed
     }
     let end = line::line_end(fragment, 0);
     if is_fed(fragment, end) {
-        let last = end - 1;
-        let n = keep_bytes(&mut kept, count, &fragment[..last]);
+        let n = keep_bytes(&mut kept, count, &fragment[..end - 1]);
         if n < ROOM {
             kept[n] = LINE_FEED;
             return end_line(stream, &kept[..n + 1], end, false);
         }
         return end_open(stream, kept, n, end, false);
     }
-    let standing = stream.standing;
-    if !sheet_rules::is_sound(standing) {
+    if !sheet_rules::is_sound(stream.standing) {
         return refused(stream);
     }
     let n = keep_bytes(&mut kept, count, fragment);
     Fed {
         stream: Stream {
-            standing: standing,
             count: n,
-            kept: kept,
+            kept,
             finished: false,
+            ..stream
         },
         taken: end,
-        outcome: Outcome::Open,
+        outcome: Ok(None),
     }
 }
 
@@ -223,27 +179,23 @@ pub fn feed(stream: Stream, fragment: &[u8]) -> Fed
 pub fn finish(stream: Stream) -> Fed
     ensures { result ≡ finish_of stream }
 {
-    let count = stream.count;
-    let kept = stream.kept;
-    if stream.finished | (ROOM < count) {
+    if stream.finished | (ROOM < stream.count) {
         return refused(stream);
     }
-    if count != 0 {
-        return end_open(stream, kept, count, 0, true);
+    if stream.count != 0 {
+        return end_open(stream, stream.kept, stream.count, 0, true);
     }
-    let standing = stream.standing;
-    if !sheet_rules::is_sound(standing) {
+    if !sheet_rules::is_sound(stream.standing) {
         return refused(stream);
     }
-    let cleared = no_bytes();
     Fed {
         stream: Stream {
-            standing: standing,
             count: 0,
-            kept: cleared,
+            kept: [0; ROOM],
             finished: true,
+            ..stream
         },
         taken: 0,
-        outcome: Outcome::Open,
+        outcome: Ok(None),
     }
 }

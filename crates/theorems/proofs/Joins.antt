@@ -1,4 +1,5 @@
 -- The statements of specs/Joins.antt, from the laws of crate chain. Assumes nothing.
+use Rattle.std.specs.Prelude.{Ok, Err}
 use mathlib.Core.Path.{◌≡◌, refl, sym, ◌∙◌, ap}
 use mathlib.Core.List.{List, ◌++◌, append-nil}
 use native.Mathlib.Omega.{arith}
@@ -6,28 +7,26 @@ use lib.ListN.{length, length-take}
 use Rattle.chain.specs.declared.Point.{Point}
 use Rattle.chain.specs.declared.Step.{Step}
 use Rattle.chain.specs.declared.Chain.{Chain}
-use Rattle.chain.specs.declared.Answer.{Answer}
-use Rattle.chain.specs.declared.Answer.TheVariants.{Converted, Refused}
 use Rattle.chain.specs.Faults.{steps_of}
-use Rattle.chain.specs.Convert.{forward_of, inverse_of}
+use Rattle.chain.specs.Convert.{Answer, forward_of, inverse_of}
 use Rattle.chain.specs.Join.{meet, joined_of, join_of}
 use Rattle.chain.proofs.Joins.{Joinable, accepted, accepts, is-joined}
 use Rattle.chain.proofs.Meeting.{none-meet}
 use Rattle.chain.proofs.JoinedLaws.{joined-steps, few-steps, one-chain, one-length, rightward, leftward}
 use Rattle.chain.proofs.Legs.{Legs, forward-legs, inverse-legs}
-use Rattle.theorems.specs.Joins.{onward, Empty, Same, JoinsTo, on_the_left, on_the_right, Good, Joins}
+use Rattle.theorems.specs.Joins.{onward, Empty, Same, JoinsTo, Rightward, Leftward, ToTheRight, ToTheLeft, Good, Joins}
 
 -- ---- converting: one leg and then the other
 by-legs : {whole : Answer} (leg : Answer) {second : Point → Answer} → Legs whole leg second → whole ≡ onward leg second
-by-legs (Converted q) l = l.converted q refl
-by-legs (Refused n) l = l.refused n refl
+by-legs (Ok q) l = l.converted q refl
+by-legs (Err n) l = l.refused n refl
 
 -- ---- an empty chain
 all-steps : (c : Chain) → Good c → length (steps_of c) ≡ c.length
 all-steps c g = omega (arith, g.enough, length-take c.length c.steps)
 
 joins-to : (c d j : Chain) → Joinable c d → Same (joined_of c d) j → JoinsTo c d j
-joins-to c d j p same = record { accepted = accepts c d p; same = rw (is-joined c d p) same }
+joins-to c d j p same = record { joined = joined_of c d; accepted = accepts c d p; same = same }
 
 empty-first : (e c : Chain) → Good e → Empty e → Good c → e.profile ≡ c.profile → JoinsTo e c c
 empty-first e c ge none gc like =
@@ -62,24 +61,38 @@ empty-second c e gc ge none like =
     })
 
 -- ---- three chains
-to-the-right : (a b c : Chain) → (join_of a b).refusal ≡ 0 → (on_the_left a b c).refusal ≡ 0 → ((join_of b c).refusal ≡ 0) × JoinsTo a (join_of b c).chain (on_the_left a b c).chain
-to-the-right a b c e f =
-    let p = accepted a b e in
-    let q = accepted (joined_of a b) c (rw (is-joined a b p) at f) in
+right-by : (a b c : Chain) → Joinable a b → Joinable (joined_of a b) c → Rightward a b c (joined_of (joined_of a b) c)
+right-by a b c p q =
     let w = rightward a b c p q in
-    (accepts b c w.0, rw (is-joined b c w.0, is-joined a b p, is-joined (joined_of a b) c q) (joins-to a (joined_of b c) (joined_of (joined_of a b) c) w.1 (record { profile = refl; length = one-length a b c; steps = one-chain a b c })))
+    record {
+      inner = joined_of b c;
+      accepted = accepts b c w.0;
+      outer = joins-to a (joined_of b c) (joined_of (joined_of a b) c) w.1 (record { profile = refl; length = one-length a b c; steps = one-chain a b c });
+    }
 
-to-the-left : (a b c : Chain) → (join_of b c).refusal ≡ 0 → (on_the_right a b c).refusal ≡ 0 → ((join_of a b).refusal ≡ 0) × JoinsTo (join_of a b).chain c (on_the_right a b c).chain
-to-the-left a b c e f =
-    let p = accepted b c e in
-    let q = accepted a (joined_of b c) (rw (is-joined b c p) at f) in
+to-the-right : ToTheRight
+to-the-right a b c ab j e f =
+    let q = rw (← is-joined a b ab e) at f in
+    rw (← is-joined (joined_of a b) c j q) (right-by a b c (accepted a b ab e) (accepted (joined_of a b) c j q))
+
+left-by : (a b c : Chain) → Joinable b c → Joinable a (joined_of b c) → Leftward a b c (joined_of a (joined_of b c))
+left-by a b c p q =
     let w = leftward a b c p q in
-    (accepts a b w.0, rw (is-joined a b w.0, is-joined b c p, is-joined a (joined_of b c) q) (joins-to (joined_of a b) c (joined_of a (joined_of b c)) w.1 (record { profile = refl; length = sym (one-length a b c); steps = sym (one-chain a b c) })))
+    record {
+      inner = joined_of a b;
+      accepted = accepts a b w.0;
+      outer = joins-to (joined_of a b) c (joined_of a (joined_of b c)) w.1 (record { profile = refl; length = sym (one-length a b c); steps = sym (one-chain a b c) });
+    }
+
+to-the-left : ToTheLeft
+to-the-left a b c bc j e f =
+    let q = rw (← is-joined b c bc e) at f in
+    rw (← is-joined a (joined_of b c) j q) (left-by a b c (accepted b c bc e) (accepted a (joined_of b c) j q))
 
 pub joins-hold : Joins
 joins-hold = record {
-  forward = λ c d e m n p. let f = accepted c d e in rw (is-joined c d f) (by-legs (forward_of c p) (forward-legs c d f m n p));
-  inverse = λ c d e m n p. let f = accepted c d e in rw (is-joined c d f) (by-legs (inverse_of d p) (inverse-legs c d f m n p));
+  forward = λ c d j e m n p. rw (← is-joined c d j e) (by-legs (forward_of c p) (forward-legs c d (accepted c d j e) m n p));
+  inverse = λ c d j e m n p. rw (← is-joined c d j e) (by-legs (inverse_of d p) (inverse-legs c d (accepted c d j e) m n p));
   right = to-the-right;
   left = to-the-left;
   before = empty-first;

@@ -13,3 +13,4 @@ pub mod Joins
 pub mod LineOrders
 pub mod MalformedCases
 pub mod Velocities
+pub mod Refusals

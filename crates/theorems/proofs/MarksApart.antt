@@ -1,4 +1,5 @@
 -- Two marks never become one: what a step does to two positions, carried along a chain in either direction. Assumes nothing.
+use Rattle.std.specs.Prelude.{Ok}
 use mathlib.Core.Path.{◌≡◌, refl, sym, ◌∙◌, ap, subst}
 use mathlib.Core.Bool.{true}
 use mathlib.Core.List.{List, [], ◌∷◌, ◌++◌, reverse, reverse_aux-eq}
@@ -10,7 +11,6 @@ use Rattle.chain.specs.declared.Point.{Point}
 use Rattle.chain.specs.declared.Kind.{Kind}
 use Rattle.chain.specs.declared.Kind.TheVariants.{Shift, Velocity, BursaWolf, Frame}
 use Rattle.chain.specs.declared.Step.{Step}
-use Rattle.chain.specs.declared.Answer.TheVariants.{Converted}
 use Rattle.chain.specs.Faults.{KindOk, StepOk, in_area, steps_of}
 use Rattle.chain.specs.Parts.{Parts, kind_parts, forward_by, inverse_by}
 use Rattle.chain.specs.Convert.{at, walk, forward_of, inverse_of}
@@ -102,7 +102,7 @@ same-off {p} e = subst (λ (x : Position). Off 0 p x) e (off_self p)
 pub marks-apart : MarksApart
 marks-apart c p q p' q' b = (forth, back)
   where
-    forth : forward_of c p ≡ Converted p' → forward_of c q ≡ Converted q' → p'.position ≡ q'.position → ⊥
+    forth : forward_of c p ≡ Ok p' → forward_of c q ≡ Ok q' → p'.position ≡ q'.position → ⊥
     forth e f s =
         let ss = steps_of c in
         let a = forward-went c p p' e in
@@ -111,7 +111,7 @@ marks-apart c p q p' q' b = (forth, back)
         (off-le (omega arith) (walk-apart forward_by by-forward ss a.accept.sound p.position q.position p'.position q'.position 0
         (eight c a.accept.short) a.accept.area d.accept.area a.ended d.ended (same-off s)))
 
-    back : inverse_of c p ≡ Converted p' → inverse_of c q ≡ Converted q' → p'.position ≡ q'.position → ⊥
+    back : inverse_of c p ≡ Ok p' → inverse_of c q ≡ Ok q' → p'.position ≡ q'.position → ⊥
     back e f s =
         let ss = steps_of c in
         let a = inverse-went c p p' e in

@@ -1,25 +1,25 @@
 -- The worked positions that meet, by computation, and a pair to which the theorem on two marks applies. Assumes nothing.
+use Rattle.std.specs.Prelude.{Err}
 use mathlib.Core.Path.{◌≡◌, refl, sym, ap, ◌∙◌}
 use mathlib.Core.List.{List, map}
 use Prim.Native.Nat.{ℕ}
 use lib.Dec.{lit<}
 use lib.IntN.{pos}
 use lib.ListN.{get_or}
-use Rattle.chain.specs.declared.Answer.{Answer}
-use Rattle.chain.specs.declared.Answer.TheVariants.{Refused}
 use Rattle.chain.specs.Axes.{on_x}
 use Rattle.chain.specs.Case as cases
 use Rattle.chain.specs.Case.{answer, expected}
 use Rattle.chain.proofs.Ends.{forward-case}
 use Rattle.theorems.specs.MarksMeet.{scaling, meeting, MarksMeet, Applies}
+use Rattle.chain.specs.Convert.{Answer}
 
 pub marks-meet : MarksMeet
 unfolding answer
 marks-meet = refl
 
 -- the answers, each by its index in the list
-answers : (n : ℕ) → get_or (map answer meeting) n (Refused 0) ≡ get_or (map expected meeting) n (Refused 0)
-answers n = ap (λ (l : List Answer). get_or l n (Refused 0)) marks-meet
+answers : (n : ℕ) → get_or (map answer meeting) n (Err 0) ≡ get_or (map expected meeting) n (Err 0)
+answers n = ap (λ (l : List Answer). get_or l n (Err 0)) marks-meet
 
 pub applies : Applies
 applies = record {

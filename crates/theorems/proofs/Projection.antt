@@ -11,4 +11,10 @@ projected : ProjectedFinite
 projected o lat lon x y e = let b = subst ProjectedBounded e (projected-bounded o lat lon) in record { east = b.0; north = b.1 }
 
 pub projection : ProjectionLaws
-projection = record { origin = at-origin; position = position; projected = projected; units = units-answered; millimetres = millimetres-answered }
+projection = record {
+  origin = at-origin;
+  position = position;
+  projected = projected;
+  units = λ code lat lon h x y z e. units-answered code lat lon h (record { x = x; y = y; z = z }) e;
+  millimetres = λ o lat lon x y e. millimetres-answered o lat lon (record { easting = x; northing = y }) e;
+}

@@ -1,35 +1,32 @@
 -- What is promised of joined chains (request A12): converting by the joined chain is converting by the first and then by the second, refusals included; going
 -- back along it is back along the second and then the first; how three chains are bracketed does not matter; and an empty chain changes nothing.
-use Rattle.std.specs.Prelude.{◌≡◌, List, [], ◌≤◌, length}
+use Rattle.std.specs.Prelude.{◌≡◌, List, [], ◌≤◌, length, Ok, Err}
 use Rattle.refusal.specs.Order.{first}
 use Rattle.chain.specs.declared.Point.{Point}
 use Rattle.chain.specs.declared.Step.{Step}
 use Rattle.chain.specs.declared.Chain.{Chain}
-use Rattle.chain.specs.declared.Answer.{Answer}
-use Rattle.chain.specs.declared.Answer.TheVariants.{Converted, Refused}
-use Rattle.chain.specs.declared.Joined.{Joined}
 use Rattle.chain.specs.Faults.{chain_tests, steps_of}
-use Rattle.chain.specs.Convert.{forward_of, inverse_of}
+use Rattle.chain.specs.Convert.{Answer, forward_of, inverse_of}
 use Rattle.chain.specs.Join.{join_of}
 
 -- ---- converting
 -- what a conversion answers, handed on to another; a refusal stays
 abbrev pub onward : Answer → (Point → Answer) → Answer
-onward (Converted q) convert = convert q
-onward (Refused n) convert = Refused n
+onward (Ok q) convert = convert q
+onward (Err n) convert = Err n
 
 -- no step within its length
 abbrev pub Empty : Chain → Type 0
 Empty c = steps_of c ≡ []
 
--- c and d are good, join, have at most eight steps together and one profile, as join_of says by refusing nothing; neither is empty
+-- c and d are good, join, have at most eight steps together and one profile, as join_of says by giving a chain; neither is empty
 abbrev pub JoinedForward : Type 0
 JoinedForward =
-    (c d : Chain) → (join_of c d).refusal ≡ 0 → (Empty c → ⊥) → (Empty d → ⊥) → (p : Point) → forward_of (join_of c d).chain p ≡ onward (forward_of c p) (forward_of d)
+    (c d j : Chain) → join_of c d ≡ Ok j → (Empty c → ⊥) → (Empty d → ⊥) → (p : Point) → forward_of j p ≡ onward (forward_of c p) (forward_of d)
 
 abbrev pub JoinedInverse : Type 0
 JoinedInverse =
-    (c d : Chain) → (join_of c d).refusal ≡ 0 → (Empty c → ⊥) → (Empty d → ⊥) → (p : Point) → inverse_of (join_of c d).chain p ≡ onward (inverse_of d p) (inverse_of c)
+    (c d j : Chain) → join_of c d ≡ Ok j → (Empty c → ⊥) → (Empty d → ⊥) → (p : Point) → inverse_of j p ≡ onward (inverse_of d p) (inverse_of c)
 
 -- ---- the same chain: its profile, its length and the steps within it
 pub record Same (c d : Chain) : Type 0 where
@@ -39,23 +36,28 @@ pub record Same (c d : Chain) : Type 0 where
 
 -- c and d are joined, to the same chain as j
 pub record JoinsTo (c d j : Chain) : Type 0 where
-  pub accepted : (join_of c d).refusal ≡ 0
-  pub same : Same (join_of c d).chain j
+  pub joined : Chain
+  pub accepted : join_of c d ≡ Ok joined
+  pub same : Same joined j
 
 -- ---- three chains: where one way of bracketing them is accepted, so is the other, with the same chain
-abbrev pub on_the_left : Chain → Chain → Chain → Joined
-on_the_left a b c = join_of (join_of a b).chain c
-
-abbrev pub on_the_right : Chain → Chain → Chain → Joined
-on_the_right a b c = join_of a (join_of b c).chain
+-- b and c are joined, and a to what they give, to the same chain as j
+pub record Rightward (a b c j : Chain) : Type 0 where
+  pub inner : Chain
+  pub accepted : join_of b c ≡ Ok inner
+  pub outer : JoinsTo a inner j
 
 abbrev pub ToTheRight : Type 0
-ToTheRight =
-    (a b c : Chain) → (join_of a b).refusal ≡ 0 → (on_the_left a b c).refusal ≡ 0 → ((join_of b c).refusal ≡ 0) × JoinsTo a (join_of b c).chain (on_the_left a b c).chain
+ToTheRight = (a b c ab j : Chain) → join_of a b ≡ Ok ab → join_of ab c ≡ Ok j → Rightward a b c j
+
+-- a and b are joined, and what they give to c, to the same chain as j
+pub record Leftward (a b c j : Chain) : Type 0 where
+  pub inner : Chain
+  pub accepted : join_of a b ≡ Ok inner
+  pub outer : JoinsTo inner c j
 
 abbrev pub ToTheLeft : Type 0
-ToTheLeft =
-    (a b c : Chain) → (join_of b c).refusal ≡ 0 → (on_the_right a b c).refusal ≡ 0 → ((join_of a b).refusal ≡ 0) × JoinsTo (join_of a b).chain c (on_the_right a b c).chain
+ToTheLeft = (a b c bc j : Chain) → join_of b c ≡ Ok bc → join_of a bc ≡ Ok j → Leftward a b c j
 
 -- ---- an empty chain of like profile, before a good chain or after it. A chain holds as many steps as its length says: those of the program hold eight
 pub record Good (c : Chain) : Type 0 where

@@ -12,3 +12,4 @@ pub mod Joins
 pub mod LineOrders
 pub mod MalformedCases
 pub mod Velocities
+pub mod Refusals

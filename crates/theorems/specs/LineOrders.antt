@@ -1,6 +1,6 @@
 -- The orders of refusals that go by what a line is read as: what a sheet and a plan print for a line, and the later of two. A case for each test of an order, in
 -- which that one fails and every later one that can. The order within a reader is held by MalformedCases.antt and crates/cases/specs/OrderCases.antt.
-use Rattle.std.specs.Prelude.{Bool, true, false, ◌≡◌, List, [], ◌∷◌, ℕ, ℤ, pos, replicate}
+use Rattle.std.specs.Prelude.{Ok, Err, Bool, true, false, ◌≡◌, List, [], ◌∷◌, ℕ, ℤ, pos, replicate}
 use Rattle.std.proofs.Math.Option.{none, some}
 use Rattle.refusal.specs.Numbers as refusal
 use Rattle.chain.specs.declared.Realization.{Realization}
@@ -9,16 +9,10 @@ use Rattle.chain.specs.declared.Step.{Step}
 use Rattle.chain.specs.declared.Kind.TheVariants.{Frame}
 use Rattle.chain.specs.Faults.{latest}
 use Rattle.angle.specs.declared.OriginNumbers.{OriginNumbers}
-use Rattle.line.specs.declared.Fault.{Fault}
+use Rattle.line.specs.Answers.{Fault, Good, Malformed, Refused}
 use Rattle.line.specs.declared.Geodetic.{Geodetic}
-use Rattle.line.specs.declared.Verdict.{Verdict}
-use Rattle.line.specs.declared.Verdict.TheVariants as verdict
-use Rattle.line.specs.declared.PointLine.TheVariants as point-line
-use Rattle.line.specs.declared.StepLine.TheVariants as step_line
-use Rattle.line.specs.declared.EditionLine.TheVariants as edition-line
-use Rattle.line.specs.declared.OriginLine.TheVariants as origin-line
-use Rattle.line.specs.declared.GeodeticLine.TheVariants as geodetic-line
-use Rattle.line.specs.Later.{compared}
+use Rattle.line.specs.Later as verdict
+use Rattle.line.specs.Later.{compared, Verdict}
 use Rattle.line.specs.Text.{refusal_text}
 use Rattle.sheet_rules.specs.Sheet.{Sheet, reply_text, step_reply, point_reply, edition_reply}
 use Rattle.plan_rules.specs.Plan as plan
@@ -55,13 +49,13 @@ sheet line refused closed =
 
 abbrev pub steps : List (List ℕ)
 steps =
-    reply_text (step_reply (sheet 9 true true) (step_line.Malformed (fault refusal.letter 2)))
-    ∷ reply_text (step_reply (sheet 9 true true) (step_line.Refused refusal.range))
-    ∷ reply_text (step_reply (sheet 9 true true) (step_line.Refused refusal.kind))
-    ∷ reply_text (step_reply (sheet 9 true true) (step_line.Step (step_from (on 7 2020000))))
-    ∷ reply_text (step_reply (sheet 9 false true) (step_line.Step (step_from (on 7 2020000))))
-    ∷ reply_text (step_reply (sheet 9 false false) (step_line.Step (step_from (on 7 2020000))))
-    ∷ reply_text (step_reply (sheet 9 false false) (step_line.Step (step_from (on 8 2020000))))
+    reply_text (step_reply (sheet 9 true true) (Malformed (fault refusal.letter 2)))
+    ∷ reply_text (step_reply (sheet 9 true true) (Refused refusal.range))
+    ∷ reply_text (step_reply (sheet 9 true true) (Refused refusal.kind))
+    ∷ reply_text (step_reply (sheet 9 true true) (Good (step_from (on 7 2020000))))
+    ∷ reply_text (step_reply (sheet 9 false true) (Good (step_from (on 7 2020000))))
+    ∷ reply_text (step_reply (sheet 9 false false) (Good (step_from (on 7 2020000))))
+    ∷ reply_text (step_reply (sheet 9 false false) (Good (step_from (on 8 2020000))))
     ∷ []
 
 abbrev wanted_of_steps : List (List ℕ)
@@ -81,9 +75,9 @@ StepOrder = steps ≡ wanted_of_steps
 -- a point line; the conversion's 9, 10 and 11 come after
 abbrev pub points : List (List ℕ)
 points =
-    reply_text (point_reply (sheet 9 true false) (point-line.Malformed (fault refusal.plain 5)))
-    ∷ reply_text (point_reply (sheet 9 true false) (point-line.Refused refusal.profile))
-    ∷ reply_text (point_reply (sheet 9 true false) (point-line.Point (point 1 1)))
+    reply_text (point_reply (sheet 9 true false) (Malformed (fault refusal.plain 5)))
+    ∷ reply_text (point_reply (sheet 9 true false) (Refused refusal.profile))
+    ∷ reply_text (point_reply (sheet 9 true false) (Good (point 1 1)))
     ∷ []
 
 abbrev pub PointOrder : Type 0
@@ -92,10 +86,10 @@ PointOrder = points ≡ refusal_text 9 refusal.plain 5 ∷ refusal_text 9 refusa
 -- an edition line
 abbrev pub editions : List (List ℕ)
 editions =
-    reply_text (edition_reply (sheet 9 false false) (edition-line.Malformed (fault refusal.count 1)))
-    ∷ reply_text (edition_reply (sheet 9 false false) (edition-line.Edition (pos 2010)))
-    ∷ reply_text (edition_reply (sheet 1 false false) (edition-line.Edition (pos 2010)))
-    ∷ reply_text (edition_reply (sheet 1 false false) (edition-line.Edition (pos 2009)))
+    reply_text (edition_reply (sheet 9 false false) (Err (fault refusal.count 1)))
+    ∷ reply_text (edition_reply (sheet 9 false false) (Ok (pos 2010)))
+    ∷ reply_text (edition_reply (sheet 1 false false) (Ok (pos 2010)))
+    ∷ reply_text (edition_reply (sheet 1 false false) (Ok (pos 2009)))
     ∷ []
 
 abbrev pub EditionOrder : Type 0
@@ -113,11 +107,11 @@ laid = record { line = 5; origin = some origin }
 
 abbrev pub origins : List (List ℕ)
 origins =
-    plan.reply_text (origin_reply later (origin-line.Malformed (fault refusal.length 200)))
-    ∷ plan.reply_text (origin_reply later (origin-line.Refused refusal.range))
-    ∷ plan.reply_text (origin_reply later (origin-line.Origin origin))
-    ∷ plan.reply_text (origin_reply first (origin-line.Refused refusal.geodetic))
-    ∷ plan.reply_text (origin_reply first (origin-line.Origin origin))
+    plan.reply_text (origin_reply later (Malformed (fault refusal.length 200)))
+    ∷ plan.reply_text (origin_reply later (Refused refusal.range))
+    ∷ plan.reply_text (origin_reply later (Good origin))
+    ∷ plan.reply_text (origin_reply first (Refused refusal.geodetic))
+    ∷ plan.reply_text (origin_reply first (Good origin))
     ∷ []
 
 abbrev wanted_of_origins : List (List ℕ)
@@ -135,10 +129,10 @@ OriginOrder = origins ≡ wanted_of_origins
 -- a position line; the projection's 13 and 14 come after
 abbrev pub position_lines : List (List ℕ)
 position_lines =
-    plan.reply_text (geodetic_reply later (geodetic-line.Malformed (fault refusal.id 2)))
-    ∷ plan.reply_text (geodetic_reply later (geodetic-line.Refused refusal.geodetic))
-    ∷ plan.reply_text (geodetic_reply later (geodetic-line.Geodetic position))
-    ∷ plan.reply_text (geodetic_reply laid (geodetic-line.Refused refusal.geodetic))
+    plan.reply_text (geodetic_reply later (Malformed (fault refusal.id 2)))
+    ∷ plan.reply_text (geodetic_reply later (Refused refusal.geodetic))
+    ∷ plan.reply_text (geodetic_reply later (Good position))
+    ∷ plan.reply_text (geodetic_reply laid (Refused refusal.geodetic))
     ∷ []
 
 abbrev wanted_of_positions : List (List ℕ)
@@ -151,14 +145,14 @@ PositionLineOrder = position_lines ≡ wanted_of_positions
 -- ---- the later of two: the first line's refusal, the second's, 16, 17
 abbrev pub pairs : List Verdict
 pairs =
-    compared (point-line.Malformed (fault refusal.count 7)) (point-line.Refused refusal.range) false
-    ∷ compared (point-line.Refused refusal.epoch) (point-line.Malformed (fault refusal.count 7)) false
-    ∷ compared (point-line.Point (point 1 1)) (point-line.Malformed (fault refusal.count 7)) false
-    ∷ compared (point-line.Point (point 1 1)) (point-line.Refused refusal.range) false
-    ∷ compared (point-line.Point (point 1 1)) (point-line.Point (point 2 1)) false
-    ∷ compared (point-line.Point (point 1 1)) (point-line.Point (point 1 1)) false
-    ∷ compared (point-line.Point (point 1 1)) (point-line.Point (point 1 1)) true
-    ∷ compared (point-line.Point (point 1 9)) (point-line.Point (point 1 10)) false
+    compared (Malformed (fault refusal.count 7)) (Refused refusal.range) false
+    ∷ compared (Refused refusal.epoch) (Malformed (fault refusal.count 7)) false
+    ∷ compared (Good (point 1 1)) (Malformed (fault refusal.count 7)) false
+    ∷ compared (Good (point 1 1)) (Refused refusal.range) false
+    ∷ compared (Good (point 1 1)) (Good (point 2 1)) false
+    ∷ compared (Good (point 1 1)) (Good (point 1 1)) false
+    ∷ compared (Good (point 1 1)) (Good (point 1 1)) true
+    ∷ compared (Good (point 1 9)) (Good (point 1 10)) false
     ∷ []
 
 abbrev refused_in : ℕ → ℕ → ℕ → Verdict

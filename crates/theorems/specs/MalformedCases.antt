@@ -6,7 +6,7 @@ use Prim.Native.String as string
 use Prim.Native.String.{String}
 use Rattle.refusal.specs.Numbers as refusal
 use Rattle.refusal.specs.Order.{pick}
-use Rattle.line.specs.declared.Fault.{Fault}
+use Rattle.line.specs.Answers.{Fault}
 use Rattle.line.specs.Bytes.{tab, line_feed, letter_p}
 use Rattle.line.specs.Malformed.{Shape, point_shape, origin_shape, geodetic_shape, edition_shape, step_shape, unknown_shape, fault, fault_of}
 

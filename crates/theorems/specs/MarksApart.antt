@@ -1,9 +1,8 @@
 -- Two marks never become one: two points more than n units apart on some axis, where the chain has n Bursa-Wolf and frame steps, are not brought to one
 -- position, neither forward nor inverse.
-use Rattle.std.specs.Prelude.{◌≡◌, ℕ, ◌<◌, ◌≤◌, nat_abs, ◌-ℤ◌}
+use Rattle.std.specs.Prelude.{◌≡◌, ℕ, ◌<◌, ◌≤◌, nat_abs, ◌-ℤ◌, Ok}
 use Rattle.chain.specs.declared.Point.{Point}
 use Rattle.chain.specs.declared.Chain.{Chain}
-use Rattle.chain.specs.declared.Answer.TheVariants.{Converted}
 use Rattle.chain.specs.Faults.{steps_of}
 use Rattle.chain.specs.Axes.{Axis, coordinate}
 use Rattle.chain.specs.Convert.{forward_of, inverse_of}
@@ -19,5 +18,5 @@ pub record Beyond (n : ℕ) (p q : Point) : Type 0 where
 abbrev pub MarksApart : Type 0
 MarksApart =
     (c : Chain) (p q p' q' : Point) → Beyond (inexact_steps (steps_of c)) p q →
-    (forward_of c p ≡ Converted p' → forward_of c q ≡ Converted q' → p'.position ≡ q'.position → ⊥)
-    × (inverse_of c p ≡ Converted p' → inverse_of c q ≡ Converted q' → p'.position ≡ q'.position → ⊥)
+    (forward_of c p ≡ Ok p' → forward_of c q ≡ Ok q' → p'.position ≡ q'.position → ⊥)
+    × (inverse_of c p ≡ Ok p' → inverse_of c q ≡ Ok q' → p'.position ≡ q'.position → ⊥)

@@ -1,12 +1,11 @@
 -- That the bound on two marks says something, and can't be less: by a chain of one Bursa-Wolf step two positions one unit apart on X come to one position, and two units
 -- apart they don't. Forward and inverse; worked out from document 01's formula in exact fractions.
-use Rattle.std.specs.Prelude.{◌≡◌, List, [], ◌∷◌, map, ℤ, pos}
+use Rattle.std.specs.Prelude.{◌≡◌, List, [], ◌∷◌, map, ℤ, pos, Ok}
 use Rattle.chain.specs.declared.Point.{Point}
 use Rattle.chain.specs.declared.Chain.{Chain}
 use Rattle.chain.specs.declared.Kind.{Kind}
 use Rattle.chain.specs.declared.Kind.TheVariants.{BursaWolf}
 use Rattle.chain.specs.declared.Convention.TheVariants.{PositionVector}
-use Rattle.chain.specs.declared.Answer.TheVariants.{Converted}
 use Rattle.chain.specs.Faults.{steps_of}
 use Rattle.chain.specs.Convert.{forward_of}
 use Rattle.chain.specs.Case.{less, on, xyz, Case, case, forward, inverse, answer, expected}
@@ -47,5 +46,5 @@ pub record Applies : Type 0 where
   pub p' : Point
   pub q' : Point
   pub beyond : Beyond (inexact_steps (steps_of chain)) p q
-  pub one : forward_of chain p ≡ Converted p'
-  pub other : forward_of chain q ≡ Converted q'
+  pub one : forward_of chain p ≡ Ok p'
+  pub other : forward_of chain q ≡ Ok q'

@@ -1,12 +1,10 @@
 -- The orders of refusals of the rounding and of the angle calls: a case for each test of an order, in which that one fails and every later one that can. What
 -- is wanted is worked out by hand from the tables of ranges.
-use Rattle.std.specs.Prelude.{false, true, ◌≡◌, List, [], ◌∷◌, ℕ, ℤ, pos, negsuc}
+use Rattle.std.specs.Prelude.{false, true, ◌≡◌, List, [], ◌∷◌, ℕ, ℤ, pos, negsuc, Ok, Err}
 use Rattle.std.specs.Float.{nan, inf, fin}
 use Rattle.refusal.specs.Numbers as refusal
 use Rattle.refusal.specs.Order.{first}
-use Rattle.rounding.specs.declared.decimals.Rounded.{Rounded}
-use Rattle.rounding.specs.declared.decimals.Rounded.TheVariants.{Whole, Refused}
-use Rattle.rounding.specs.Decimals.{rounded_of}
+use Rattle.rounding.specs.Decimals.{Rounded, rounded_of}
 use Rattle.angle.specs.declared.OriginNumbers.{OriginNumbers}
 use Rattle.angle.specs.Ranges.{cartesian_tests, position_tests, cassini_tests, geodetic_tests}
 
@@ -21,7 +19,7 @@ roundings =
     ∷ []
 
 abbrev pub RoundingOrder : Type 0
-RoundingOrder = roundings ≡ Refused refusal.range ∷ Refused refusal.size ∷ Refused refusal.size ∷ Refused refusal.size ∷ Whole (negsuc 9999998) ∷ []
+RoundingOrder = roundings ≡ Err refusal.range ∷ Err refusal.size ∷ Err refusal.size ∷ Err refusal.size ∷ Ok (negsuc 9999998) ∷ []
 
 -- geodetic to Cartesian: 2 for the ellipsoid, 12 for the latitude, the longitude, the height
 abbrev pub cartesians : List ℕ

@@ -1,23 +1,22 @@
 -- What is promised of conversions beside demand 3: what comes out can be handed in again, a refusal has a number of the table, and a prepared chain of a profile,
 -- extended step by step from none, answers as the conversion does, forward and inverse; and so does a chain made ready for a row of points.
-use Rattle.std.specs.Prelude.{◌≡◌, true, List, [], ◌∷◌, ◌++◌, ℕ, ◌<◌, ℤ, pos, length}
+use Rattle.std.specs.Prelude.{◌≡◌, true, List, [], ◌∷◌, ◌++◌, ℕ, ◌<◌, ℤ, pos, length, Ok, Err}
 use Rattle.refusal.specs.Order.{first}
 use Rattle.ranges.specs.Ranges.{profile_range}
 use Rattle.chain.specs.declared.Point.{Point}
 use Rattle.chain.specs.declared.Step.{Step}
 use Rattle.chain.specs.declared.Chain.{Chain}
 use Rattle.chain.specs.declared.Direction.{Direction}
-use Rattle.chain.specs.declared.Answer.TheVariants.{Converted, Refused}
 use Rattle.chain.specs.Faults.{point_fault, step_tests}
 use Rattle.chain.specs.Convert.{more_tests, forward_of, inverse_of}
 use Rattle.chain.specs.Prepared.{length_in, extend_fault, extended_by, forward_prepared, inverse_prepared, chain_of, Holds}
 use Rattle.chain.specs.PointRow.{convert_of, ready_chain_of, convert_ready}
 
 abbrev pub HandedInAgain : Type 0
-HandedInAgain = (c : Chain) (p q : Point) → point_fault c.profile p ≡ 0 → forward_of c p ≡ Converted q → point_fault c.profile q ≡ 0
+HandedInAgain = (c : Chain) (p q : Point) → point_fault c.profile p ≡ 0 → forward_of c p ≡ Ok q → point_fault c.profile q ≡ 0
 
 abbrev pub NumberOfTable : Type 0
-NumberOfTable = (c : Chain) (p : Point) (n : ℕ) → forward_of c p ≡ Refused n → n < 100
+NumberOfTable = (c : Chain) (p : Point) (n : ℕ) → forward_of c p ≡ Err n → n < 100
 
 -- the numbers hold no step to begin with, and a step more that is not refused
 abbrev pub HeldEmpty : Type 0

@@ -1,12 +1,11 @@
 -- Demand 3, the whole claim: convert a point by a chain and hand what came out, unchanged, to the other conversion by the same chain. If neither is
 -- refused, the point handed in has come back.
-use Rattle.std.specs.Prelude.{◌≡◌, List, [], ◌∷◌, ℕ, ◌+◌, ◌≤◌, nat_abs, ◌-ℤ◌}
+use Rattle.std.specs.Prelude.{◌≡◌, List, [], ◌∷◌, ℕ, ◌+◌, ◌≤◌, nat_abs, ◌-ℤ◌, Ok}
 use Rattle.chain.specs.declared.Point.{Point}
 use Rattle.chain.specs.declared.Kind.{Kind}
 use Rattle.chain.specs.declared.Kind.TheVariants.{Shift, Velocity, BursaWolf, Frame}
 use Rattle.chain.specs.declared.Step.{Step}
 use Rattle.chain.specs.declared.Chain.{Chain}
-use Rattle.chain.specs.declared.Answer.TheVariants.{Converted}
 use Rattle.chain.specs.Faults.{steps_of}
 use Rattle.chain.specs.Convert.{forward_of, inverse_of}
 
@@ -35,10 +34,10 @@ pub record Returned (n : ℕ) (p r : Point) : Type 0 where
 -- any chain, any point p, the answer q of the first conversion and the answer r of the second: forward then inverse, and inverse then forward. The steps
 -- counted are those within the chain's length
 abbrev pub ThereAndBack : Type 0
-ThereAndBack = (c : Chain) (p q r : Point) → forward_of c p ≡ Converted q → inverse_of c q ≡ Converted r → Returned (inexact_steps (steps_of c)) p r
+ThereAndBack = (c : Chain) (p q r : Point) → forward_of c p ≡ Ok q → inverse_of c q ≡ Ok r → Returned (inexact_steps (steps_of c)) p r
 
 abbrev pub BackAndThere : Type 0
-BackAndThere = (c : Chain) (p q r : Point) → inverse_of c p ≡ Converted q → forward_of c q ≡ Converted r → Returned (inexact_steps (steps_of c)) p r
+BackAndThere = (c : Chain) (p q r : Point) → inverse_of c p ≡ Ok q → forward_of c q ≡ Ok r → Returned (inexact_steps (steps_of c)) p r
 
 -- within 0 units is equal: a chain of shifts and velocities alone, or an empty one, gives back exactly the point handed in
 abbrev pub Exactly : Type 0

@@ -1,12 +1,11 @@
 -- What is promised of rounding, beside the definitions: of a fraction over every divisor and every rule for halves, and of an f64 over every number of decimal
 -- places.
-use Rattle.std.specs.Prelude.{◌≡◌, Bool, ℕ, ◌+◌, ◌*◌, ◌^◌, ◌≤◌, ◌<◌, ℤ, pos, neg_ℤ, nat_abs, ◌+ℤ◌, ◌-ℤ◌, ◌*ℤ◌, ◌≤ℤ◌, ◌<ℤ◌}
+use Rattle.std.specs.Prelude.{◌≡◌, Bool, ℕ, ◌+◌, ◌*◌, ◌^◌, ◌≤◌, ◌<◌, ℤ, pos, neg_ℤ, nat_abs, ◌+ℤ◌, ◌-ℤ◌, ◌*ℤ◌, ◌≤ℤ◌, ◌<ℤ◌, Ok}
 use Rattle.std.specs.Float.{fin}
 use Rattle.std.specs.Float.Ieee.{up, down}
 use Rattle.refusal.specs.Order.{pick}
 use Rattle.rounding.specs.Nearest.{Near, Ties, Symmetric, Rounds, away, rounded}
 use Rattle.rounding.specs.Decimals.{with_sign, rounded_of}
-use Rattle.rounding.specs.declared.decimals.Rounded.TheVariants.{Whole}
 
 -- ---- a fraction: never more than a half off, at a half what the rule takes, and no other number; odd by a symmetric rule, monotone, and numerators less than L + 1 divisors apart round at most L + 1 apart
 pub record Fractions (ties : Ties) (d : ℕ) : Type 0 where
@@ -20,9 +19,9 @@ pub record Fractions (ties : Ties) (d : ℕ) : Type 0 where
 -- ---- an f64, whose exact value is m * up e / down e, negative where s is true
 pub record Decimals (s : Bool) (m : ℕ) (e : ℤ) (p : ℕ) : Type 0 where
   -- an answer is a nearest whole number of units at the places, a half away from zero
-  pub answers : (z : ℤ) → rounded_of (fin s m e) p ≡ Whole z → Rounds away (with_sign s (m * up e * 10 ^ p)) (down e) z
+  pub answers : (z : ℤ) → rounded_of (fin s m e) p ≡ Ok z → Rounds away (with_sign s (m * up e * 10 ^ p)) (down e) z
   -- and there is no other: that one is answered
-  pub only : (z : ℤ) → p ≤ 5 → m * up e < 10000000 * down e → Rounds away (with_sign s (m * up e * 10 ^ p)) (down e) z → rounded_of (fin s m e) p ≡ Whole z
+  pub only : (z : ℤ) → p ≤ 5 → m * up e < 10000000 * down e → Rounds away (with_sign s (m * up e * 10 ^ p)) (down e) z → rounded_of (fin s m e) p ≡ Ok z
 
 -- what nearest means: no whole number q is nearer to z/d than r, in units of 1/d
 abbrev pub Closest : Type 0

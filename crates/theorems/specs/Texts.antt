@@ -4,7 +4,7 @@ use Rattle.std.proofs.Math.Option.{some}
 use Rattle.chain.specs.declared.Id.{Id}
 use Rattle.chain.specs.declared.Point.{Point}
 use Rattle.chain.specs.Faults.{point_fault}
-use Rattle.line.specs.declared.PointLine.TheVariants as line
+use Rattle.line.specs.Answers.{Good}
 use Rattle.line.specs.Number.{number_of}
 use Rattle.line.specs.Name.{name_of}
 use Rattle.line.specs.Readers.{read_point}
@@ -20,11 +20,11 @@ NumberBack = (z : ℤ) → number_of (integer z) ≡ some z
 
 -- a point with no fault, and an id that a name spells, is read from its own line
 abbrev pub PointBack : Type 0
-PointBack = (y : ℤ) (p : Point) (name : List ℕ) → name_of name ≡ some p.label.id → point_fault y p ≡ 0 → read_point y (point_text p) ≡ line.Point p
+PointBack = (y : ℤ) (p : Point) (name : List ℕ) → name_of name ≡ some p.label.id → point_fault y p ≡ 0 → read_point y (point_text p) ≡ Good p
 
 -- and a line that is read as a point is, byte for byte, the line that is written for it: no point has two lines
 abbrev pub PointText : Type 0
-PointText = (y : ℤ) (text : List ℕ) (p : Point) → read_point y text ≡ line.Point p → text ≡ point_text p
+PointText = (y : ℤ) (text : List ℕ) (p : Point) → read_point y text ≡ Good p → text ≡ point_text p
 
 -- ---- how long a written line is, its line feed counted
 pub record Lengths : Type 0 where

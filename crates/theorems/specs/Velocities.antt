@@ -1,14 +1,12 @@
 -- What is promised of a velocity grid, beside the definitions: the bilinear rule once over every mesh, one value on an edge that two cells share, a velocity
 -- small enough for a step; and of its lines, that their numbers are judged as the lines say them.
-use Rattle.std.specs.Prelude.{◌≡◌, true, false, List, ℕ, ◌+◌, ◌≤◌, ◌<◌, ℤ, pos, ◌≤ℤ◌}
+use Rattle.std.specs.Prelude.{◌≡◌, true, false, List, ℕ, ◌+◌, ◌≤◌, ◌<◌, ℤ, pos, ◌≤ℤ◌, Ok, Some}
 use Rattle.std.proofs.Math.Option.{some}
 use Rattle.line.specs.Fields.{said}
 use Rattle.line.specs.Forms.{grid_form, node_form}
 use Rattle.line.specs.Readers.{read_grid_header, hyphen_line, read_node}
 use Rattle.line.specs.declared.GridHeader.{GridHeader}
-use Rattle.line.specs.declared.GridLine.TheVariants as header
 use Rattle.line.specs.declared.VelocityParts.{VelocityParts}
-use Rattle.line.specs.declared.NodeLine.TheVariants as node
 use Rattle.velocity_grid.specs.Bilinear.{bilinear}
 use Rattle.velocity_grid.specs.OnGrid.{grid_range}
 use Rattle.velocity_grid.specs.AtPoint.{part_range, part_of}
@@ -41,13 +39,13 @@ SharedNorth = (nodes : List ℤ) (p node columns : ℕ) (m x : ℤ) → part_of 
 -- ---- a grid's lines: numbers are carried up to a cap, and are in their ranges exactly where the line's own are; then they are those
 pub record HeaderJudged (line : List ℕ) (g : GridHeader) : Type 0 where
   pub carried : GridHeader
-  pub read : read_grid_header line ≡ header.Header carried
+  pub read : read_grid_header line ≡ Ok carried
   pub same : grid_range carried ≡ grid_range g
   pub kept : grid_range g ≡ true → carried ≡ g
 
 pub record NodeJudged (line : List ℕ) (p : VelocityParts) : Type 0 where
   pub carried : VelocityParts
-  pub read : read_node line ≡ node.Parts carried
+  pub read : read_node line ≡ Ok (Some carried)
   pub same : parts_range carried ≡ parts_range p
   pub kept : parts_range p ≡ true → carried ≡ p
 

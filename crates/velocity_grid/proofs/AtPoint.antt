@@ -2,6 +2,7 @@
 use mathlib.Core.Path.{◌≡◌, refl, sym, ◌∙◌, ap, subst}
 use mathlib.Core.Bool.{Bool, true, false, not, ◌&&◌}
 use mathlib.Core.List.{List, [], ◌∷◌, ◌++◌}
+use Rattle.std.specs.Prelude.{Result, Ok, Err}
 use Prim.Native.Nat.{ℕ, zero, suc, ◌+◌, ◌*◌, ◌≤◌}
 use native.Mathlib.Nat as NatL
 use native.Mathlib.Omega.{arith}
@@ -22,8 +23,6 @@ use Rattle.velocity_grid.specs.AtPoint.{part_range, value_of, known, cell_known,
 use Rattle.line.specs.declared.GridHeader.{GridHeader}
 use Rattle.velocity_grid.specs.declared.Cell.{Cell}
 use Rattle.line.specs.declared.VelocityParts.{VelocityParts}
-use Rattle.velocity_grid.specs.declared.PartsAnswer.{PartsAnswer}
-use Rattle.velocity_grid.specs.declared.PartsAnswer.TheVariants as answer
 use Rattle.velocity_grid.proofs.Bilinear.{bilinear-size, east-edge, north-edge}
 use Rattle.velocity_grid.proofs.OnGrid.{cell_in}
 
@@ -84,18 +83,18 @@ module _ (g : GridHeader) (nodes : List ℤ) (lat lon : ℤ) where
   abbrev cell : Cell
   cell = cell_of g lat lon
 
-  pub by-grid : (first (grid_tests g nodes) ≡ 0 → ⊥) → answer.Refused (first (grid_tests g nodes)) ≡ parts_at g nodes lat lon
+  pub by-grid : (first (grid_tests g nodes) ≡ 0 → ⊥) → Err (first (grid_tests g nodes)) ≡ parts_at g nodes lat lon
   unfolding parts_at
   by-grid f =
       rw (stop (grid_tests g nodes) (angles_and_cell_tests g nodes lat lon) f)
-      (sym (unless-some (first (grid_tests g nodes)) answer.Refused (answer.Parts (parts_in nodes cell)) f))
+      (sym (unless-some (first (grid_tests g nodes)) Err (Ok (parts_in nodes cell)) f))
 
   module _ (p : Passed (grid_tests g nodes)) where
-    pub by-angles : (first (angle_tests lat lon) ≡ 0 → ⊥) → answer.Refused (first (angle_tests lat lon)) ≡ parts_at g nodes lat lon
+    pub by-angles : (first (angle_tests lat lon) ≡ 0 → ⊥) → Err (first (angle_tests lat lon)) ≡ parts_at g nodes lat lon
     unfolding parts_at
     by-angles f =
         rw (on (grid_tests g nodes) (angles_and_cell_tests g nodes lat lon) p, stop (angle_tests lat lon) ((not (on_grid g lat lon) gives refusal.off_grid) ∷ (not (cell_known nodes cell) gives refusal.off_grid) ∷ []) f)
-        (sym (unless-some (first (angle_tests lat lon)) answer.Refused (answer.Parts (parts_in nodes cell)) f))
+        (sym (unless-some (first (angle_tests lat lon)) Err (Ok (parts_in nodes cell)) f))
 
     module _ (q : Passed (angle_tests lat lon)) where
       decided : first (parts_tests g nodes lat lon) ≡ first ((not (on_grid g lat lon) gives refusal.off_grid) ∷ (not (cell_known nodes cell) gives refusal.off_grid) ∷ [])
@@ -103,15 +102,15 @@ module _ (g : GridHeader) (nodes : List ℤ) (lat lon : ℤ) where
           on (grid_tests g nodes) (angles_and_cell_tests g nodes lat lon) p
           ∙ on (angle_tests lat lon) ((not (on_grid g lat lon) gives refusal.off_grid) ∷ (not (cell_known nodes cell) gives refusal.off_grid) ∷ []) q
 
-      pub by-off-grid : on_grid g lat lon ≡ false → answer.Refused refusal.off_grid ≡ parts_at g nodes lat lon
+      pub by-off-grid : on_grid g lat lon ≡ false → Err refusal.off_grid ≡ parts_at g nodes lat lon
       unfolding parts_at
       by-off-grid e = rw (decided, e)
 
-      pub by-nodes : on_grid g lat lon ≡ true → cell_known nodes cell ≡ false → answer.Refused refusal.off_grid ≡ parts_at g nodes lat lon
+      pub by-nodes : on_grid g lat lon ≡ true → cell_known nodes cell ≡ false → Err refusal.off_grid ≡ parts_at g nodes lat lon
       unfolding parts_at
       by-nodes e f = rw (decided, e, f)
 
-      pub by-none : on_grid g lat lon ≡ true → cell_known nodes cell ≡ true → answer.Parts (parts_in nodes cell) ≡ parts_at g nodes lat lon
+      pub by-none : on_grid g lat lon ≡ true → cell_known nodes cell ≡ true → Ok (parts_in nodes cell) ≡ parts_at g nodes lat lon
       unfolding parts_at
       by-none e f = rw (decided, e, f)
 
@@ -129,17 +128,17 @@ module _ (g : GridHeader) (nodes : List ℤ) (lat lon : ℤ) (p : VelocityParts)
     longitude = not-false _ t.1.1.1.0;
   }
 
-  pub parts-found : parts_at g nodes lat lon ≡ answer.Parts p → PartsFound lat lon p
+  pub parts-found : parts_at g nodes lat lon ≡ Ok p → PartsFound lat lon p
   unfolding parts_at
   parts-found = go (first (parts_tests g nodes lat lon)) refl
     where
-      same : (a b : VelocityParts) → answer.Parts a ≡ answer.Parts b → a ≡ b
+      same : (a b : VelocityParts) → ◌≡◌ {A = Result VelocityParts ℕ} (Ok a) (Ok b) → a ≡ b
       same a b h = cc
 
-      never : (n : ℕ) → answer.Refused n ≡ answer.Parts p → ⊥
+      never : (n : ℕ) → ◌≡◌ {A = Result VelocityParts ℕ} (Err n) (Ok p) → ⊥
       never n h = let z : ◌≡◌ {A = ℕ} 0 1 = cc in omega arith
 
-      go : (n : ℕ) → first (parts_tests g nodes lat lon) ≡ n → unless n answer.Refused (answer.Parts (parts_in nodes (cell_of g lat lon))) ≡ answer.Parts p → PartsFound lat lon p
+      go : (n : ℕ) → first (parts_tests g nodes lat lon) ≡ n → unless n Err (Ok (parts_in nodes (cell_of g lat lon))) ≡ Ok p → PartsFound lat lon p
       go zero e h = all-passed (passed (parts_tests g nodes lat lon) tt e) (same _ _ h)
       go (suc n) e h = absurd (never (suc n) h)
 

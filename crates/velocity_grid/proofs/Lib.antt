@@ -5,4 +5,6 @@ pub mod TurnFinite
 pub mod Carried
 pub mod Texts
 pub mod Motions
+pub mod Exits
+pub mod Slices
 pub mod Vectors

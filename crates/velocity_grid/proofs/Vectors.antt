@@ -2,6 +2,7 @@
 -- three columns, whose last node has no value: halves, edges, corners, and refusals in their order. Assumes nothing.
 use mathlib.Core.Path.{◌≡◌, refl}
 use mathlib.Core.List.{List, [], ◌∷◌, ◌++◌}
+use Rattle.std.specs.Prelude.{Result, Ok, Err}
 use Prim.Native.Nat.{ℕ}
 use lib.IntN.{ℤ, pos, negsuc, neg_ℤ}
 use lib.Ieee.{Float, binary64, round, neg, sub, add, mul, div, of_int, of_bits}
@@ -18,10 +19,8 @@ use Rattle.velocity_grid.specs.Turn.{turned_by, in_units}
 use Rattle.velocity_grid.specs.Step.{velocity_for}
 use Rattle.line.specs.declared.GridHeader.{GridHeader}
 use Rattle.velocity_grid.specs.declared.Turned.{Turned}
-use Rattle.velocity_grid.specs.declared.PartsAnswer.{PartsAnswer}
-use Rattle.velocity_grid.specs.declared.PartsAnswer.TheVariants.{Parts, Refused}
-use Rattle.velocity_grid.specs.declared.VelocityAnswer.{VelocityAnswer}
-use Rattle.velocity_grid.specs.declared.VelocityAnswer.TheVariants as velocity
+use Rattle.chain.specs.declared.Velocity.{Velocity}
+use Rattle.line.specs.declared.VelocityParts.{VelocityParts}
 
 abbrev f64 : ℕ → Float
 f64 n = of_bits binary64 n
@@ -54,10 +53,10 @@ unfolding at-arau turned_by round neg sub add mul of_int of_bits
 turn-worked = refl
 
 -- rounded; and the faults of a step of it: the datum, its epoch, an epoch 0
-answers : List VelocityAnswer
+answers : List (Result Velocity ℕ)
 answers =
     let v = in_units (record { x = f64 0x40d177608793c32d; y = f64 0x40a50a195b973a08; z = f64 0xc0c3f7cc2494afb4 }) in
-    let small = velocity.Velocity (record { vx = negsuc 1873; vy = negsuc 168; vz = negsuc 501 }) in
+    let small = Ok (record { vx = negsuc 1873; vy = negsuc 168; vz = negsuc 501 }) in
     v
     ∷ velocity_for small (pos 10) (pos 2010000) (pos 2020000)
     ∷ velocity_for small (pos 11) (pos 2010000) (pos 2020000)
@@ -66,11 +65,11 @@ answers =
     ∷ []
 
 answered : answers
-    ≡ (velocity.Velocity (record { vx = pos 17886; vy = pos 2693; vz = negsuc 10223 })
-    ∷ velocity.Velocity (record { vx = negsuc 1873; vy = negsuc 168; vz = negsuc 501 })
-    ∷ velocity.Refused refusal.range
-    ∷ velocity.Refused refusal.epoch
-    ∷ velocity.Refused refusal.kind
+    ≡ (Ok (record { vx = pos 17886; vy = pos 2693; vz = negsuc 10223 })
+    ∷ Ok (record { vx = negsuc 1873; vy = negsuc 168; vz = negsuc 501 })
+    ∷ Err refusal.range
+    ∷ Err refusal.epoch
+    ∷ Err refusal.kind
     ∷ [])
 unfolding answers in_units velocity_for answer round of_bits
 answered = refl
@@ -99,15 +98,15 @@ missing = first_eight ++ (pos 9999 ∷ pos 0 ∷ pos 0 ∷ [])
 whole-grid : List ℤ
 whole-grid = first_eight ++ (pos 12 ∷ negsuc 12 ∷ pos 14 ∷ [])
 
-abbrev parts : ℤ → ℤ → ℤ → PartsAnswer
-parts e n u = Parts (record { east = e; north = n; up = u })
+abbrev parts : ℤ → ℤ → ℤ → Result VelocityParts ℕ
+parts e n u = Ok (record { east = e; north = n; up = u })
 
-abbrev at : ℕ → ℕ → PartsAnswer
+abbrev at : ℕ → ℕ → Result VelocityParts ℕ
 at lat lon = parts_at header missing (pos lat) (pos lon)
 
 -- a node; halves of both signs; a quarter north and a half east; off the middle; nodes on the outer edges, and next to them; the cell to the north-east,
 -- whose node has no value; the cell just south of it; the corner; one unit off each edge; angles out of their ranges; a number too few; a header's mesh
-points : List PartsAnswer
+points : List (Result VelocityParts ℕ)
 points =
     at 1440000000 36720000000
     ∷ at 1455000000 36720000000
@@ -139,19 +138,19 @@ points-worked : points
     ∷ parts (pos 1) (negsuc 0) (pos 2500)
     ∷ parts (pos 3) (pos 4) (pos 5)
     ∷ parts (negsuc 5) (negsuc 6) (negsuc 7)
-    ∷ Refused refusal.off_grid
+    ∷ Err refusal.off_grid
     ∷ parts (pos 400) (negsuc 299) (negsuc 8)
-    ∷ Refused refusal.off_grid
+    ∷ Err refusal.off_grid
     ∷ parts (pos 12) (negsuc 12) (pos 14)
     ∷ parts (pos 1001) (negsuc 1000) (pos 7)
-    ∷ Refused refusal.off_grid
-    ∷ Refused refusal.off_grid
-    ∷ Refused refusal.off_grid
-    ∷ Refused refusal.off_grid
-    ∷ Refused refusal.geodetic
-    ∷ Refused refusal.geodetic
-    ∷ Refused refusal.lines
-    ∷ Refused refusal.range
+    ∷ Err refusal.off_grid
+    ∷ Err refusal.off_grid
+    ∷ Err refusal.off_grid
+    ∷ Err refusal.off_grid
+    ∷ Err refusal.geodetic
+    ∷ Err refusal.geodetic
+    ∷ Err refusal.lines
+    ∷ Err refusal.range
     ∷ [])
 unfolding points header first_eight missing whole-grid parts_at parts_in part_of corners_of cell_known known cell_of along_of axis_cell_of on_grid on_axis mesh_of nodes_of grid_range size_range mesh_range bilinear weighted_sum blend answer
 points-worked = refl

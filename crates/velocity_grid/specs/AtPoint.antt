@@ -1,6 +1,6 @@
 -- East, north and up at a point of a velocity grid. The nodes are a list of three numbers each, east, north and up; a node whose numbers are not each within
 -- 2,500 has no value.
-use Rattle.std.specs.Prelude.{Bool, not, ◌&&◌, List, [], ◌∷◌, ◌++◌, ℕ, ◌+◌, ◌*◌, ◌≤◌, eqb, ℤ, pos, nat_abs, length, get_or}
+use Rattle.std.specs.Prelude.{Bool, not, ◌&&◌, List, [], ◌∷◌, ◌++◌, ℕ, ◌+◌, ◌*◌, ◌≤◌, eqb, ℤ, pos, nat_abs, length, get_or, Result, Ok, Err}
 use Rattle.refusal.specs.Numbers as refusal
 use Rattle.refusal.specs.Order.{Test, ◌gives◌, first, unless}
 use Rattle.ranges.specs.Ranges.{up_to}
@@ -11,8 +11,6 @@ use Rattle.velocity_grid.specs.declared.Corners.{Corners}
 use Rattle.line.specs.declared.GridHeader.{GridHeader}
 use Rattle.velocity_grid.specs.declared.Cell.{Cell}
 use Rattle.line.specs.declared.VelocityParts.{VelocityParts}
-use Rattle.velocity_grid.specs.declared.PartsAnswer.{PartsAnswer}
-use Rattle.velocity_grid.specs.declared.PartsAnswer.TheVariants as answer
 
 -- hundredths of a millimetre a year
 abbrev pub part_range : ℤ → Bool
@@ -61,9 +59,9 @@ angles_and_cell_tests g nodes latitude longitude =
 abbrev pub parts_tests : GridHeader → List ℤ → ℤ → ℤ → List Test
 parts_tests g nodes latitude longitude = grid_tests g nodes ++ angles_and_cell_tests g nodes latitude longitude
 
-unfoldable pub parts_at : GridHeader → List ℤ → ℤ → ℤ → PartsAnswer
+unfoldable pub parts_at : GridHeader → List ℤ → ℤ → ℤ → Result VelocityParts ℕ
 unfolding parts_in cell_of
-parts_at g nodes latitude longitude = unless (first (parts_tests g nodes latitude longitude)) answer.Refused (answer.Parts (parts_in nodes (cell_of g latitude longitude)))
+parts_at g nodes latitude longitude = unless (first (parts_tests g nodes latitude longitude)) Err (Ok (parts_in nodes (cell_of g latitude longitude)))
 
 -- each within 2,500
 pub record PartsOk (p : VelocityParts) : Type 0 where

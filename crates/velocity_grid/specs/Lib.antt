@@ -4,6 +4,7 @@ pub mod AtPoint
 pub mod Turn
 pub mod Step
 pub mod Bounded
+pub mod Answers
 pub mod Text
 pub mod Motion
 pub mod Reading

@@ -2,7 +2,7 @@
 use Rattle.std.specs.Prelude.{List, ℕ, eqb, length}
 use Rattle.refusal.specs.Order.{pick}
 use Rattle.line.specs.Readers.{read_node}
-use Rattle.velocity_grid.specs.declared.GridFault.{GridFault}
+use Rattle.velocity_grid.specs.Answers.{GridFault}
 use Rattle.velocity_grid.specs.Text.{miscounted, node_fault}
 
 -- the next awaited line: past the end of the text it is empty, and missing

@@ -1,17 +1,13 @@
 -- East, north and up turned to X, Y, Z: document 002's matrix (3.4.2), in the order of docs/ORDERS.md, section 6.
-use Rattle.std.specs.Prelude.{ℤ, pos, ◌-ℤ◌, Float}
+use Rattle.std.specs.Prelude.{ℕ, ℤ, pos, ◌-ℤ◌, Float, Result, Ok, Err}
 use Rattle.std.specs.Float.Ieee.{neg}
-use Rattle.rounding.specs.Decimals.{rounded_of}
-use Rattle.rounding.specs.declared.decimals.Rounded.{Rounded}
-use Rattle.rounding.specs.declared.decimals.Rounded.TheVariants.{Whole}
-use Rattle.rounding.specs.declared.decimals.Rounded.TheVariants as rounded
+use Rattle.rounding.specs.Decimals.{Rounded, rounded_of}
 use Rattle.elementary.specs.Floats.{◌⊗◌, ◌⊕◌, ◌⊖◌, whole}
 use Rattle.elementary.specs.Series.{sine_of, cosine_of}
 use Rattle.angle.specs.Units.{radians}
+use Rattle.chain.specs.declared.Velocity.{Velocity}
 use Rattle.line.specs.declared.VelocityParts.{VelocityParts}
 use Rattle.velocity_grid.specs.declared.Turned.{Turned}
-use Rattle.velocity_grid.specs.declared.VelocityAnswer.{VelocityAnswer}
-use Rattle.velocity_grid.specs.declared.VelocityAnswer.TheVariants as answer
 
 -- of the sines and cosines of the latitude φ and the longitude λ, and the three parts as f64
 unfoldable pub turned_by : Float → Float → Float → Float → Float → Float → Float → Turned
@@ -30,12 +26,12 @@ turned_at p latitude longitude =
     turned_by (sine_of φ) (cosine_of φ) (cosine_of w) (neg (sine_of w)) (whole p.east) (whole p.north) (whole p.up)
 
 -- all three, or the first refusal
-abbrev pub three : Rounded → Rounded → Rounded → VelocityAnswer
-three (rounded.Refused n) y z = answer.Refused n
-three (Whole x) (rounded.Refused n) z = answer.Refused n
-three (Whole x) (Whole y) (rounded.Refused n) = answer.Refused n
-three (Whole x) (Whole y) (Whole z) = answer.Velocity (record { vx = x; vy = y; vz = z })
+abbrev pub three : Rounded → Rounded → Rounded → Result Velocity ℕ
+three (Err n) y z = Err n
+three (Ok x) (Err n) z = Err n
+three (Ok x) (Ok y) (Err n) = Err n
+three (Ok x) (Ok y) (Ok z) = Ok (record { vx = x; vy = y; vz = z })
 
 -- whole units a year: each by the rounding, 0 places
-unfoldable pub in_units : Turned → VelocityAnswer
+unfoldable pub in_units : Turned → Result Velocity ℕ
 in_units t = three (rounded_of t.x 0) (rounded_of t.y 0) (rounded_of t.z 0)

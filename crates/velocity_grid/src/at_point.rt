@@ -1,14 +1,16 @@
 // East, north and up at a point.
 ghost use Rattle.std.specs.Prelude.{◌≡◌, true, ◌≤◌};
 ghost use Rattle.refusal.specs.Order.{first};
+ghost use Rattle.refusal.specs.Refusals.{told, fault_number};
 ghost use Rattle.velocity_grid.specs.AtPoint.{cell_known, part_of, parts_in, parts_at, grid_tests};
 ghost use Rattle.velocity_grid.specs.OnGrid.{CellIn};
 
 use crate::between::bilinear;
 use crate::locate::{cell, on_grid};
 use crate::nodes::{cell_known, corners};
-use crate::{Cell, PartsAnswer, header};
+use crate::{Cell, header};
 use line::{GridHeader, VelocityParts};
+use refusal::Refusal;
 
 // Part p of a point in a cell whose nodes all have a value.
 fn part(nodes: &[i64], p: usize, c: Cell) -> i64
@@ -30,39 +32,38 @@ fn parts_in(nodes: &[i64], c: Cell) -> VelocityParts
     VelocityParts { east, north, up }
 }
 
-// What a grid is refused for by itself: RANGE for its header, LINES where numbers of nodes are missing or left over, or 0 for none.
-fn grid_fault(g: GridHeader, nodes: &[i64]) -> u8
-    ensures { result ≡ first (grid_tests g nodes.now) }
+// What a grid is refused for by itself: Range for its header, Lines where numbers of nodes are missing or left over.
+fn grid_fault(g: GridHeader, nodes: &[i64]) -> Result<(), Refusal>
+    ensures { fault_number result ≡ first (grid_tests g nodes.now) }
 {
     if !header::in_range(g) {
-        return refusal::RANGE;
+        return Err(Refusal::Range);
     }
     if nodes.len() != header::count(g.rows, g.columns) {
-        return refusal::LINES;
+        return Err(Refusal::Lines);
     }
-    0
+    Ok(())
 }
 
 // East, north and up at a point, each one fraction of the four nodes of its cell, rounded once. The nodes are three numbers each, east, north and up,
-// eastward, rows going north; a node whose numbers are not each within 2,500 has no value. Refused: RANGE for the header, LINES where numbers are missing or
-// left over, GEODETIC for the point's angles, OFF_GRID where it lies off the grid or a node of its cell has no value.
-pub fn parts_at(g: GridHeader, nodes: &[i64], latitude: i64, longitude: i64) -> PartsAnswer
-    ensures { result ≡ parts_at g nodes.now latitude longitude }
+// eastward, rows going north; a node whose numbers are not each within 2,500 has no value. Refused: Range for the header, Lines where numbers are missing or
+// left over, Geodetic for the point's angles, OffGrid where it lies off the grid or a node of its cell has no value.
+pub fn parts_at(
+    g: GridHeader,
+    nodes: &[i64],
+    latitude: i64,
+    longitude: i64,
+) -> Result<VelocityParts, Refusal>
+    ensures { told result ≡ parts_at g nodes.now latitude longitude }
 {
-    let fault = grid_fault(g, nodes);
-    if fault != 0 {
-        return PartsAnswer::Refused(fault);
-    }
-    let fault = angle::angles_fault(latitude, longitude);
-    if fault != 0 {
-        return PartsAnswer::Refused(fault);
-    }
+    grid_fault(g, nodes)?;
+    angle::angles_fault(latitude, longitude)?;
     if !on_grid(g, latitude, longitude) {
-        return PartsAnswer::Refused(refusal::OFF_GRID);
+        return Err(Refusal::OffGrid);
     }
     let c = cell(g, latitude, longitude);
     if !cell_known(nodes, c) {
-        return PartsAnswer::Refused(refusal::OFF_GRID);
+        return Err(Refusal::OffGrid);
     }
-    PartsAnswer::Parts(parts_in(nodes, c))
+    Ok(parts_in(nodes, c))
 }

@@ -2,6 +2,8 @@
 // units of 0.00001", parts whole hundredths of a millimetre a year, which are units of 0.00001 m. Every call answers for every input.
 #![tactic(auto)]
 
+ghost use Rattle.velocity_grid.specs.Answers.{gives_refusal};
+
 mod at_point;
 mod between;
 mod header;
@@ -14,6 +16,7 @@ mod turn;
 
 pub use at_point::parts_at;
 pub use moving::motion_at;
+use refusal::Refusal;
 pub use step::{step_at, velocity_at};
 pub use text::{check_grid, read_grid};
 
@@ -23,19 +26,20 @@ pub use text::{check_grid, read_grid};
 // Room for the numbers of 4,000 nodes.
 pub type Nodes = [i64; 12000];
 
-// What is wrong with a grid's text: a number of the refusal table; the line, from 1, or 0 where no line is; and the place in it, 0 but for a line of bad form.
+// What is wrong with a grid's text: the refusal; the line, from 1, or 0 where no line is; and the place in it, 0 but for a line of bad form.
 #[derive(Clone, Copy)]
 pub struct GridFault {
-    pub number: u8,
+    pub refusal: Refusal,
     pub line: u16,
     pub place: u8,
 }
 
-// A grid's header, or why its text is no grid.
-#[derive(Clone, Copy)]
-pub enum GridAnswer {
-    Grid(line::GridHeader),
-    Refused(GridFault),
+impl From<GridFault> for Refusal {
+    ghost from_gives = { gives_refusal };
+
+    fn from(fault: GridFault) -> Refusal {
+        fault.refusal
+    }
 }
 
 // Where a number stands along an axis: the cell, from 0, and how far into it.
@@ -64,13 +68,6 @@ pub struct Corners {
     pub north_east: i64,
 }
 
-// The three parts, or the refusal number.
-#[derive(Clone, Copy)]
-pub enum PartsAnswer {
-    Parts(line::VelocityParts),
-    Refused(u8),
-}
-
 // East, north and up turned to X, Y and Z, before they are rounded.
 #[derive(Clone, Copy)]
 pub struct Turned {
@@ -79,30 +76,9 @@ pub struct Turned {
     pub z: f64,
 }
 
-// A velocity in whole units of 0.00001 m a year, or the refusal number.
-#[derive(Clone, Copy)]
-pub enum VelocityAnswer {
-    Velocity(chain::Velocity),
-    Refused(u8),
-}
-
-// A velocity step, or the refusal number.
-#[derive(Clone, Copy)]
-pub enum StepAnswer {
-    Step(chain::Step),
-    Refused(u8),
-}
-
-// East, north and up at a point, and the velocity that they turn to.
+// East, north and up at a point, and the velocity that they turn to, in whole units of 0.00001 m a year.
 #[derive(Clone, Copy)]
 pub struct Motion {
     pub parts: line::VelocityParts,
     pub velocity: chain::Velocity,
-}
-
-// The motion of a point, or the refusal number.
-#[derive(Clone, Copy)]
-pub enum MotionAnswer {
-    Motion(Motion),
-    Refused(u8),
 }

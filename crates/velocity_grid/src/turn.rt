@@ -1,15 +1,17 @@
 // East, north and up turned to X, Y and Z.
 ghost use Rattle.std.specs.Prelude.{◌≡◌, true};
+ghost use Rattle.refusal.specs.Refusals.{told};
 ghost use Rattle.ranges.specs.Ranges.{latitude_range, longitude_range};
 ghost use Rattle.velocity_grid.specs.AtPoint.{PartsOk};
-ghost use Rattle.velocity_grid.specs.Turn.{turned_by, turned_at, three, in_units};
+ghost use Rattle.velocity_grid.specs.Turn.{turned_by, turned_at, in_units};
 
-use crate::{Turned, VelocityAnswer};
+use crate::Turned;
 use angle::radians;
 use chain::Velocity;
 use elementary::{cosine, sine};
 use line::VelocityParts;
-use rounding::{Rounded, round_places};
+use refusal::Refusal;
+use rounding::round_places;
 
 // 90 degrees.
 const QUARTER: i64 = 32400000000;
@@ -47,28 +49,12 @@ pub(crate) fn turn(p: VelocityParts, latitude: i64, longitude: i64) -> Turned
     )
 }
 
-// All three, or the first refusal.
-fn all_three(x: Rounded, y: Rounded, z: Rounded) -> VelocityAnswer
-    ensures { result ≡ three x y z }
-{
-    match x {
-        Rounded::Refused(n) => VelocityAnswer::Refused(n),
-        Rounded::Whole(vx) => match y {
-            Rounded::Refused(n) => VelocityAnswer::Refused(n),
-            Rounded::Whole(vy) => match z {
-                Rounded::Refused(n) => VelocityAnswer::Refused(n),
-                Rounded::Whole(vz) => VelocityAnswer::Velocity(Velocity { vx, vy, vz }),
-            },
-        },
-    }
-}
-
 // Each to the nearest whole unit a year, a half away from zero.
-pub(crate) fn in_units(t: Turned) -> VelocityAnswer
-    ensures { result ≡ in_units t }
+pub(crate) fn in_units(t: Turned) -> Result<Velocity, Refusal>
+    ensures { told result ≡ in_units t }
 {
-    let x = round_places(t.x, 0);
-    let y = round_places(t.y, 0);
-    let z = round_places(t.z, 0);
-    all_three(x, y, z)
+    let vx = round_places(t.x, 0)?;
+    let vy = round_places(t.y, 0)?;
+    let vz = round_places(t.z, 0)?;
+    Ok(Velocity { vx, vy, vz })
 }

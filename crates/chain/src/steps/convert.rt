@@ -1,41 +1,57 @@
 // Conversion by a chain, by value, for every chain and every point.
-ghost use Rattle.std.specs.Prelude.{◌≡◌, true, reverse, ◌≤◌};
+ghost use Rattle.std.specs.Prelude.{◌≡◌, true, ℕ, ◌<◌, ◌≤◌, List, length};
 ghost use Rattle.refusal.specs.Order.{first};
-ghost use Rattle.chain.specs.Faults.{StepOk, in_area, chain_tests, steps_of};
-ghost use Rattle.chain.specs.Convert.{forward_step, inverse_step, walk, start_of, end_of, moved_to, answer_of, arrival_of, forward_of, inverse_of};
+ghost use Rattle.refusal.specs.Refusals.{told};
+ghost use Rattle.chain.specs.Faults.{StepOk, in_area, steps_of};
+ghost use Rattle.chain.specs.Ways.{either, place, in_order, StandsAt};
+ghost use Rattle.chain.specs.Convert.{step_by, walk, ended, start_of, end_of, moved_to, forward_of, inverse_of};
+ghost use Rattle.chain.specs.PointRow.{convert_of};
 
-use crate::{
-    Answer, Arrival, Chain, Kind, Point, Position, Realization, Step, checks, points, steps,
-};
+use crate::{Chain, Direction, Kind, Point, Position, Realization, Step, checks, points, steps};
+use refusal::Refusal;
 
 pub mod join;
 pub mod lent;
 
-// A step forward, by its kind: what a kind gains is worked out where its kind is known.
-fn forward_step(step: Step, p: Position) -> Position
+// A step either way, by its kind: what a kind gains is worked out where its kind is known. What takes a direction is inlined, as in
+// steps.rt: each direction has a loop of its own.
+#[inline(always)]
+fn step_by(direction: Direction, step: Step, p: Position) -> Position
     requires { (StepOk step) × (in_area p ≡ true) }
-    ensures { result ≡ forward_step step p }
+    ensures { result ≡ step_by direction step p }
 {
-    let kind = step.kind;
-    match kind {
-        Kind::Shift(t) => steps::fixed_forward(steps::shift_ready(t), p),
-        Kind::Velocity(t) => steps::fixed_forward(steps::velocity_ready(step, t), p),
-        Kind::BursaWolf(t) => steps::turn_forward(steps::bursa_wolf_ready(step, t), p),
-        Kind::Frame => steps::scale_forward(steps::frame_ready(step), p),
+    match step.kind {
+        Kind::Shift(t) => steps::fixed_by(direction, steps::shift_ready(t), p),
+        Kind::Velocity(t) => steps::fixed_by(direction, steps::velocity_ready(step, t), p),
+        Kind::BursaWolf(t) => steps::turn_by(direction, steps::bursa_wolf_ready(step, t), p),
+        Kind::Frame => steps::scale_by(direction, steps::frame_ready(step), p),
     }
 }
 
-// A step's inverse, likewise.
-fn inverse_step(step: Step, q: Position) -> Position
-    requires { (StepOk step) × (in_area q ≡ true) }
-    ensures { result ≡ inverse_step step q }
+// Of a chain's two ends, the one that is meant in a direction: the first forward, the other inverse.
+#[inline(always)]
+pub(crate) fn either(
+    direction: Direction,
+    forward: Realization,
+    inverse: Realization,
+) -> Realization
+    ensures { result ≡ either direction forward inverse }
 {
-    let kind = step.kind;
-    match kind {
-        Kind::Shift(t) => steps::fixed_back(steps::shift_ready(t), q),
-        Kind::Velocity(t) => steps::fixed_back(steps::velocity_ready(step, t), q),
-        Kind::BursaWolf(t) => steps::turn_back(steps::bursa_wolf_ready(step, t), q),
-        Kind::Frame => steps::scale_back(steps::frame_ready(step), q),
+    match direction {
+        Direction::Forward => forward,
+        Direction::Inverse => inverse,
+    }
+}
+
+// Where the step stands that is gone by after so many others, of a number of them: forward from the first, inverse from the last.
+#[inline(always)]
+pub(crate) fn place(direction: Direction, count: usize, gone: usize) -> usize
+    requires { gone < count }
+    ensures { result ≡ place direction count gone }
+{
+    match direction {
+        Direction::Forward => gone,
+        Direction::Inverse => count - 1 - gone,
     }
 }
 
@@ -45,63 +61,38 @@ pub(crate) fn moved_to(point: Point, r: Realization, p: Position) -> Point
 {
     let label = point.label;
     Point {
-        label: label,
+        label,
         realization: r,
         position: p,
     }
 }
 
-// Where a point is that does not get on: where it was.
-pub(crate) fn refused(point: Point, number: u8) -> Arrival
-    ensures { result ≡ arrival_of point (Answer.Refused number) }
+// Over a number of steps, each got by its index, to where they lead from a position.
+#[inline(always)]
+fn walk<S: Fn(usize) -> Step>(
+    direction: Direction,
+    count: usize,
+    step_at: S,
+    start: Position,
+) -> Result<Position, Refusal>
+    requires begins { in_area start ≡ true }
+    requires callable { (i : ℕ) → i < count → S.pre step_at i }
+    requires sound { (i : ℕ) (s : Step) → i < count → S.post step_at i s → StepOk s }
+    ensures { (ss : List Step) → length ss ≡ count → StandsAt ss (S.post step_at) → told result ≡ ended (walk (step_by direction) (in_order direction ss) start) }
 {
-    let r = point.realization;
-    let was = point.position;
-    Arrival {
-        refusal: number,
-        realization: r,
-        position: was,
-    }
-}
-
-// Forward over the steps, the first one first.
-fn forward_walk(chain: Chain, point: Point, reached: Realization) -> Answer
-    requires { (first (chain_tests chain) ≡ 0) × (in_area point.position ≡ true) }
-    ensures { result ≡ answer_of point reached (walk forward_step (steps_of chain) point.position) }
-{
-    let n = chain.length;
-    let mut p = point.position;
-    let mut i = 0;
-    while i < n {
-        let step = chain.steps[i];
-        p = forward_step(step, p);
+    let mut p = start;
+    for gone in 0..count {
+        let step = step_at(place(direction, count, gone));
+        p = step_by(direction, step, p);
         if !points::in_area(p) {
-            return Answer::Refused(refusal::LEFT);
-        }
-        i += 1;
-    }
-    Answer::Converted(moved_to(point, reached, p))
-}
-
-// Inverse over the steps, the last one first.
-fn inverse_walk(chain: Chain, point: Point, reached: Realization) -> Answer
-    requires { (first (chain_tests chain) ≡ 0) × (in_area point.position ≡ true) }
-    ensures { result ≡ answer_of point reached (walk inverse_step (reverse (steps_of chain)) point.position) }
-{
-    let mut p = point.position;
-    let mut i = chain.length;
-    while 0 < i {
-        i -= 1;
-        let step = chain.steps[i];
-        p = inverse_step(step, p);
-        if !points::in_area(p) {
-            return Answer::Refused(refusal::LEFT);
+            return Err(Refusal::Left);
         }
     }
-    Answer::Converted(moved_to(point, reached, p))
+    Ok(p)
 }
 
 // Where a chain starts; for the empty chain, where the point is.
+#[tactic(auto, unfolding(crate::specs::Convert::start_of))]
 fn start_of(chain: Chain, r: Realization) -> Realization
     ensures { result ≡ start_of r (steps_of chain) }
 {
@@ -126,40 +117,38 @@ fn end_of(chain: Chain, r: Realization) -> Realization
     s.after
 }
 
-// Units: coordinates 0.00001 m; epochs 0.001 year, 0 for none; rotations 0.00001"; scale 10^-11. Ranges: those of crate ranges, all ends allowed; every
-// position, before the chain and after each step, lies in the area. Refusals, the first that applies: RANGE for the
-// profile; NINTH; of each step in turn RANGE, EPOCH, PROFILE, KIND, JOIN; of the point RANGE, EPOCH, PROFILE, START, AREA; then LEFT. The empty chain refuses no point with START.
-// A point forward by a chain (document 01: along): to the chain's end, or refused.
-pub fn forward(chain: Chain, point: Point) -> Answer
-    ensures { result ≡ forward_of chain point }
+// A point by a chain, either way.
+#[inline(always)]
+fn convert(chain: Chain, direction: Direction, point: Point) -> Result<Point, Refusal>
+    ensures { told result ≡ convert_of chain direction point }
 {
-    let c = checks::chain_fault(chain);
-    if c != 0 {
-        return Answer::Refused(c);
-    }
-    let r = point.realization;
-    let f = checks::entry_fault(chain.profile, point, start_of(chain, r));
-    if f != 0 {
-        return Answer::Refused(f);
-    }
-    forward_walk(chain, point, end_of(chain, r))
+    checks::chain_fault(chain)?;
+    let here = point.realization;
+    let start = start_of(chain, here);
+    let end = end_of(chain, here);
+    checks::entry_fault(chain.profile, point, either(direction, start, end))?;
+    let p = walk(direction, chain.length, |i| chain.steps[i], point.position)?;
+    Ok(moved_to(point, either(direction, end, start), p))
 }
 
-// Units: coordinates 0.00001 m; epochs 0.001 year, 0 for none; rotations 0.00001"; scale 10^-11. Ranges: those of crate ranges, all ends allowed; every
-// position, before the chain and after each step, lies in the area. Refusals, the first that applies: RANGE for the
-// profile; NINTH; of each step in turn RANGE, EPOCH, PROFILE, KIND, JOIN; of the point RANGE, EPOCH, PROFILE, START, AREA; then LEFT. The empty chain refuses no point with START.
-// A point inverse by a chain (document 01: back): to the chain's start, or refused. START is then for a point that is not at the chain's end.
-pub fn inverse(chain: Chain, point: Point) -> Answer
-    ensures { result ≡ inverse_of chain point }
+// A point forward by a chain (document 01: along): to the chain's end, or refused.
+// Units: coordinates 0.00001 m; epochs 0.001 year, 0 for none; rotations 0.00001"; scale 10^-11. Ranges: those of crate ranges, all ends
+// allowed; every position, before the chain and after each step, lies in the area. Refusals, the first that applies: Range for the profile;
+// Ninth; of each step in turn Range, Epoch, Profile, Kind, Join; of the point Range, Epoch, Profile, Start, Area; then Left. The empty chain
+// refuses no point for Start.
+pub fn forward(chain: Chain, point: Point) -> Result<Point, Refusal>
+    ensures { told result ≡ forward_of chain point }
 {
-    let c = checks::chain_fault(chain);
-    if c != 0 {
-        return Answer::Refused(c);
-    }
-    let r = point.realization;
-    let f = checks::entry_fault(chain.profile, point, end_of(chain, r));
-    if f != 0 {
-        return Answer::Refused(f);
-    }
-    inverse_walk(chain, point, start_of(chain, r))
+    convert(chain, Direction::Forward, point)
+}
+
+// A point inverse by a chain (document 01: back): to the chain's start, or refused. Start is then for a point that is not at the chain's end.
+// Units: coordinates 0.00001 m; epochs 0.001 year, 0 for none; rotations 0.00001"; scale 10^-11. Ranges: those of crate ranges, all ends
+// allowed; every position, before the chain and after each step, lies in the area. Refusals, the first that applies: Range for the profile;
+// Ninth; of each step in turn Range, Epoch, Profile, Kind, Join; of the point Range, Epoch, Profile, Start, Area; then Left. The empty chain
+// refuses no point for Start.
+pub fn inverse(chain: Chain, point: Point) -> Result<Point, Refusal>
+    ensures { told result ≡ inverse_of chain point }
+{
+    convert(chain, Direction::Inverse, point)
 }

@@ -1,64 +1,48 @@
 // A chain prepared for many points, in rows of eight numbers that the caller lends: the first holds the chain's length and its ends, each other a step.
-ghost use Rattle.std.specs.Prelude.{◌≡◌, true, reverse, ◌-◌, ◌≤◌, pos, nat_abs};
+ghost use Rattle.std.specs.Prelude.{◌≡◌, true, ◌≤◌, pos, nat_abs};
 ghost use Rattle.std.proofs.lemmas.List.Edits.{sets};
 ghost use Rattle.refusal.specs.Order.{first};
+ghost use Rattle.refusal.specs.Refusals.{told, fault_number};
 ghost use Rattle.ranges.specs.Ranges.{within};
 ghost use Rattle.chain.specs.Faults.{in_area};
-ghost use Rattle.chain.specs.Parts.{forward_by, inverse_by};
+ghost use Rattle.chain.specs.Ways.{by_way, in_order};
 ghost use Rattle.chain.specs.Convert.{arrival_of};
 ghost use Rattle.chain.specs.Prepared.{start_in, end_in, rows_of, extend_tests, extend_fault, start_with, first_row, extended_by};
 ghost use Rattle.chain.specs.Prepared.{prepared_tests, carried, reached_with, forward_prepared, inverse_prepared};
+ghost use Rattle.chain.specs.PointRow.{convert_prepared};
 
 use crate::steps::convert;
-use crate::{Answer, Arrival, Point, Prepared, Realization, Step, faults, points, steps};
+use crate::{Arrival, Direction, Point, Prepared, Realization, Step, faults, points, steps};
+use refusal::Refusal;
 
 mod rows;
 
-// Forward over the rows from the first step's on.
-fn carry(numbers: &Prepared, rows: usize, point: Point, end: Realization) -> Arrival
-    requires { (1 ≤ rows) × (rows ≤ 9) × (in_area point.position ≡ true) }
-    ensures { result ≡ arrival_of point (carried forward_by point end (rows_of numbers.now 1 (rows - 1)) point.position) }
+// Over the rows of so many steps, to where they lead a point. What takes a direction is inlined here and in rows.rt, as in steps.rt: each
+// direction has a loop of its own.
+#[inline(always)]
+fn carry(
+    direction: Direction,
+    numbers: &Prepared,
+    count: usize,
+    point: Point,
+    end: Realization,
+) -> Result<Arrival, Refusal>
+    requires { (count ≤ 8) × (in_area point.position ≡ true) }
+    ensures { told result ≡ arrival_of (carried (by_way direction) point end (in_order direction (rows_of numbers.now 1 count)) point.position) }
 {
-    let mut p = point.position;
-    let mut i = 1;
-    while i < rows {
-        let moved = rows::forward_row(numbers, i, p);
-        if !moved.good {
-            return convert::refused(point, refusal::RANGE);
+    let mut position = point.position;
+    for gone in 0..count {
+        let row = 1 + convert::place(direction, count, gone);
+        position = rows::moved(direction, numbers, row, position).ok_or(Refusal::Range)?;
+        if !points::in_area(position) {
+            return Err(Refusal::Left);
         }
-        p = moved.position;
-        if !points::in_area(p) {
-            return convert::refused(point, refusal::LEFT);
-        }
-        i += 1;
     }
-    Arrival {
-        refusal: 0,
-        realization: end,
-        position: p,
-    }
-}
-
-// Inverse over the rows, from the last step's down.
-fn carry_back(numbers: &Prepared, length: usize, point: Point, end: Realization) -> Answer
-    requires { (length ≤ 8) × (in_area point.position ≡ true) }
-    ensures { result ≡ carried inverse_by point end (reverse (rows_of numbers.now 1 length)) point.position }
-{
-    let mut p = point.position;
-    let mut i = length;
-    while 0 < i {
-        let row = rows::row_at(numbers, i);
-        if !row.good {
-            return Answer::Refused(refusal::RANGE);
-        }
-        let ready = row.ready;
-        p = steps::inverse_ready(ready, p);
-        if !points::in_area(p) {
-            return Answer::Refused(refusal::LEFT);
-        }
-        i -= 1;
-    }
-    Answer::Converted(convert::moved_to(point, end, p))
+    let realization = end;
+    Ok(Arrival {
+        realization,
+        position,
+    })
 }
 
 fn start_in(numbers: &Prepared) -> Realization
@@ -87,22 +71,20 @@ fn count(n: i64) -> usize
     n as usize
 }
 
-// What a chain of n steps, wanted at a realization, says of a point with no fault of its own: NINTH, START, AREA, or 0 for none.
-fn prepared_fault(n: i64, wanted: Realization, point: Point) -> u8
-    ensures { result ≡ first (prepared_tests n wanted point) }
+// What a chain of n steps, wanted at a realization, says of a point with no fault of its own: Ninth, Start, Area.
+fn prepared_fault(n: i64, wanted: Realization, point: Point) -> Result<(), Refusal>
+    ensures { fault_number result ≡ first (prepared_tests n wanted point) }
 {
     if !ranges::within(0, n, 8) {
-        return refusal::NINTH;
+        return Err(Refusal::Ninth);
     }
-    let here = point.realization;
-    if !(ranges::equal(0, n) | points::same_realization(here, wanted)) {
-        return refusal::START;
+    if !(ranges::equal(0, n) | (point.realization == wanted)) {
+        return Err(Refusal::Start);
     }
-    let position = point.position;
-    if !points::in_area(position) {
-        return refusal::AREA;
+    if !points::in_area(point.position) {
+        return Err(Refusal::Area);
     }
-    0
+    Ok(())
 }
 
 // Where a point is after a chain of so many steps: where it was, for none.
@@ -115,48 +97,53 @@ fn reached_with(n: i64, here: Realization, end: Realization) -> Realization
     end
 }
 
-// What is left of a forward conversion once a chain is prepared and the point has no fault of its own (`point_fault` with the chain's profile): where
-// the point arrives, in units of 0.00001 m, or refused with 9, 10 or 11. Numbers that no chain gives are refused too: a length that is not 0 to 8 with 6, a row
-// that no step gives with 2.
-pub fn arrive_prepared(numbers: &Prepared, point: Point) -> Arrival
-    ensures { result ≡ arrival_of point (forward_prepared numbers.now point) }
+// Where a point arrives by a prepared chain, either way.
+#[inline(always)]
+fn arrive(numbers: &Prepared, direction: Direction, point: Point) -> Result<Arrival, Refusal>
+    ensures { told result ≡ arrival_of (convert_prepared direction numbers.now point) }
 {
     let n = numbers[0];
-    let f = prepared_fault(n, start_in(numbers), point);
-    if f != 0 {
-        return convert::refused(point, f);
-    }
-    let here = point.realization;
-    let end = reached_with(n, here, end_in(numbers));
-    carry(numbers, count(n) + 1, point, end)
+    let start = start_in(numbers);
+    let end = end_in(numbers);
+    prepared_fault(n, convert::either(direction, start, end), point)?;
+    let reached = reached_with(n, point.realization, convert::either(direction, end, start));
+    carry(direction, numbers, count(n), point, reached)
+}
+
+// The same as an answer.
+#[inline(always)]
+fn convert_prepared(
+    numbers: &Prepared,
+    direction: Direction,
+    point: Point,
+) -> Result<Point, Refusal>
+    ensures { told result ≡ convert_prepared direction numbers.now point }
+{
+    let arrival = arrive(numbers, direction, point)?;
+    Ok(convert::moved_to(point, arrival.realization, arrival.position))
+}
+
+// What is left of a forward conversion once a chain is prepared and the point has no fault of its own (`point_fault` with the chain's profile): where
+// the point arrives, in units of 0.00001 m, or refused: Start, Area or Left. Numbers that no chain gives are refused too: Ninth for a
+// length that is not 0 to 8, Range for a row that no step gives.
+pub fn arrive_prepared(numbers: &Prepared, point: Point) -> Result<Arrival, Refusal>
+    ensures { told result ≡ arrival_of (forward_prepared numbers.now point) }
+{
+    arrive(numbers, Direction::Forward, point)
 }
 
 // The same as an answer: the point at the chain's end, or refused as above.
-pub fn forward_prepared(numbers: &Prepared, point: Point) -> Answer
-    ensures { result ≡ forward_prepared numbers.now point }
+pub fn forward_prepared(numbers: &Prepared, point: Point) -> Result<Point, Refusal>
+    ensures { told result ≡ forward_prepared numbers.now point }
 {
-    let arrival = arrive_prepared(numbers, point);
-    let number = arrival.refusal;
-    if number != 0 {
-        return Answer::Refused(number);
-    }
-    let r = arrival.realization;
-    let p = arrival.position;
-    Answer::Converted(convert::moved_to(point, r, p))
+    convert_prepared(numbers, Direction::Forward, point)
 }
 
 // The same for an inverse conversion: the point at the chain's start, or refused as above.
-pub fn inverse_prepared(numbers: &Prepared, point: Point) -> Answer
-    ensures { result ≡ inverse_prepared numbers.now point }
+pub fn inverse_prepared(numbers: &Prepared, point: Point) -> Result<Point, Refusal>
+    ensures { told result ≡ inverse_prepared numbers.now point }
 {
-    let n = numbers[0];
-    let f = prepared_fault(n, end_in(numbers), point);
-    if f != 0 {
-        return Answer::Refused(f);
-    }
-    let here = point.realization;
-    let end = reached_with(n, here, start_in(numbers));
-    carry_back(numbers, count(n), point, end)
+    convert_prepared(numbers, Direction::Inverse, point)
 }
 
 // The first row: the length and the ends.
@@ -184,38 +171,32 @@ fn start_with(n: i64, start: Realization, step: Step) -> Realization
     start
 }
 
-// What a step is refused for after a chain of n steps that ends at a realization: its own RANGE, EPOCH, PROFILE, KIND, then JOIN, NINTH, or 0 for none.
-fn extend_fault(profile: i64, n: i64, end: Realization, step: Step) -> u8
-    ensures { result ≡ first (extend_tests profile n end step) }
+// What a step is refused for after a chain of n steps that ends at a realization: its own Range, Epoch, Profile, Kind, then Join, Ninth.
+#[tactic(auto, unfolding(crate::specs::Faults::step_fault))]
+fn extend_fault(profile: i64, n: i64, end: Realization, step: Step) -> Result<(), Refusal>
+    ensures { fault_number result ≡ first (extend_tests profile n end step) }
 {
-    let f = faults::step_fault(profile, step);
-    if f != 0 {
-        return f;
-    }
-    let from = step.before;
-    if !(ranges::equal(0, n) | points::same_realization(end, from)) {
-        return refusal::JOIN;
+    faults::step_fault(profile, step)?;
+    if !(ranges::equal(0, n) | (end == step.before)) {
+        return Err(Refusal::Join);
     }
     if !ranges::within(0, n, 7) {
-        return refusal::NINTH;
+        return Err(Refusal::Ninth);
     }
-    0
+    Ok(())
 }
 
-// Adds a step to a prepared chain of a profile (2009 or 2021, the same for every step): 0, or the refusal with the numbers as they were. 2, 3, 25, 4 for the step by
-// itself, then 5 where it does not begin where the chain
-// ends, then 6 where the chain has eight steps, or a length that no chain has.
-pub fn extend(profile: i64, step: Step, numbers: &mut Prepared) -> u8
-    ensures { (result ≡ extend_fault profile numbers.old step) × (numbers.new ≡ extended_by profile numbers.old step) }
+// Adds a step to a prepared chain of a profile (2009 or 2021, the same for every step); where it is refused the numbers stay as they were.
+// Refused: Range, Epoch, Profile, Kind for the step by itself, then Join where it does not begin where the chain ends, then Ninth where the
+// chain has eight steps, or a length that no chain has.
+pub fn extend(profile: i64, step: Step, numbers: &mut Prepared) -> Result<(), Refusal>
+    ensures { (fault_number result ≡ extend_fault profile numbers.old step) × (numbers.new ≡ extended_by profile numbers.old step) }
 {
     let n = numbers[0];
-    let f = extend_fault(profile, n, end_in(numbers), step);
-    if f != 0 {
-        return f;
-    }
+    extend_fault(profile, n, end_in(numbers), step)?;
     let start = start_with(n, start_in(numbers), step);
     let end = step.after;
     rows::put_ready(steps::prepare(step), numbers, count(n) + 1);
     put_first(numbers, n + 1, start, end);
-    0
+    Ok(())
 }

@@ -1,6 +1,6 @@
-// A fraction over 1,000, 10^11 or 10^14 to the nearest whole number by one division of u = n + lift, which is no signed number: the lift is a multiple of the divisor
-// that no part reaches, and half the divisor. The quotient is the fraction rounded, a half up; only where nothing is left over is it a half, and then
-// `rounding::quotient::settled` decides.
+// A fraction over 1,000, 10^11 or 10^14 to the nearest whole number by one division of u = n + lift, which is no signed number: the lift is
+// a multiple of the divisor that no part reaches, and half the divisor. The quotient is the fraction rounded, a half up; only where nothing
+// is left over is it a half, and then `rounding::quotient::settled` decides.
 ghost use Rattle.std.specs.Prelude.{◌≡◌, ◌≤◌, ℤ, pos, nat_abs, ◌+ℤ◌, ◌-ℤ◌};
 ghost use Rattle.rounding.specs.Nearest.{to_even};
 ghost use Rattle.rounding.specs.Quotient.{mixed};
@@ -25,8 +25,8 @@ fn lowered(k: i64, q: u64, lifted: i64) -> i64
     k + ((q as i64) - lifted)
 }
 
-// k + n/10^11, a half to the even number. 2,048 divides 10^11, so that what it does not divide leaves something over and is no half: the product that tells is made for
-// one part in 2,048.
+// k + n/10^11, a half to the even number. 2,048 divides 10^11, so that what it does not divide leaves something over and is no half: the
+// product that tells is made for one part in 2,048.
 pub fn over11(k: i64, n: i64) -> i64
     requires { (nat_abs k ≤ 100000000) × (nat_abs n ≤ 8000000000000000000) }
     ensures { result ≡ mixed to_even k n (pos 100000000000) }

@@ -1,42 +1,24 @@
--- `input::after_read` meets its contract. Assumes nothing.
-use mathlib.Core.Path.{ap, ◌∙◌}
+-- `input::after_read` meets its contract: each answer is the definition's, by the tests that led there. Assumes nothing.
 use native.Mathlib.Omega.{arith}
-use lib.IntN.{ℤ}
-use mir.Syntax.{w64}
-use mir.Val.{to_z, of_z}
-use mir.Facts.{to_z-of_z, Fits-nat_abs, sfits_to_z, Fits-of_z}
+use borrow.Author.Tests.{ne_eqb, eq-eqb, lt-ltb, le-ltb}
+use Prim.Native.Nat.{◌+◌}
 use Rattle.input.specs.Input.{after_read}
-use Rattle.input.proofs.Laws.{not-below, failed, ended, goes_on, full}
 use Rattle.input.proofs.after_read.Goals as goal
 
--- the number that the machine reads back from got's bits
-abbrev read : ℤ → ℤ
-read got = to_z w64 (of_z w64 got)
-
-pub returns-then-got-lt0 : goal.returns-then-got-lt0
-returns-then-got-lt0 c =
-    let start = c in
-    failed _ _ (read start.args.got) c.if-got-lt0.true ∙ ap (after_read start.args.room start.args.held) (to_z-of_z start.ranges.got)
-
-pub overflow_cast-bytes : goal.overflow_cast-bytes
-overflow_cast-bytes c = (not-below (read c.args.got) c.if-got-lt0.false, Fits-nat_abs {w = w64} {w' = w64} tt (sfits_to_z (Fits-of_z c.ranges.got)))
+pub returns-in_default : goal.returns-in_default
+unfolding after_read
+returns-in_default c = rw c.in_default.is
 
 pub returns-then-bytes-eq0 : goal.returns-then-bytes-eq0
-returns-then-bytes-eq0 c =
-    let start = c in
-    ended _ _ (read start.args.got) (not-below (read start.args.got) c.if-got-lt0.false) c.if-bytes-eq0.true ∙ ap (after_read start.args.room start.args.held) (to_z-of_z start.ranges.got)
+unfolding after_read
+returns-then-bytes-eq0 c = rw (c.in-Some.is, eq-eqb c.in-Some.bytes 0 c.if-bytes-eq0.true)
 
-pub returns-then-bytes-room : goal.returns-then-bytes-room
-returns-then-bytes-room c =
-    let start = c in
-    goes_on _ _ (read start.args.got) (not-below (read start.args.got) c.if-got-lt0.false) c.if-bytes-eq0.false (omega (arith, c.if-bytes-room.true, c.if-held-room.true)) ∙ ap (after_read start.args.room start.args.held) (to_z-of_z start.ranges.got)
+pub returns-then-bytes-saturating_sub : goal.returns-then-bytes-saturating_sub
+unfolding after_read
+returns-then-bytes-saturating_sub c =
+    rw (c.in-Some.is, ne_eqb c.in-Some.bytes 0 c.if-bytes-eq0.false, lt-ltb (c.args.held + c.in-Some.bytes) c.args.room (omega (arith, c.saturating_sub.ensures, c.if-bytes-saturating_sub.true)))
 
-pub returns-else-bytes-room : goal.returns-else-bytes-room
-returns-else-bytes-room c =
-    let start = c in
-    full _ _ (read start.args.got) (not-below (read start.args.got) c.if-got-lt0.false) c.if-bytes-eq0.false (omega (arith, c.if-bytes-room.false, c.if-held-room.true)) ∙ ap (after_read start.args.room start.args.held) (to_z-of_z start.ranges.got)
-
-pub returns-else-held-room : goal.returns-else-held-room
-returns-else-held-room c =
-    let start = c in
-    full _ _ (read start.args.got) (not-below (read start.args.got) c.if-got-lt0.false) c.if-bytes-eq0.false (omega (arith, c.if-held-room.false)) ∙ ap (after_read start.args.room start.args.held) (to_z-of_z start.ranges.got)
+pub returns : goal.returns
+unfolding after_read
+returns c =
+    rw (c.in-Some.is, ne_eqb c.in-Some.bytes 0 c.if-bytes-eq0.false, le-ltb (c.args.held + c.in-Some.bytes) c.args.room (omega (arith, c.saturating_sub.ensures, c.if-bytes-saturating_sub.false)))

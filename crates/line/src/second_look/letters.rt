@@ -1,49 +1,55 @@
 // The letters of a bad line, which come before everything else: a line's own first letter, a step's kind, and the convention of a Bursa-Wolf step.
-// Only the fields of letters are read, and those up to them are passed. A place past the line's end says that no letter is wrong.
-ghost use Rattle.std.specs.Prelude.{◌≡◌, ◌==◌};
+// Only the fields of letters are read, and those up to them are passed.
+ghost use Rattle.std.specs.Prelude.{◌≡◌, ◌==◌, length, nat_le};
+ghost use Rattle.std.specs.Bool.{then_some};
 ghost use Rattle.refusal.specs.Numbers.{letter};
 ghost use Rattle.refusal.specs.Order.{pick};
 ghost use Rattle.line.specs.Bytes.{letter_g};
 ghost use Rattle.line.specs.SecondLook.{step_rest, classes_of, grid_mark, FirstWrong, Skipped};
 
 use crate::awaited::{GRID, NODE};
-use crate::field::{letter, nowhere};
-use crate::second_look::after;
+use crate::field::letter;
+use crate::second_look::{after, is_read};
 use crate::step_line::{convention_letter, kind_letter};
 
 // Where the field begins that comes so many numbers after the place `at`: past the end where there are fewer.
 fn skip(s: &[u8], at: usize, many: usize) -> usize
     ensures { Skipped s.now many at result }
 {
-    let mut left = many;
     let mut i = at;
-    while 0 < left {
+    for _ in 0..many {
         if s.len() < i {
             return i;
         }
         i = after(s, i);
-        left = left - 1;
     }
     i
 }
 
+// A field that begins at this place; none where the line has ended.
+fn here(s: &[u8], at: usize) -> Option<usize>
+    ensures { result ≡ then_some (nat_le at (length s.now)) at }
+{
+    (at <= s.len()).then_some(at)
+}
+
 // Of a step's fields after its first letter, which begin at `at`.
-fn step_letter(s: &[u8], kind: u8, at: usize) -> usize
+fn step_letter(s: &[u8], kind: u8, at: usize) -> Option<usize>
     ensures { FirstWrong letter s.now at (step_rest kind) result }
 {
     let c = kind_letter(s, at);
-    if s.len() + 1 < c.next {
-        return at;
+    if !is_read(s, c.next) {
+        return here(s, at);
     }
     if kind != b'B' {
-        return nowhere(s);
+        return None;
     }
     let seventh = skip(s, c.next, 4);
     let d = convention_letter(s, seventh);
-    if s.len() + 1 < d.next {
-        seventh
+    if is_read(s, d.next) {
+        None
     } else {
-        nowhere(s)
+        here(s, seventh)
     }
 }
 
@@ -55,20 +61,20 @@ fn initial(mark: u8) -> u8
 }
 
 // Of a whole line.
-pub fn letter_place(s: &[u8], mark: u8, kind: u8) -> usize
+pub fn letter_place(s: &[u8], mark: u8, kind: u8) -> Option<usize>
     ensures { FirstWrong letter s.now 0 (classes_of mark kind) result }
 {
     if mark == NODE {
-        return nowhere(s);
+        return None;
     }
     let l = initial(mark);
     let next = letter(s, 0, l);
-    if s.len() + 1 < next {
-        return 0;
+    if !is_read(s, next) {
+        return Some(0);
     }
     if mark == b'S' {
         step_letter(s, kind, next)
     } else {
-        nowhere(s)
+        None
     }
 }

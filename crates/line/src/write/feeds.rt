@@ -4,9 +4,10 @@ ghost use Rattle.line.specs.Text.{Put, two, Wrote};
 ghost use Rattle.line.specs.BareLines.{feeds_text, AnswersFeeds, Passes, Sooner};
 
 use crate::Feeds;
-use crate::field::{LINE_FEED, TAB};
+use crate::field::{LINE_FEED, TAB, reaches};
 use crate::write::roomy::{letter, pair, put};
 use crate::write::write_refusal;
+use refusal::Refusal;
 
 // What ten lines with numbers of five digits take.
 const TEN_ROOM: usize = 130;
@@ -15,12 +16,7 @@ const TEN_ROOM: usize = 130;
 fn sooner(n: usize, from: usize, most: usize) -> usize
     ensures { Sooner n from most result }
 {
-    if from < n {
-        if most < n - from {
-            return from + most;
-        }
-    }
-    n
+    n.min(from.saturating_add(most))
 }
 
 // The place past the line feeds from `from` on, at most so many of them.
@@ -28,14 +24,12 @@ fn past_feeds(input: &[u8], from: usize, most: usize) -> usize
     ensures { Passes input.now from most result }
 {
     let end = sooner(input.len(), from, most);
-    let mut place = from;
-    while place < end {
+    for place in from..end {
         if input[place] != LINE_FEED {
-            break;
+            return place;
         }
-        place = place + 1;
     }
-    place
+    from.max(end)
 }
 
 // LETTER and the place 0, with the bytes around them.
@@ -70,13 +64,10 @@ fn of_one_ten(out: &mut [u8], at: usize, line: u64, lines: usize) -> usize
 {
     let high = line / 1000;
     let low = line / 10 % 100;
-    let mut last = 48 + ((line % 10) as u8);
+    let first = b'0' + ((line % 10) as u8);
     let mut place = at;
-    let mut left = lines;
-    while 0 < left {
+    for last in first..first + (lines as u8) {
         place = refusal_of_five(out, place, high, low, last);
-        last = last + 1;
-        left = left - 1;
     }
     place
 }
@@ -85,16 +76,7 @@ fn of_one_ten(out: &mut [u8], at: usize, line: u64, lines: usize) -> usize
 fn ten_at_once(room: usize, at: usize, line: u64) -> bool
     ensures { result ≡ true → (10000 ≤ line) × (line < 100000) × (at + 130 ≤ room) }
 {
-    if line < 10000 {
-        return false;
-    }
-    if 100000 <= line {
-        return false;
-    }
-    if room < TEN_ROOM {
-        return false;
-    }
-    at <= room - TEN_ROOM
+    10000 <= line && line < 100000 && reaches(room, at, TEN_ROOM)
 }
 
 // One line feed, whatever its number and room.
@@ -103,11 +85,11 @@ fn write_one(input: &[u8], from: usize, out: &mut [u8], at: usize, line: u64) ->
 {
     if from < input.len() {
         if input[from] == LINE_FEED {
-            let past = write_refusal(out, at, line, refusal::LETTER, 0);
+            let past = write_refusal(out, at, line, Refusal::Letter.number(), 0);
             return Feeds { lines: 1, at: past };
         }
     }
-    Feeds { lines: 0, at: at }
+    Feeds { lines: 0, at }
 }
 
 // Answers bare line feeds from `from` on, where their program knows no such line and the first has the number `line`: at least one, if any stands there.
@@ -118,10 +100,7 @@ pub fn write_feeds(input: &[u8], from: usize, out: &mut [u8], at: usize, line: u
         let past = past_feeds(input, from, 10 - ((line % 10) as usize));
         let lines = past - from;
         let written = of_one_ten(out, at, line, lines);
-        return Feeds {
-            lines: lines,
-            at: written,
-        };
+        return Feeds { lines, at: written };
     }
     write_one(input, from, out, at, line)
 }

@@ -3,10 +3,11 @@ ghost use Rattle.std.specs.Prelude.{◌+◌, ◌<◌, ◌≤◌, [], ◌∷◌, 
 ghost use Rattle.line.specs.Text.{decimal, integer, letters, name_text, point_text, moved_text, projected_text, refusal_text, Put, Copied, two, sign_of};
 
 use crate::field::{LINE_FEED, TAB};
+use crate::number::wide;
 use crate::write::roomy::packed::{
     copied, eight_digits, four_digits, leading, mostly_four, seven_digits,
 };
-use crate::write::{HIGHEST, MINUS, natural, size, wide};
+use crate::write::{HIGHEST, MINUS, natural};
 
 mod packed;
 
@@ -37,6 +38,7 @@ pub fn pair(out: &mut [u8], at: usize, v: u64) -> usize
     at + 2
 }
 
+// stay apart: one, two, four and eight digits are written in a row each; one for all would loop over pairs of digits
 fn up_to_two(out: &mut [u8], at: usize, n: u64) -> usize
     requires { (n < 100) × (at + 2 ≤ length out.old) }
     ensures { Put 2 out.old at (decimal n) out.new result }
@@ -120,7 +122,7 @@ fn number(out: &mut [u8], at: usize, z: i64, after: u8) -> usize
     ensures { Put 22 out.old at (integer z ++ (after ∷ [])) out.new result }
 {
     let a = sign(out, at, z);
-    let b = mostly_one(out, a, size(z));
+    let b = mostly_one(out, a, z.unsigned_abs());
     put(out, b, after)
 }
 
@@ -147,7 +149,7 @@ fn epoch(out: &mut [u8], at: usize, z: i64, after: u8) -> usize
     if z < 0 {
         return number(out, at, z, after);
     }
-    mostly_seven(out, at, size(z), after)
+    mostly_seven(out, at, z.unsigned_abs(), after)
 }
 
 // The bytes of one word of a name, up to a zero byte.
@@ -157,15 +159,13 @@ fn word(out: &mut [u8], at: usize, w: u64) -> usize
 {
     let mut p = at;
     let mut v = w;
-    let mut left: u64 = 8;
-    while 0 < left {
+    for _ in 0..8u64 {
         let b = v / HIGHEST;
         if b == 0 {
             break;
         }
         p = put(out, p, b as u8);
         v = v % HIGHEST * 256;
-        left = left - 1;
     }
     p
 }

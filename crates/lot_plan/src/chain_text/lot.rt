@@ -1,87 +1,60 @@
 // A point along the chain, to latitude and longitude, onto the state's grid; and the line of the lot plan.
-ghost use Rattle.std.specs.Prelude.{◌≡◌, List, ◌≤◌, pos, neg_ℤ, length};
-ghost use Rattle.chain.specs.declared.Step.{Step};
-ghost use Rattle.chain.specs.Prepared.{Holds, forward_prepared};
-ghost use Rattle.lot_plan.specs.LotPlan.{on_answer, laid_at, laid_from, laid_of, lot_of, lot_plan_of, origin_from};
+ghost use Rattle.std.specs.Prelude.{◌≡◌, ◌≤◌, pos, neg_ℤ, length};
+ghost use Rattle.refusal.specs.Refusals.{number, told};
+ghost use Rattle.lot_plan.specs.LotPlan.{lot_of, lot_plan_of, origin_from};
 ghost use Rattle.lot_plan.specs.Drawn.{Drawn};
+ghost use Rattle.lot_plan.specs.Reading.{point_told};
+ghost use Rattle.line.specs.Readers.{read_point};
 
-use crate::chain_text::read_chain;
-use crate::{Lot, Read};
-use angle::{GeodeticUnits, OriginNumbers, ProjectedMillimetres};
-use chain::{Answer, Label, Point, Prepared};
-use line::PointLine;
+use crate::Lot;
+use crate::chain_text::{read_chain, refusal_of};
+use angle::OriginNumbers;
+use chain::Point;
+use refusal::Refusal;
 
 // The room that the call asks for, whatever the line needs.
 const ROOM: usize = 200;
 
-// A latitude and longitude onto the grid.
-fn lay(o: OriginNumbers, label: Label, latitude: i64, longitude: i64) -> Lot
-    ensures { result ≡ laid_at o label latitude longitude }
-{
-    match angle::cassini_millimetres(o, latitude, longitude) {
-        ProjectedMillimetres::Refused(number) => Lot::Refused(number),
-        ProjectedMillimetres::Millimetres(e, n) => Lot::Laid(label, e, n),
-    }
-}
-
-// A point at the chain's end: its position to latitude and longitude, and these onto the grid.
-fn lay_from(o: OriginNumbers, point: Point) -> Lot
-    ensures { result ≡ laid_from o point }
-{
-    let at = point.position;
-    match angle::geodetic_units(o.ellipsoid, at.x, at.y, at.z) {
-        GeodeticUnits::Refused(number) => Lot::Refused(number),
-        GeodeticUnits::Units(latitude, longitude, _) => lay(o, point.label, latitude, longitude),
-    }
-}
-
-// A point whose line is good by itself, along the chain.
-fn carry(o: OriginNumbers, numbers: &Prepared, point: Point) -> Lot
-    ensures { result ≡ on_answer (forward_prepared numbers.now point) (laid_from o) }
-{
-    match chain::forward_prepared(numbers, point) {
-        Answer::Refused(number) => Lot::Refused(number),
-        Answer::Converted(converted) => lay_from(o, converted),
-    }
-}
-
 // A point line under the chain's profile.
-fn take_point(o: OriginNumbers, profile: i64, numbers: &Prepared, text: &[u8]) -> Lot
-    ensures { (ss : List Step) → Holds profile numbers.now ss → result ≡ laid_of o text.now profile ss }
+fn read_point(profile: i64, text: &[u8]) -> Result<Point, Refusal>
+    ensures { told result ≡ point_told (read_point profile text.now) }
 {
-    match line::read_point(profile, text) {
-        PointLine::Malformed(fault) => Lot::Refused(fault.number),
-        PointLine::Refused(number) => Lot::Refused(number),
-        PointLine::Point(point) => carry(o, numbers, point),
-    }
+    line::read_point(profile, text).map_err(refusal_of)
 }
 
-// A lot by value, with nothing written.
-fn lot_of(chain: &[u8], point: &[u8], o: OriginNumbers) -> Lot
-    ensures { result ≡ lot_of chain.now point.now o }
+// A lot by value, with nothing written: the point along the chain, to latitude and longitude, and these onto the grid. The first part that refuses decides.
+fn lot_of(chain: &[u8], point: &[u8], o: OriginNumbers) -> Result<Lot, Refusal>
+    ensures { told result ≡ lot_of chain.now point.now o }
 {
-    let mut numbers = [0i64; 72];
-    match read_chain(chain, &mut numbers) {
-        Read::Refused(number) => Lot::Refused(number),
-        Read::Profile(profile) => take_point(o, profile, &numbers, point),
-    }
+    let mut numbers = [0; 72];
+    let profile = read_chain(chain, &mut numbers)?;
+    let given = read_point(profile, point)?;
+    let converted = chain::forward_prepared(&numbers, given)?;
+    let at = converted.position;
+    let angles = angle::geodetic_units(o.ellipsoid, at.x, at.y, at.z)?;
+    let plane = angle::cassini_millimetres(o, angles.latitude, angles.longitude)?;
+    Ok(Lot {
+        label: converted.label,
+        easting: plane.easting,
+        northing: plane.northing,
+    })
 }
 
 // A refusal's answer.
-fn negated(number: u8) -> i64
-    ensures { result ≡ neg_ℤ (pos number) }
+fn negated(refusal: Refusal) -> i64
+    ensures { result ≡ neg_ℤ (pos (number refusal)) }
 {
-    0 - (number as i64)
+    -i64::from(refusal.number())
 }
 
 // Writes a lot's line at the start of `out`: its length, or the refusal number negated and nothing written.
-fn write(lot: Lot, out: &mut [u8]) -> i64
+fn write(lot: Result<Lot, Refusal>, out: &mut [u8]) -> i64
     requires { 200 ≤ length out.old }
-    ensures { Drawn lot out.old out.new result }
+    ensures { Drawn (told lot) out.old out.new result }
 {
     match lot {
-        Lot::Refused(number) => negated(number),
-        Lot::Laid(label, e, n) => line::write_lot(out, 0, label, e, n) as i64,
+        Err(refusal) => negated(refusal),
+        Ok(lot) => line::write_lot(out, 0, lot.label, lot.easting, lot.northing) as i64,
     }
 }
 
@@ -104,7 +77,7 @@ pub fn swivelcrane_lot_plan(
         out.old out.new result }
 {
     if out.len() < ROOM {
-        return negated(refusal::BUFFER);
+        return negated(Refusal::Buffer);
     }
     let o = OriginNumbers {
         ellipsoid,
@@ -113,6 +86,5 @@ pub fn swivelcrane_lot_plan(
         false_easting,
         false_northing,
     };
-    let lot = lot_of(chain, point, o);
-    write(lot, out)
+    write(lot_of(chain, point, o), out)
 }

@@ -2,12 +2,11 @@
 ghost use Rattle.line.specs.Text.{Wrote};
 ghost use Rattle.listing.specs.Fold.{Prints};
 ghost use Rattle.plan_rules.specs.Plan.{fresh, reply_text, plan_of};
-ghost use Rattle.plan_rules.specs.State.{Holds, passed_in};
-ghost use Rattle.std.specs.Prelude.{◌≡◌, ◌+◌, ◌≤◌};
+ghost use Rattle.plan_rules.specs.State.{Holds};
 
-use crate::decide::decide;
-use crate::{PlanOrigin, Reply, State};
+use crate::{Reply, State};
 use line::LINE_FEED;
+use refusal::Refusal;
 
 // Nothing read yet.
 fn fresh() -> State
@@ -15,19 +14,7 @@ fn fresh() -> State
 {
     State {
         line: 1,
-        origin: PlanOrigin::Missing,
-    }
-}
-
-// The state after bare line feeds, which no program knows: their number is all that they change.
-fn passed(state: State, lines: usize) -> State
-    requires { state.line + lines ≤ 1000000 }
-    ensures { result ≡ passed_in state lines }
-{
-    let origin = state.origin;
-    State {
-        line: state.line + (lines as u64),
-        origin: origin,
+        origin: None,
     }
 }
 
@@ -50,24 +37,22 @@ pub fn plan(input: &[u8], out: &mut [u8]) -> usize
     ensures { Prints (plan_of input.now) input.now out.old out.new result }
 {
     if listing::LONGEST_INPUT < input.len() {
-        return line::write_refusal(out, 0, 0, refusal::LONG, 0);
+        return line::write_refusal(out, 0, 0, Refusal::Long.number(), 0);
     }
     let mut state = fresh();
-    let mut at: usize = 0;
-    let mut from: usize = 0;
+    let mut at = 0;
+    let mut from = 0;
+    // stays a while: a turn goes on by a whole line or a whole row of line feeds
     while from < input.len() {
         if input[from] == LINE_FEED {
             let feeds = line::write_feeds(input, from, out, at, state.line);
-            let lines = feeds.lines;
             at = feeds.at;
-            state = passed(state, lines);
-            from = from + lines;
+            state.line += feeds.lines as u64;
+            from += feeds.lines;
         } else {
             let end = line::line_end(input, from);
-            let decided = decide(state, &input[from..end]);
-            let reply = decided.reply;
+            let reply = state.answer(&input[from..end]);
             at = write_reply(out, at, reply);
-            state = decided.state;
             from = end;
         }
     }

@@ -1,47 +1,35 @@
 // One line of a sheet, for a caller that keeps where the sheet stands by value.
-ghost use Rattle.std.specs.Prelude.{◌≡◌, true, [], ◌∷◌, ◌++◌, ◌<◌, ◌≤◌, eqb, pos, length, get_or, replicate};
+ghost use Rattle.std.specs.Prelude.{◌≡◌, true, [], ◌∷◌, ◌++◌, ◌<◌, ◌≤◌, eqb, pos, length, get_or, replicate, is_ok};
 ghost use Rattle.chain.specs.Faults.{steps_of};
 ghost use Rattle.chain.specs.Prepared as prepared;
 ghost use Rattle.chain.specs.declared.Step.{Step};
 ghost use Rattle.line.specs.Bytes.{letter_s};
 ghost use Rattle.line.specs.Readers.{read_step};
-ghost use Rattle.line.specs.declared.StepLine.TheVariants as step_line;
+ghost use Rattle.line.specs.Answers.{Good};
 ghost use Rattle.sheet_rules.specs.declared.Reply.TheVariants as replies;
-ghost use Rattle.sheet_rules.specs.Sheet.{Sheet, reply_of, next_of};
-ghost use Rattle.sheet_rules.specs.State.{Holds, Gave};
 ghost use Rattle.sheet_rules.specs.OneLine.{sheet_at, counted, chain_with, sound_standing, steps_after, PreparesChain, answered_to, line_answered};
 
-use crate::decide::{begins_with, decide, malformed};
-use crate::{Answered, Decided, Reply, Response, Standing, State};
+use crate::decide::{begins_with, decide};
+use crate::{Answered, Reply, Standing, State};
 use chain::{Chain, Prepared, Step};
-use line::StepLine;
+use refusal::Refusal;
 
 // At most so many lines of a sheet are answered.
 const MOST_LINES: u64 = 1000000;
 
-// Prepares a chain from no numbers, step by step, and answers whether it is good.
-fn prepare(chain: Chain, numbers: &mut Prepared) -> bool
+// Prepares a chain from no numbers, step by step, or says why it is bad.
+fn prepare(chain: Chain, numbers: &mut Prepared) -> Result<(), Refusal>
     requires { numbers.old ≡ replicate 72 (pos 0) }
-    ensures { PreparesChain chain numbers.new result }
+    ensures { PreparesChain chain numbers.new (is_ok result) }
 {
-    let n = chain.length;
-    let profile = chain.profile;
-    if !ranges::is_profile(profile) {
-        return false;
+    chain::profile_fault(chain.profile)?;
+    if 8 < chain.length {
+        return Err(Refusal::Ninth);
     }
-    if 8 < n {
-        return false;
+    for step in &chain.steps[..chain.length] {
+        chain::extend(chain.profile, *step, numbers)?;
     }
-    let mut i = 0;
-    while i < n {
-        let step = chain.steps[i];
-        let number = chain::extend(profile, step, numbers);
-        if number != 0 {
-            return false;
-        }
-        i += 1;
-    }
-    true
+    Ok(())
 }
 
 // Whether a line to come can have this number, with so many steps before it.
@@ -57,7 +45,7 @@ pub fn is_sound(standing: Standing) -> bool
     ensures { result ≡ sound_standing standing }
 {
     let chain = standing.chain;
-    is_counted(standing.line, chain.length) & (chain::chain_fault(chain) == 0)
+    is_counted(standing.line, chain.length) & chain::chain_fault(chain).is_ok()
 }
 
 // A chain with one step more.
@@ -65,105 +53,77 @@ fn with_step(chain: Chain, step: Step) -> Chain
     requires { (chain.length ≤ 8) × (length (steps_of chain) < 8) }
     ensures { result ≡ chain_with chain chain.profile (steps_of chain ++ (step ∷ [])) }
 {
-    let n = chain.length;
     let mut steps = chain.steps;
-    steps[n] = step;
+    steps[chain.length] = step;
     Chain {
-        steps: steps,
-        length: n + 1,
-        profile: chain.profile,
+        steps,
+        length: chain.length + 1,
+        ..chain
     }
 }
 
 // The chain after a line with this reply. Of the lines that begin with S only an accepted step prints nothing.
 fn chain_after(chain: Chain, reply: Reply, text: &[u8]) -> Chain
-    requires { (chain.length ≤ 8) × ((t : Step) → eqb (get_or text.now 0 0) letter_s ≡ true → reply ≡ replies.Nothing → read_step chain.profile text.now ≡ step_line.Step t → length (steps_of chain) < 8) }
+    requires { (chain.length ≤ 8) × ((t : Step) → eqb (get_or text.now 0 0) letter_s ≡ true → reply ≡ replies.Nothing → read_step chain.profile text.now ≡ Good t → length (steps_of chain) < 8) }
     ensures { result ≡ chain_with chain chain.profile (steps_after (steps_of chain) (eqb (get_or text.now 0 0) letter_s) reply (read_step chain.profile text.now)) }
 {
     if !begins_with(text, b'S') {
         return chain;
     }
-    match reply {
-        Reply::Nothing => match line::read_step(chain.profile, text) {
-            StepLine::Step(step) => with_step(chain, step),
-            StepLine::Malformed(_fault) => chain,
-            StepLine::Refused(_number) => chain,
-        },
-        Reply::Point(_point) => chain,
-        Reply::Refused(_line, _number, _place) => chain,
+    let Reply::Nothing = reply else {
+        return chain;
+    };
+    match line::read_step(chain.profile, text) {
+        Ok(step) => with_step(chain, step),
+        Err(_) => chain,
     }
 }
 
-// Any piece, the empty one too.
-fn decide_any(state: State, numbers: &mut Prepared, text: &[u8]) -> Decided
-    requires { state.line ≤ 1000000 }
-    ensures { (s : Sheet) → Holds state numbers.old s → Gave (reply_of s text.now) (next_of s text.now) numbers.new result }
-{
-    if text.len() == 0 {
-        let fault = line::strange(text);
-        return malformed(state, fault, state.refused, state.closed);
-    }
-    decide(state, numbers, text)
-}
-
-// A line within the limit.
+// A line within the limit, where a sheet stands soundly, its chain prepared.
 fn answer_within(standing: Standing, numbers: &mut Prepared, text: &[u8]) -> Answered
     requires { (standing.line ≤ 1000000) × (standing.chain.length ≤ 8) × (standing.chain.length < standing.line) × (prepared.Holds standing.chain.profile numbers.old (steps_of standing.chain)) }
     ensures { result ≡ line_answered standing text.now }
 {
-    let before = standing.chain;
     let state = State {
         line: standing.line,
-        profile: before.profile,
+        profile: standing.chain.profile,
         refused: standing.refused,
         closed: standing.closed,
     };
-    let decided = decide_any(state, numbers, text);
-    let reply = decided.reply;
+    let decided = decide(state, numbers, text);
     let next = decided.state;
-    let chain = chain_after(before, reply, text);
-    let steps = chain.steps;
+    let chain = chain_after(standing.chain, decided.reply, text);
     Answered {
         standing: Standing {
-            line: next.line,
+            line: next.line + 1,
             chain: Chain {
-                steps: steps,
-                length: chain.length,
                 profile: next.profile,
+                ..chain
             },
             refused: next.refused,
             closed: next.closed,
         },
-        response: Response::Replied(reply),
+        response: Some(decided.reply),
     }
-}
-
-// A line within the limit, of which a step asks for the chain's numbers.
-fn answer_prepared(standing: Standing, text: &[u8]) -> Answered
-    requires { (standing.line ≤ 1000000) × (sound_standing standing ≡ true) }
-    ensures { result ≡ line_answered standing text.now }
-{
-    let mut numbers = [0i64; 72];
-    let chain = standing.chain;
-    prepare(chain, &mut numbers);
-    answer_within(standing, &mut numbers, text)
 }
 
 // The line after those that led here, of any bytes: refusal LIMIT past the 1,000,000th, which is not read and moves nothing, else as the sheet's rules answer it.
 pub fn answer_line(standing: Standing, text: &[u8]) -> Answered
     ensures { result ≡ answered_to standing text.now }
 {
-    if !is_sound(standing) {
+    let mut numbers = [0i64; 72];
+    let prepared = prepare(standing.chain, &mut numbers);
+    if !(is_counted(standing.line, standing.chain.length) & prepared.is_ok()) {
         return Answered {
-            standing: standing,
-            response: Response::Unsound,
+            standing,
+            response: None,
         };
     }
     if MOST_LINES < standing.line {
         return Answered {
-            standing: standing,
-            response: Response::Replied(Reply::Refused(MOST_LINES + 1, refusal::LIMIT, 0)),
+            standing,
+            response: Some(Reply::Refused(MOST_LINES + 1, Refusal::Limit.number(), 0)),
         };
     }
-    answer_prepared(standing, text)
+    answer_within(standing, &mut numbers, text)
 }

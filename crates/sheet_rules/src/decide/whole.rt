@@ -8,6 +8,7 @@ ghost use Rattle.std.specs.Prelude.{◌≡◌, ◌+◌, ◌≤◌, pos, replicat
 use crate::decide::decide;
 use crate::{Reply, State};
 use line::LINE_FEED;
+use refusal::Refusal;
 
 mod printed;
 
@@ -23,16 +24,14 @@ fn fresh() -> State
     }
 }
 
-// The state after bare line feeds, which no program knows: their number is all that they change.
+// The state after so many lines, of which nothing but their number is to be counted in.
 fn passed(state: State, lines: usize) -> State
     requires { state.line + lines ≤ 1000000 }
     ensures { result ≡ passed_in state lines }
 {
     State {
         line: state.line + (lines as u64),
-        profile: state.profile,
-        refused: state.refused,
-        closed: state.closed,
+        ..state
     }
 }
 
@@ -53,35 +52,32 @@ pub fn sheet(input: &[u8], out: &mut [u8]) -> usize
     ensures { Prints (sheet_of input.now) input.now out.old out.new result }
 {
     if listing::LONGEST_INPUT < input.len() {
-        return line::write_refusal(out, 0, 0, refusal::LONG, 0);
+        return line::write_refusal(out, 0, 0, Refusal::Long.number(), 0);
     }
     let mut numbers = [0i64; 72];
     let mut state = fresh();
     let mut at: usize = 0;
     let mut from: usize = 0;
+    // stays: a turn takes a line, or a row of feeds, of whatever length; no iterator has those pieces
     while from < input.len() {
         if input[from] == LINE_FEED {
             let feeds = line::write_feeds(input, from, out, at, state.line);
-            let lines = feeds.lines;
             at = feeds.at;
-            state = passed(state, lines);
-            from = from + lines;
+            state = passed(state, feeds.lines);
+            from += feeds.lines;
+        } else if input[from] == b'P' {
+            let read = line::read_placed(state.profile, input, from);
+            let end = read.end;
+            let done = printed::print_point(state, &numbers, &input[from..end], read, out, at);
+            at = done.at;
+            state = passed(done.state, 1);
+            from = end;
         } else {
-            if input[from] == b'P' {
-                let read = line::read_placed(state.profile, input, from);
-                let end = read.end;
-                let done = printed::print_point(state, &numbers, &input[from..end], read, out, at);
-                at = done.at;
-                state = done.state;
-                from = end;
-            } else {
-                let end = line::line_end(input, from);
-                let decided = decide(state, &mut numbers, &input[from..end]);
-                let reply = decided.reply;
-                at = write_reply(out, at, reply);
-                state = decided.state;
-                from = end;
-            }
+            let end = line::line_end(input, from);
+            let decided = decide(state, &mut numbers, &input[from..end]);
+            at = write_reply(out, at, decided.reply);
+            state = passed(decided.state, 1);
+            from = end;
         }
     }
     at

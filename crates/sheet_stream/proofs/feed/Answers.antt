@@ -14,11 +14,11 @@ use Rattle.sheet_stream.proofs.feed.Goals as goal
 pub returns-then-stream-count : goal.returns-then-stream-count
 returns-then-stream-count c = c.refused.ensures ∙ (L.stopped c.args.stream c.args.fragment.now c.if-stream-count.true).0
 
-pub overflow_sub-last : goal.overflow_sub-last
-overflow_sub-last c = L.fed-some _ _ (sym c.is_fed.ensures ∙ c.if-is_fed.true)
+pub slice_bounds-keep_bytes-count : goal.slice_bounds-keep_bytes-count
+slice_bounds-keep_bytes-count c = let some = L.fed-some _ _ (sym c.is_fed.ensures ∙ c.if-is_fed.true) in omega (arith, some)
 
-pub slice_bounds-keep_bytes-end-then-is_fed : goal.slice_bounds-keep_bytes-end-then-is_fed
-slice_bounds-keep_bytes-end-then-is_fed c =
+pub slice_bounds-keep_bytes-length : goal.slice_bounds-keep_bytes-length
+slice_bounds-keep_bytes-length c =
     let inside = L.within-line c.args.fragment.now _ c.line_end-end.ensures in
     simp length-take (omega (arith, inside))
 

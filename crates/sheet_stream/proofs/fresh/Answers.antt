@@ -1,5 +1,8 @@
 -- `sheet_stream::fresh` meets its contract. Assumes nothing.
+use mathlib.Core.Path.{refl}
+use Rattle.sheet_stream.specs.Fragments.{no_bytes}
 use Rattle.sheet_stream.proofs.fresh.Goals as goal
 
 pub returns : goal.returns
-returns c = rw (c.no_bytes-kept.ensures, c.spare_step-step.ensures)
+unfolding no_bytes
+returns c = refl

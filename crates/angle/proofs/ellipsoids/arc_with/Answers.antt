@@ -3,7 +3,4 @@ use Rattle.angle.proofs.Arcs.{arc-is}
 use Rattle.angle.proofs.ellipsoids.arc_with.Goals as goal
 
 pub returns : goal.returns
-returns c =
-    let d = c in
-    let a = d.args in
-    arc-is a.e a.t a.latitude a.s2 a.s4 a.s6 d.requires
+returns c = let a = c.args in arc-is a.k.ellipsoid a.k.terms a.latitude a.s2 a.s4 a.s6 a.k.own

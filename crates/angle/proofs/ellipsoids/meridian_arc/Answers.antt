@@ -1,11 +1,7 @@
 -- `angle::ellipsoids::meridian_arc` meets its contract: the three sines, and the formula over them. Assumes nothing.
-use borrow.Author.Rules.{rules}
 use lib.Ieee.{of_bits, round}
 use Rattle.angle.specs.Ellipsoids.{meridian_arc}
 use Rattle.angle.proofs.ellipsoids.meridian_arc.Goals as goal
-
-pub arc_with-requires : goal.arc_with-requires
-arc_with-requires c = c.requires
 
 pub returns : goal.returns
 unfolding meridian_arc round of_bits

@@ -1,6 +1,4 @@
 -- `angle::faults::angles_fault` meets its contract: each return rewrites with the tests that led there. Assumes nothing.
-use borrow.Author.Rules.{rules}
-use borrow.Author.Tests.{not-true, not-false}
 use mathlib.Core.Path.{◌≡◌}
 use mathlib.Core.Bool.{Bool, true, false}
 use lib.IntN.{pos}

@@ -1,5 +1,4 @@
 -- `angle::from_xyz::found` meets its contract: the numbers are f64s exactly, and the formulas are the written ones. Assumes nothing.
-use borrow.Author.Rules.{rules}
 use mathlib.Core.Path.{◌≡◌}
 use mathlib.Core.Bool.{true}
 use Prim.Native.Nat.{◌≤◌}

@@ -1,6 +1,4 @@
 -- `angle::from_xyz::geodetic_units` meets its contract: each return has the tests that led there. Assumes nothing.
-use borrow.Author.Rules.{rules}
-use borrow.Author.Tests.{not-true, not-false}
 use mathlib.Core.Path.{◌≡◌, sym, ◌∙◌}
 use mathlib.Core.Bool.{Bool, true, false}
 use lib.IntN.{ℤ, pos}
@@ -13,7 +11,7 @@ use Rattle.ranges.specs.Ranges.{ellipsoid_range, area}
 use Rattle.ranges.proofs.Ranges.{told}
 use Rattle.angle.specs.Ellipsoids.{ellipsoid_of}
 use Rattle.angle.specs.Geodetic.{found_at, in_angles, geodetic_units_of}
-use Rattle.angle.specs.declared.GeodeticUnits.TheVariants.{Refused}
+use Rattle.std.specs.Prelude.{Err}
 use Rattle.angle.proofs.from_xyz.geodetic_units.Tie as tie
 use Rattle.angle.proofs.from_xyz.geodetic_units.Lts as lts
 use Rattle.angle.proofs.from_xyz.geodetic_units.Reads as reads
@@ -27,11 +25,11 @@ TheAfterIsEllipsoid = lts.After-is_ellipsoid tie.the-claims reads.Pre reads.Post
 
 -- ---- the answer by the tests
 module _ (code x y z : ℤ) where
-  by_code : ellipsoid_range code ≡ false → Refused range ≡ geodetic_units_of code x y z
+  by_code : ellipsoid_range code ≡ false → Err range ≡ geodetic_units_of code x y z
   unfolding geodetic_units_of
   by_code e = rw e
 
-  by-area : ellipsoid_range code ≡ true → area x y z ≡ false → Refused numbers.area ≡ geodetic_units_of code x y z
+  by-area : ellipsoid_range code ≡ true → area x y z ≡ false → Err numbers.area ≡ geodetic_units_of code x y z
   unfolding geodetic_units_of
   by-area e f = rw (e, f)
 

@@ -1,8 +1,48 @@
--- `angle::from_xyz::in_angles` meets its contract: each call has what it answered. Assumes nothing.
+-- `angle::from_xyz::in_angles` meets its contract: what a rounding refuses is 12, and the tests decide the rest. Assumes nothing.
 use borrow.Author.Rules.{rules}
-use Rattle.angle.specs.Geodetic.{in_angles}
+use mathlib.Core.Path.{ap, ◌∙◌}
+use mir.Syntax.{w64}
+use mir.Val.{SFits}
+use mir.ValLaws.{to_z-of_z}
+use Rattle.std.specs.Prelude.{Err}
+use Rattle.refusal.specs.Refusals.{number}
+use Rattle.refusal.specs.declared.Refusal.{Refusal}
+use Rattle.angle.specs.Geodetic.{from_rounded, in_angles}
+use Rattle.angle.proofs.Exits.{told-is, instead-err, instead-ok}
 use Rattle.angle.proofs.from_xyz.in_angles.Goals as goal
 
+pub returns-in_err-latitude : goal.returns-in_err-latitude
+unfolding in_angles from_rounded
+returns-in_err-latitude c =
+    let t = instead-err c.round_places.result _ _ _ c.round_places.ensures c.in_err-latitude.ensures in
+    rw (t.was) (told-is c.from_residual.result _ c.from_residual.ensures.1 ∙ ap (λ (e : Refusal). Err (number e)) t.is)
+
+pub returns-in_err-past : goal.returns-in_err-past
+unfolding in_angles from_rounded
+returns-in_err-past c =
+    let t = instead-err c.round_places-2.result _ _ _ c.round_places-2.ensures c.in_err-past.ensures in
+    rw (instead-ok c.round_places.result _ _ _ c.round_places.ensures c.in_ok-latitude.ensures, t.was)
+    (told-is c.from_residual-in_err-past.result _ c.from_residual-in_err-past.ensures.1 ∙ ap (λ (e : Refusal). Err (number e)) t.is)
+
+pub returns-in_err-height : goal.returns-in_err-height
+unfolding in_angles from_rounded
+returns-in_err-height c =
+    let t = instead-err c.round_places-3.result _ _ _ c.round_places-3.ensures c.in_err-height.ensures in
+    rw (instead-ok c.round_places.result _ _ _ c.round_places.ensures c.in_ok-latitude.ensures, instead-ok c.round_places-2.result _ _ _ c.round_places-2.ensures c.in_ok-past.ensures, t.was)
+    (told-is c.from_residual-in_err-height.result _ c.from_residual-in_err-height.ensures.1 ∙ ap (λ (e : Refusal). Err (number e)) t.is)
+
 pub returns : goal.returns
-unfolding in_angles
-returns c = rw (c.from_rounded.ensures, c.round_places-height.ensures, c.round_places-past.ensures, c.round_places-latitude.ensures)
+unfolding in_angles from_rounded
+returns c =
+    let x : SFits w64 c.in_ok-latitude.latitude = search rules in
+    let y : SFits w64 c.in_ok-past.past = search rules in
+    let z : SFits w64 c.in_ok-height.height = search rules in
+    rw (
+      instead-ok c.round_places.result _ _ _ c.round_places.ensures c.in_ok-latitude.ensures,
+      instead-ok c.round_places-2.result _ _ _ c.round_places-2.ensures c.in_ok-past.ensures,
+      instead-ok c.round_places-3.result _ _ _ c.round_places-3.ensures c.in_ok-height.ensures,
+      ← to_z-of_z w64 _ x,
+      ← to_z-of_z w64 _ y,
+      ← to_z-of_z w64 _ z,
+    )
+    c.in_ranges.ensures

@@ -1,6 +1,4 @@
 -- `angle::from_xyz::in_ranges` meets its contract: each return rewrites with the tests that led there, and the longitude's test is that of its part past 90 degrees. Assumes nothing.
-use borrow.Author.Rules.{rules}
-use borrow.Author.Tests.{not-true, not-false}
 use mathlib.Core.Path.{◌≡◌, sym, ◌∙◌, subst}
 use mathlib.Core.Bool.{Bool, true, false}
 use lib.IntN.{ℤ, pos, negsuc, ◌+ℤ◌}

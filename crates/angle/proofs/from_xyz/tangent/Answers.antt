@@ -1,5 +1,4 @@
 -- `angle::from_xyz::tangent` meets its contract: the formulas are the written ones. Assumes nothing.
-use borrow.Author.Rules.{rules}
 use lib.Ieee.{of_bits, round}
 use Rattle.angle.specs.Geodetic.{tangent_of}
 use Rattle.angle.proofs.from_xyz.tangent.Goals as goal

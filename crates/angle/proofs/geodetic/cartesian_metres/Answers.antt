@@ -1,114 +1,90 @@
 -- `angle::geodetic::cartesian_metres` meets its contract: each return has the tests that led there. Assumes nothing.
-use borrow.Author.Rules.{rules}
-use borrow.Author.Tests.{not-true, not-false}
-use mathlib.Core.Path.{◌≡◌, sym, ap, ap₂, ◌∙◌}
+use borrow.Author.Tests.{not-false}
+use mathlib.Core.Path.{◌≡◌, sym, ap, ◌∙◌}
 use mathlib.Core.Bool.{Bool, true, false, not}
 use mathlib.Core.List.{[], ◌∷◌}
 use lib.IntN.{ℤ, pos, negsuc}
 use mir.Syntax.{w64}
-use mir.Val.{to_z, of_z}
+use mir.Val.{SFits, to_z, of_z}
 use mir.ValLaws.{to_z-of_z}
+use Rattle.std.specs.Prelude.{Ok, Err}
 use Rattle.refusal.specs.Order.{◌gives◌, first}
 use Rattle.refusal.specs.Numbers.{range, geodetic}
-use Rattle.ranges.specs.Ranges.{ellipsoid_range, height_range}
+use Rattle.refusal.specs.Refusals.{number}
+use Rattle.refusal.specs.declared.Refusal.{Refusal}
+use Rattle.refusal.proofs.Orders.{Passed, none, stop, on}
+use Rattle.refusal.proofs.Refusals.{not-none, unless-number}
+use Rattle.ranges.specs.Ranges.{within, ellipsoid_range, height_range}
 use Rattle.ranges.proofs.Ranges.{told}
-use Rattle.angle.specs.Ranges.{angle_tests, cartesian_tests, angles_fault}
+use Rattle.angle.specs.Ranges.{angle_tests, cartesian_tests}
 use Rattle.angle.specs.Ellipsoids.{ellipsoid_of}
 use Rattle.angle.specs.Cartesian.{cartesian_at, cartesian_of}
-use Rattle.angle.specs.declared.Cartesian.TheVariants.{Refused}
-use Rattle.refusal.proofs.Orders.{Passed, passed, none, stop, on, unless-some}
-use Rattle.angle.proofs.geodetic.cartesian_metres.Tie as tie
-use Rattle.angle.proofs.geodetic.cartesian_metres.Lts as lts
-use Rattle.angle.proofs.geodetic.cartesian_metres.Reads as reads
+use Rattle.angle.proofs.Exits.{told-is}
+use Rattle.angle.proofs.NoFault.{angles-read, angles-passed}
 use Rattle.angle.proofs.geodetic.cartesian_metres.Goals as goal
-
-abbrev TheAfterAnglesFault : Type 0
-TheAfterAnglesFault = lts.After-angles_fault tie.the-claims reads.Pre reads.Post
-
-abbrev TheAfterIsEllipsoid : Type 0
-TheAfterIsEllipsoid = lts.After-is_ellipsoid tie.the-claims reads.Pre reads.Post
-
-abbrev TheAfterIsHeight : Type 0
-TheAfterIsHeight = lts.After-is_height tie.the-claims reads.Pre reads.Post
-
-abbrev TheElse2 : Type 0
-TheElse2 = lts.Else2 tie.the-claims reads.Pre reads.Post
-
-abbrev TheElse3 : Type 0
-TheElse3 = lts.Else3 tie.the-claims reads.Pre reads.Post
 
 -- ---- the answer by the tests
 module _ (z lat lon h : ℤ) where
-  by_code : ellipsoid_range z ≡ false → Refused range ≡ cartesian_of z lat lon h
+  by_code : ellipsoid_range z ≡ false → Err range ≡ cartesian_of z lat lon h
   unfolding cartesian_of
   by_code e = rw e
 
-  by-angles : ellipsoid_range z ≡ true → (first (angle_tests lat lon) ≡ 0 → ⊥) → Refused (first (angle_tests lat lon)) ≡ cartesian_of z lat lon h
+  by-angles : ellipsoid_range z ≡ true → (r : Refusal) → number r ≡ first (angle_tests lat lon) → Err (number r) ≡ cartesian_of z lat lon h
   unfolding cartesian_of
-  by-angles e f =
-      rw (e, stop (angle_tests lat lon) ((not (height_range h) gives geodetic) ∷ []) f)
-      (sym (unless-some (first (angle_tests lat lon)) Refused (cartesian_at (ellipsoid_of z) lat lon h) f))
+  by-angles e r f =
+      rw (e, stop (angle_tests lat lon) ((not (height_range h) gives geodetic) ∷ []) (λ (k : first (angle_tests lat lon) ≡ 0). not-none r (f ∙ k)))
+      (sym (unless-number r (first (angle_tests lat lon)) Err (Ok (cartesian_at (ellipsoid_of z) lat lon h)) f))
 
-  by_height : ellipsoid_range z ≡ true → Passed (angle_tests lat lon) → height_range h ≡ false → Refused geodetic ≡ cartesian_of z lat lon h
+  by_height : ellipsoid_range z ≡ true → Passed (angle_tests lat lon) → height_range h ≡ false → Err geodetic ≡ cartesian_of z lat lon h
   unfolding cartesian_of
   by_height e p k = rw (e, on (angle_tests lat lon) ((not (height_range h) gives geodetic) ∷ []) p, k)
 
-  by-none : Passed (cartesian_tests z lat lon h) → cartesian_at (ellipsoid_of z) lat lon h ≡ cartesian_of z lat lon h
+  by-none : Passed (cartesian_tests z lat lon h) → Ok (cartesian_at (ellipsoid_of z) lat lon h) ≡ cartesian_of z lat lon h
   unfolding cartesian_of
   by-none p = rw (none (cartesian_tests z lat lon h) p)
 
-code : (c : TheAfterIsEllipsoid) (t : Bool) → c.is_ellipsoid.result ≡ t → ellipsoid_range c.args.code ≡ t
-code c t h = told (pos 1) c.args.code (pos 4) c.ranges.code c.is_ellipsoid.ensures h
+-- what the tests say of the code and of the height
+code : (z : ℤ) {r t : Bool} → SFits w64 z → r ≡ within (pos 1) (to_z w64 (of_z w64 z)) (pos 4) → r ≡ t → ellipsoid_range z ≡ t
+code z f e h = told (pos 1) z (pos 4) f e h
+
+height : (z : ℤ) {r t : Bool} → SFits w64 z → r ≡ within (negsuc 49999999) (to_z w64 (of_z w64 z)) (pos 900000000) → r ≡ t → height_range z ≡ t
+height z f e h = told (negsuc 49999999) z (pos 900000000) f e h
 
 pub returns-then-not-is_ellipsoid : goal.returns-then-not-is_ellipsoid
-returns-then-not-is_ellipsoid c = let a = c.args in by_code a.code a.latitude a.longitude a.height (code c.before false (c.if-not-is_ellipsoid.true))
-
-angles : (c : TheAfterAnglesFault) → c.angles_fault-fault.result ≡ first (angle_tests c.args.latitude c.args.longitude)
-unfolding angles_fault
-angles c =
-    let a = c in
-    c.angles_fault-fault.ensures ∙ ap₂ angles_fault (to_z-of_z w64 a.args.latitude a.ranges.latitude) (to_z-of_z w64 a.args.longitude a.ranges.longitude)
-
-pub returns-then-fault-ne0 : goal.returns-then-fault-ne0
-returns-then-fault-ne0 c =
+returns-then-not-is_ellipsoid c =
     let a = c.args in
-    ap Refused (angles c.before)
-    ∙ by-angles a.code a.latitude a.longitude a.height (code c.before.before.before true (c.if-not-is_ellipsoid.false))
-    (λ (z : first (angle_tests a.latitude a.longitude) ≡ 0). c.if-fault-ne0.true (angles c.before ∙ z))
+    by_code a.code a.latitude a.longitude a.height (code a.code c.ranges.code c.is_ellipsoid.ensures c.if-not-is_ellipsoid.true)
 
-passed-angles : (c : TheElse2) → Passed (angle_tests c.args.latitude c.args.longitude)
-passed-angles c =
+pub returns-in_err-angles_fault : goal.returns-in_err-angles_fault
+returns-in_err-angles_fault c =
     let a = c.args in
-    passed (angle_tests a.latitude a.longitude) tt (sym (angles c.before) ∙ c.if-fault-ne0.false)
-
-height : (c : TheAfterIsHeight) (t : Bool) → c.is_height.result ≡ t → height_range c.args.height ≡ t
-height c t h =
-    let a = c in
-    told (negsuc 49999999) a.args.height (pos 900000000) a.ranges.height c.is_height.ensures h
+    let r = c.in_err-angles_fault.field-0.0 in
+    told-is c.from_residual.result r c.from_residual.ensures.1
+    ∙ by-angles a.code a.latitude a.longitude a.height (code a.code c.ranges.code c.is_ellipsoid.ensures c.if-not-is_ellipsoid.false) r
+    (c.in_err-angles_fault.ensures ∙ angles-read a.latitude a.longitude c.ranges.latitude c.ranges.longitude)
 
 pub returns-then-not-is_height : goal.returns-then-not-is_height
 returns-then-not-is_height c =
     let a = c.args in
-    by_height a.code a.latitude a.longitude a.height (code c.before.before.before.before.before true (c.if-not-is_ellipsoid.false)) (passed-angles c.before.before)
-    (height c.before false (c.if-not-is_height.true))
-
-all-passed : (c : TheElse3)
-    → Passed (cartesian_tests c.args.code c.args.latitude c.args.longitude c.args.height)
-all-passed c =
-    let p = passed-angles c.before.before in
-    (ap not (code c.before.before.before.before.before true (c.if-not-is_ellipsoid.false)), (p.0, (p.1.0, (ap not (height c.before true (c.if-not-is_height.false)), tt))))
+    by_height a.code a.latitude a.longitude a.height (code a.code c.ranges.code c.is_ellipsoid.ensures c.if-not-is_ellipsoid.false)
+    (angles-passed a.latitude a.longitude c.ranges.latitude c.ranges.longitude c.in_ok-angles_fault.ensures)
+    (height a.height c.ranges.height c.is_height.ensures c.if-not-is_height.true)
 
 pub position-requires : goal.position-requires
 position-requires c =
-    let a = c in
-    let p = all-passed c.before in
-    rw (to_z-of_z w64 a.args.latitude a.ranges.latitude, to_z-of_z w64 a.args.longitude a.ranges.longitude, to_z-of_z w64 a.args.height a.ranges.height) (not-false _ p.1.0, not-false _ p.1.1.0, not-false _ p.1.1.1.0)
+    let a = c.args in
+    let p = angles-passed a.latitude a.longitude c.ranges.latitude c.ranges.longitude c.in_ok-angles_fault.ensures in
+    rw (to_z-of_z w64 a.latitude c.ranges.latitude, to_z-of_z w64 a.longitude c.ranges.longitude, to_z-of_z w64 a.height c.ranges.height)
+    (not-false _ p.0, not-false _ p.1.0, height a.height c.ranges.height c.is_height.ensures c.if-not-is_height.false)
 
 pub returns : goal.returns
 returns c =
-    let a = c in
-    let z : to_z w64 (of_z w64 a.args.code) ≡ a.args.code = to_z-of_z w64 a.args.code a.ranges.code in
-    let lat : to_z w64 (of_z w64 a.args.latitude) ≡ a.args.latitude = to_z-of_z w64 a.args.latitude a.ranges.latitude in
-    let lon : to_z w64 (of_z w64 a.args.longitude) ≡ a.args.longitude = to_z-of_z w64 a.args.longitude a.ranges.longitude in
-    let h : to_z w64 (of_z w64 a.args.height) ≡ a.args.height = to_z-of_z w64 a.args.height a.ranges.height in
-    rw (c.position.ensures, c.ellipsoid.ensures, z, lat, lon, h) (by-none a.args.code a.args.latitude a.args.longitude a.args.height (all-passed c.before.before))
+    let a = c.args in
+    let p = angles-passed a.latitude a.longitude c.ranges.latitude c.ranges.longitude c.in_ok-angles_fault.ensures in
+    let e = code a.code c.ranges.code c.is_ellipsoid.ensures c.if-not-is_ellipsoid.false in
+    let k = height a.height c.ranges.height c.is_height.ensures c.if-not-is_height.false in
+    let z : to_z w64 (of_z w64 a.code) ≡ a.code = to_z-of_z w64 a.code c.ranges.code in
+    let lat : to_z w64 (of_z w64 a.latitude) ≡ a.latitude = to_z-of_z w64 a.latitude c.ranges.latitude in
+    let lon : to_z w64 (of_z w64 a.longitude) ≡ a.longitude = to_z-of_z w64 a.longitude c.ranges.longitude in
+    let h : to_z w64 (of_z w64 a.height) ≡ a.height = to_z-of_z w64 a.height c.ranges.height in
+    rw (c.position.ensures, c.ellipsoid.ensures, z, lat, lon, h) (by-none a.code a.latitude a.longitude a.height (ap not e, (p.0, (p.1.0, (ap not k, tt)))))

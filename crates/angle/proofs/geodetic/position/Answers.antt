@@ -1,5 +1,4 @@
 -- `angle::geodetic::position` meets its contract: the numbers are f64s exactly, and the formulas are the printed ones. Assumes nothing.
-use borrow.Author.Rules.{rules}
 use mathlib.Core.Path.{◌≡◌}
 use lib.Dec.{T, lit≤}
 use lib.IntN.{pos, ◌-ℤ◌}

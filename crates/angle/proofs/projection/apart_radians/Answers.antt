@@ -1,5 +1,4 @@
 -- `angle::projection::apart_radians` meets its contract: longitudes that are not too far apart have a difference that is an f64 exactly. Assumes nothing.
-use borrow.Author.Rules.{rules}
 use mathlib.Core.Path.{◌≡◌, sym, ap₂, subst}
 use lib.Dec.{T, lit≤}
 use lib.IntN.{ℤ, ◌-ℤ◌}

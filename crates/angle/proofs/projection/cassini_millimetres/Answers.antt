@@ -1,21 +1,21 @@
--- `angle::projection::cassini_millimetres` meets its contract: the origin decides first, and then the point on it. Assumes nothing.
-use borrow.Author.Rules.{rules}
-use mathlib.Core.Path.{◌≡◌, sym, ◌∙◌}
+-- `angle::projection::cassini_millimetres` meets its contract: a made origin is the one that was asked. Assumes nothing.
+use mathlib.Core.Path.{sym, ap₂, ◌∙◌}
 use mir.Syntax.{w64}
-use mir.Val.{to_z, of_z}
 use mir.ValLaws.{to_z-of_z}
+use Rattle.angle.specs.Cassini.{cassini_millimetres_from_of}
+use Rattle.angle.proofs.Exits.{told-is}
 use Rattle.angle.proofs.Made.{by-refusal-millimetres, by-origin-millimetres}
 use Rattle.angle.proofs.projection.cassini_millimetres.Goals as goal
 
-pub returns-in-Refused : goal.returns-in-Refused
-returns-in-Refused c =
+pub returns-in_err-make_origin : goal.returns-in_err-make_origin
+returns-in_err-make_origin c =
     let a = c.args in
-    by-refusal-millimetres a.o a.latitude a.longitude _ (sym c.make_origin.ensures ∙ c.in-Refused.is)
+    told-is c.from_residual.result _ c.from_residual.ensures.1 ∙ by-refusal-millimetres a.o a.latitude a.longitude _ (sym c.in_err-make_origin.ensures)
 
-pub returns-in-Made : goal.returns-in-Made
-returns-in-Made c =
-    let a = c in
-    let lat : to_z w64 (of_z w64 a.args.latitude) ≡ a.args.latitude = to_z-of_z w64 a.args.latitude a.ranges.latitude in
-    let lon : to_z w64 (of_z w64 a.args.longitude) ≡ a.args.longitude = to_z-of_z w64 a.args.longitude a.ranges.longitude in
-    let h = sym c.make_origin.ensures ∙ c.in-Made.is in
-    rw (c.cassini_millimetres_from.ensures, lat, lon) (by-origin-millimetres a.args.o a.args.latitude a.args.longitude _ h)
+pub returns : goal.returns
+returns c =
+    let a = c.args in
+    let x = c.in_ok-make_origin.field-0 in
+    c.cassini_millimetres_from.ensures
+    ∙ ap₂ (cassini_millimetres_from_of x) (to_z-of_z w64 a.latitude c.ranges.latitude) (to_z-of_z w64 a.longitude c.ranges.longitude)
+    ∙ by-origin-millimetres a.o a.latitude a.longitude x (sym c.in_ok-make_origin.ensures)

@@ -2,7 +2,7 @@
 use borrow.Author.Rules.{rules}
 use mathlib.Core.Path.{◌≡◌}
 use mir.Syntax.{w64}
-use mir.Val.{to_z, of_z}
+use mir.Val.{SFits, to_z, of_z}
 use mir.ValLaws.{to_z-of_z}
 use Rattle.angle.specs.Units.{radians}
 use Rattle.angle.proofs.Tests.{read_back}
@@ -12,13 +12,14 @@ use Rattle.angle.proofs.projection.latitude_radians.Goals as goal
 
 pub int_to_float-latitude : goal.int_to_float-latitude
 int_to_float-latitude c =
-    let a = c in
-    let z = a.args.latitude in
-    read_back z a.ranges.latitude (in-float 2880000000 z tt (natural-upto (natural 0 z 2880000000 a.requires)))
+    let l = c.args.latitude in
+    let f : SFits w64 l.units = search rules in
+    read_back l.units f (in-float 2880000000 l.units tt (natural-upto (natural 0 l.units 2880000000 l.in_range)))
 
 pub returns : goal.returns
 unfolding radians
 returns c =
-    let a = c in
-    let lat : to_z w64 (of_z w64 a.args.latitude) ≡ a.args.latitude = to_z-of_z w64 a.args.latitude a.ranges.latitude in
+    let l = c.args.latitude in
+    let f : SFits w64 l.units = search rules in
+    let z : to_z w64 (of_z w64 l.units) ≡ l.units = to_z-of_z w64 l.units f in
     cc

@@ -7,4 +7,4 @@ use Rattle.angle.proofs.projection.lay.Goals as goal
 
 pub returns : goal.returns
 unfolding cassini_with terms_of round of_bits
-returns c = rw c.requires refl
+returns c = rw (c.args.k.own, c.requires) refl

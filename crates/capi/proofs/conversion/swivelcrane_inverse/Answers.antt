@@ -13,11 +13,11 @@ returns-then-not-are_sized c =
 pub point_from-requires : goal.point_from-requires
 point_from-requires c = let e = (sizes _ _ _ (sym c.are_sized.ensures ∙ c.if-not-are_sized.false)).0 in omega (arith, e)
 
-pub give-requires : goal.give-requires
-give-requires c = (sizes _ _ _ (sym c.are_sized.ensures ∙ c.if-not-are_sized.false)).1
+pub give_point-requires : goal.give_point-requires
+give_point-requires c = (sizes _ _ _ (sym c.are_sized.ensures ∙ c.if-not-are_sized.false)).1
 
 pub returns : goal.returns
 returns c =
     let sized = c in
     converted inverse_of _ _ _ _ (sym sized.are_sized.ensures ∙ sized.if-not-are_sized.false)
-    (rd sized.ranges.profile) c.point_from.ensures c.inverse_by.ensures c.give.ensures (told c.give.type_inv)
+    (rd sized.ranges.profile) c.point_from.ensures c.inverse_by.ensures c.give_point.ensures (told c.give_point.type_inv)

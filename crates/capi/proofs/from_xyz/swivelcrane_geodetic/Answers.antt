@@ -1,22 +1,28 @@
 -- `capi::from_xyz::swivelcrane_geodetic` meets its contract: the length, and then what the library answers. Assumes nothing.
+use borrow.Author.Rules.{rules}
 use borrow.Author.Tests.{eq-eqb, ne_eqb}
+use mathlib.Core.List.{[], ◌∷◌}
 use mathlib.Core.Path.{sym, ◌∙◌, ap}
-use Rattle.capi.specs.Calls.{of_geodetic, geodetic_call}
-use Rattle.capi.proofs.Laws.{by, wrong}
+use mir.Syntax.{w64}
+use mir.Val.{SFits}
 use Rattle.rounding.proofs.Machine.{rd, told, of₄}
 use Rattle.angle.specs.Geodetic.{geodetic_units_of}
+use Rattle.capi.specs.Calls.{of_geodetic, geodetic_call}
+use Rattle.capi.proofs.Laws.{declined, wrong, handed-whole}
 use Rattle.capi.proofs.from_xyz.swivelcrane_geodetic.Goals as goal
 
 pub returns-then-out-ne3 : goal.returns-then-out-ne3
 unfolding geodetic_call
 returns-then-out-ne3 c = wrong (rw (ne_eqb _ _ c.if-out-ne3.true))
 
-pub returns : goal.returns
+pub returns-in-Err : goal.returns-in-Err
 unfolding geodetic_call
-returns c =
-    let c3 = c.before.before.before in
-    let c4 = c3 in
-    let s = c in
-    by c.give_geodetic.ensures (rw (eq-eqb _ _ c4.if-out-ne3.false)
-    (ap of_geodetic (sym (c3.geodetic_units.ensures ∙ of₄ geodetic_units_of (rd s.ranges.ellipsoid) (rd s.ranges.x) (rd s.ranges.y) (rd s.ranges.z)))))
-    (told c.give_geodetic.type_inv)
+returns-in-Err c = declined (rw (eq-eqb _ _ c.if-out-ne3.false) (ap of_geodetic (sym (c.in-Err.ensures ∙ of₄ geodetic_units_of (rd c.ranges.ellipsoid) (rd c.ranges.x) (rd c.ranges.y) (rd c.ranges.z))))) (told c.status.type_inv ∙ c.status.ensures)
+
+pub returns-in-Ok : goal.returns-in-Ok
+unfolding geodetic_call
+returns-in-Ok c =
+    let x0 : SFits w64 c.in-Ok.p.latitude = search rules in
+    let x1 : SFits w64 c.in-Ok.p.longitude = search rules in
+    let x2 : SFits w64 c.in-Ok.p.height = search rules in
+    handed-whole {vs = c.in-Ok.p.latitude ∷ c.in-Ok.p.longitude ∷ c.in-Ok.p.height ∷ []} c.give.ensures (rw (eq-eqb _ _ c.if-out-ne3.false) (ap of_geodetic (sym (c.in-Ok.ensures ∙ of₄ geodetic_units_of (rd c.ranges.ellipsoid) (rd c.ranges.x) (rd c.ranges.y) (rd c.ranges.z))))) (x0.sfits, (x1.sfits, (x2.sfits, tt))) (told c.give.type_inv)

@@ -1,19 +1,29 @@
 -- `capi::grid::swivelcrane_grid_fault` meets its contract: the length, and then what the library answers. Assumes nothing.
 use borrow.Author.Tests.{eq-eqb, ne_eqb}
-use mathlib.Core.Path.{sym, ◌∙◌, ap}
+use mathlib.Core.List.{[], ◌∷◌}
+use mathlib.Core.Path.{sym, ap}
+use Rattle.std.specs.Prelude.{Result}
 use Rattle.rounding.proofs.Machine.{told}
+use Rattle.line.specs.declared.GridHeader.{GridHeader}
+use Rattle.velocity_grid.specs.Answers.{GridFault}
 use Rattle.capi.specs.Grids.{fault_in, of_grid_fault, grid_fault_call}
-use Rattle.capi.proofs.Laws.{by, wrong}
+use Rattle.capi.proofs.Laws.{by, wrong, handed-whole}
 use Rattle.capi.proofs.grid.swivelcrane_grid_fault.Goals as goal
 
 pub returns-then-out-ne3 : goal.returns-then-out-ne3
 unfolding grid_fault_call
 returns-then-out-ne3 c = wrong (rw (ne_eqb _ _ c.if-out-ne3.true))
 
-pub returns : goal.returns
+pub returns-in-Ok : goal.returns-in-Ok
 unfolding grid_fault_call
-returns c =
-    by c.give_grid_fault.ensures
-    (rw (eq-eqb _ _ c.if-out-ne3.false)
-    (ap of_grid_fault (sym (c.fault_of_grid.ensures ∙ ap fault_in c.check_grid.ensures))))
-    (told c.give_grid_fault.type_inv)
+returns-in-Ok c =
+    by c.give.ensures (rw (eq-eqb _ _ c.if-out-ne3.false) (ap (λ (w : Result GridHeader GridFault). of_grid_fault (fault_in w)) (sym c.in-Ok.ensures)))
+    (told c.give.type_inv)
+
+pub returns-in-Err : goal.returns-in-Err
+unfolding grid_fault_call
+returns-in-Err c =
+    handed-whole {vs = c.status-number.result ∷ c.from.result ∷ c.from-in-Err.result ∷ []} c.give-in-Err.ensures
+    (rw (eq-eqb _ _ c.if-out-ne3.false, c.status-number.ensures, c.from.ensures, c.from-in-Err.ensures)
+    (ap (λ (w : Result GridHeader GridFault). of_grid_fault (fault_in w)) (sym c.in-Err.ensures)))
+    (c.status-number.type_inv, (c.from.type_inv, (c.from-in-Err.type_inv, tt))) (told c.give-in-Err.type_inv)

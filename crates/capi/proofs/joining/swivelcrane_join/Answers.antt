@@ -2,7 +2,7 @@
 use mathlib.Core.Path.{◌≡◌, sym, ◌∙◌, ap, ap₂}
 use mathlib.Core.Bool.{true}
 use mathlib.Core.List.{List}
-use Prim.Native.Nat.{◌+◌, ◌≤◌, ◌<◌}
+use Prim.Native.Nat.{ℕ, ◌+◌, ◌≤◌, ◌<◌}
 use native.Mathlib.Omega.{arith}
 use lib.IntN.{ℤ}
 use lib.ListN.{length}
@@ -11,7 +11,7 @@ use mir.Syntax.{w64}
 use mir.ValLaws.{to_z_pos}
 use Rattle.rounding.proofs.Machine.{told, rd}
 use Rattle.chain.specs.declared.Chain.{Chain}
-use Rattle.chain.specs.declared.Joined.{Joined}
+use Rattle.std.specs.Prelude.{Result, Ok}
 use Rattle.chain.specs.Join.{join_of}
 use Rattle.chain.specs.Numbers.{chain_from}
 use Rattle.capi.specs.Joining.{room_for_eight}
@@ -23,48 +23,48 @@ returns-then-not-are_sized c =
     let s = c.args in
     unsized s.first_profile s.second_profile s.first.now s.second.now s.out.now (sym c.are_sized.ensures ∙ c.if-not-are_sized.true)
 
--- where two chains that are joined are not refused there is room for both
-fit : (one two : ℤ) (rows more room : List ℤ) {j : Joined} → room_for_eight (length rows) (length more) (length room) ≡ true
-    → j ≡ join_of (chain_from one rows) (chain_from two more) → j.refusal ≡ 0
+-- where two chains are joined there is room for both
+fit : (one two : ℤ) (rows more room : List ℤ) {j : Chain} → room_for_eight (length rows) (length more) (length room) ≡ true
+    → Ok j ≡ join_of (chain_from one rows) (chain_from two more)
     → (length rows + length more ≤ length room) × (length room ≡ 104)
-fit one two rows more room sized is e =
+fit one two rows more room sized is =
     let w = whole (length rows) (length more) (length room) sized in
-    (omega (arith, w.2, few one two rows more w.0 w.1 (ap (λ (j : Joined). j.refusal) (sym is) ∙ e)), w.2)
+    (omega (arith, w.2, few one two rows more w.0 w.1 is), w.2)
 
 -- the two chains are read as they were handed over
-joined : (one two : ℤ) (rows more : List ℤ) {y z : ℤ} {c d : Chain} {j : Joined}
+joined : (one two : ℤ) (rows more : List ℤ) {y z : ℤ} {c d : Chain} {j : Result Chain ℕ}
     → j ≡ join_of c d → c ≡ chain_from y rows → d ≡ chain_from z more → y ≡ one → z ≡ two
     → j ≡ join_of (chain_from one rows) (chain_from two more)
 joined one two rows more is c d e f = is ∙ ap₂ join_of (c ∙ ap (λ (y : ℤ). chain_from y rows) e) (d ∙ ap (λ (y : ℤ). chain_from y more) f)
 
-pub returns-then-fault-ne0 : goal.returns-then-fault-ne0
-returns-then-fault-ne0 c =
+pub returns-in-Err : goal.returns-in-Err
+returns-in-Err c =
     let s = c.args in
-    let is = joined s.first_profile s.second_profile s.first.now s.second.now c.join-joined.ensures c.chain_from.ensures c.chain_from-2.ensures
-    (rd c.ranges.first_profile) (rd c.ranges.second_profile) in
-    refused-call s.first_profile s.second_profile s.first.now s.second.now s.out.now (sym c.are_sized.ensures ∙ c.if-not-are_sized.false) is c.if-fault-ne0.true
+    refused-call s.first_profile s.second_profile s.first.now s.second.now s.out.now (sym c.are_sized.ensures ∙ c.if-not-are_sized.false)
+    (joined s.first_profile s.second_profile s.first.now s.second.now c.in-Err.ensures c.chain_from.ensures c.chain_from-2.ensures (rd c.ranges.first_profile)
+    (rd c.ranges.second_profile))
     (told c.minus.type_inv ∙ c.minus.ensures)
 
 pub copy-requires : goal.copy-requires
 copy-requires c =
     let s = c.args in
-    let is = joined s.first_profile s.second_profile s.first.now s.second.now c.join-joined.ensures c.chain_from.ensures c.chain_from-2.ensures
+    let is = joined s.first_profile s.second_profile s.first.now s.second.now c.in_default.ensures c.chain_from.ensures c.chain_from-2.ensures
     (rd c.ranges.first_profile) (rd c.ranges.second_profile) in
     omega (
       arith,
       (fit s.first_profile s.second_profile s.first.now s.second.now s.out.now
-          (sym c.are_sized.ensures ∙ c.if-not-are_sized.false) is c.if-fault-ne0.false).0,
+          (sym c.are_sized.ensures ∙ c.if-not-are_sized.false) is).0,
     )
 
 pub copy-requires-2 : goal.copy-requires-2
 copy-requires-2 c =
     let s = c.args in
-    let is = joined s.first_profile s.second_profile s.first.now s.second.now c.join-joined.ensures c.chain_from.ensures c.chain_from-2.ensures
+    let is = joined s.first_profile s.second_profile s.first.now s.second.now c.in_default.ensures c.chain_from.ensures c.chain_from-2.ensures
     (rd c.ranges.first_profile) (rd c.ranges.second_profile) in
     omega (
       arith,
       (fit s.first_profile s.second_profile s.first.now s.second.now s.out.now
-          (sym c.are_sized.ensures ∙ c.if-not-are_sized.false) is c.if-fault-ne0.false).0,
+          (sym c.are_sized.ensures ∙ c.if-not-are_sized.false) is).0,
       ap length c.copy.ensures,
       length-sets s.out.now 0 s.first.now,
     )
@@ -72,10 +72,10 @@ copy-requires-2 c =
 pub returns : goal.returns
 returns c =
     let s = c.args in
-    let is = joined s.first_profile s.second_profile s.first.now s.second.now c.join-joined.ensures c.chain_from.ensures c.chain_from-2.ensures
+    let is = joined s.first_profile s.second_profile s.first.now s.second.now c.in_default.ensures c.chain_from.ensures c.chain_from-2.ensures
     (rd c.ranges.first_profile) (rd c.ranges.second_profile) in
     let f = fit s.first_profile s.second_profile s.first.now s.second.now s.out.now
-    (sym c.are_sized.ensures ∙ c.if-not-are_sized.false) is c.if-fault-ne0.false in
+    (sym c.are_sized.ensures ∙ c.if-not-are_sized.false) is in
     let n : length s.first.now + length s.second.now < 9223372036854775808 = omega (arith, f.0, f.1) in
-    given-call s.first_profile s.second_profile s.first.now s.second.now s.out.now (sym c.are_sized.ensures ∙ c.if-not-are_sized.false) is c.if-fault-ne0.false
+    given-call s.first_profile s.second_profile s.first.now s.second.now s.out.now (sym c.are_sized.ensures ∙ c.if-not-are_sized.false) is
     (c.copy-2.ensures ∙ ap (λ (l : List ℤ). sets l (length s.first.now) s.second.now) c.copy.ensures) (to_z_pos w64 _ n)

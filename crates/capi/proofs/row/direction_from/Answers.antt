@@ -1,13 +1,14 @@
 -- `capi::row::direction_from` meets its contract. Assumes nothing.
-use lib.Dec.{lit<}
+use borrow.Author.Rules.{rules}
+use mathlib.Core.Path.{◌≡◌}
+use lib.IntN.{pos}
 use Rattle.capi.specs.PointRow.{direction_from}
-use Rattle.chain.proofs.Letters.{is-letter, no-letter}
 use Rattle.capi.proofs.row.direction_from.Goals as goal
 
-pub returns-then-direction-eq-BACK : goal.returns-then-direction-eq-BACK
+pub returns-in-0 : goal.returns-in-0
 unfolding direction_from
-returns-then-direction-eq-BACK c = rw (is-letter c.args.direction 1 (lit< tt) c.ranges.direction.sfits c.if-direction-eq-BACK.true)
+returns-in-0 c = let e : c.args.direction ≡ pos 0 = search rules in rw e
 
-pub returns : goal.returns
+pub returns-in-1 : goal.returns-in-1
 unfolding direction_from
-returns c = rw (no-letter c.args.direction 1 c.if-direction-eq-BACK.false)
+returns-in-1 c = let e : c.args.direction ≡ pos 1 = search rules in rw e

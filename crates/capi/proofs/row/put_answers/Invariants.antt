@@ -1,5 +1,5 @@
 use mathlib.Core.Path.{◌≡◌}
-use Prim.Native.Nat.{◌-◌, ◌*◌, ◌≤◌}
+use Prim.Native.Nat.{◌-◌, ◌*◌, ◌/◌}
 use lib.ListN.{length, drop}
 use lib.Seq.{sets}
 use Rattle.chain.specs.PointRow.{convert_ready}
@@ -8,8 +8,5 @@ use Rattle.capi.proofs.row.put_answers.Given as goal
 
 abbrev pub invariant-loop-i : goal.invariant-loop-i
 invariant-loop-i l =
-    (l.i ≤ l.count) × (length l.out ≡ length l.initial.out)
-    × (sets l.out (8 * l.i) (answers_of (convert_ready l.ready l.direction) (l.count - l.i) (drop (7 * l.i) l.points)) ≡ sets l.initial.out 0 (answers_of (convert_ready l.ready l.direction) l.count l.points))
-
-abbrev pub decreases-loop-i : goal.decreases-loop-i
-decreases-loop-i l = l.count - l.i
+    (length l.out ≡ length l.initial.out)
+    × (sets l.out (8 * l.i) (answers_of (convert_ready l.ready l.direction) ((length l.points / 7) - l.i) (drop (7 * l.i) l.points)) ≡ sets l.initial.out 0 (answers_of (convert_ready l.ready l.direction) (length l.points / 7) l.points))

@@ -1,58 +1,36 @@
--- `chain::checks::later_fault` meets its contract: the tests in the order of the definition. Assumes nothing.
+-- `chain::checks::later_fault` meets its contract: where the step is refused by itself, that comes before the join. Assumes nothing.
 use mathlib.Core.Path.{◌≡◌, sym, ◌∙◌, ap}
+use mathlib.Core.List.{[], ◌∷◌}
+use native.Mathlib.Omega.{arith}
 use mathlib.Core.Bool.{Bool, true, false, not}
-use mathlib.Core.List.{[], ◌∷◌, ◌++◌}
+use borrow.Author.Rules.{rules}
 use lib.IntN.{ℤ}
-use borrow.Author.Tests.{not-true, not-false}
-use Rattle.refusal.specs.Order.{pick, first}
-use Rattle.rounding.proofs.Machine.{rd}
-use Rattle.chain.specs.declared.Step.{Step}
-use Rattle.chain.specs.Faults.{same_realization, step_tests, join_test, step_fault}
+use Rattle.refusal.specs.Order.{first, pick}
+use Rattle.refusal.specs.Refusals.{number, fault_number}
 use Rattle.refusal.proofs.Orders.{passed, stop, on}
-use Rattle.chain.proofs.checks.later_fault.Tie as tie
-use Rattle.chain.proofs.checks.later_fault.Lts as lts
-use Rattle.chain.proofs.checks.later_fault.Reads as reads
+use Rattle.refusal.proofs.Refusals.{not-none}
+use Rattle.rounding.proofs.Machine.{rd}
+use Rattle.chain.specs.Faults.{step_tests, join_test, step_fault}
+use Rattle.chain.proofs.Within.{two_places}
 use Rattle.chain.proofs.checks.later_fault.Goals as goal
 
-abbrev TheAfterSameRealization : Type 0
-TheAfterSameRealization = lts.After-same_realization tie.the-claims reads.Pre reads.Post
-
-abbrev TheAfterStepFault : Type 0
-TheAfterStepFault = lts.After-step_fault tie.the-claims reads.Pre reads.Post
-
--- what the step by itself is refused for
-own : (c : TheAfterStepFault) → c.step_fault-f.result ≡ step_fault c.args.profile c.args.step
-own c = c.step_fault-f.ensures ∙ ap (λ (y : ℤ). step_fault y c.args.step) (rd c.ranges.profile)
-
-pub returns-then-f-ne0 : goal.returns-then-f-ne0
+pub returns-in_err-step_fault : goal.returns-in_err-step_fault
 unfolding step_fault
-returns-then-f-ne0 c =
-    let s = c.args.step in
-    let f = own c.before in
-    f ∙ sym (stop (step_tests c.args.profile s) (join_test c.args.previous s ∷ []) (λ e. c.if-f-ne0.true (f ∙ e)))
+returns-in_err-step_fault c =
+    let s = c.args in
+    let e = c.in_err-step_fault.field-0.0 in
+    let f : number e ≡ first (step_tests s.profile s.step) = c.in_err-step_fault.ensures ∙ ap (λ (y : ℤ). step_fault y s.step) (rd c.ranges.profile) in
+    let told : fault_number c.from_residual.result ≡ number e = search rules in
+    told ∙ f ∙ sym (stop (step_tests s.profile s.step) (join_test s.previous s.step ∷ []) (λ z. not-none e (f ∙ z)))
 
--- where the step by itself is not refused, the join decides
-module _ (c : TheAfterSameRealization) where
-  abbrev profile : ℤ
-  profile = c.args.profile
-
-  abbrev previous : Step
-  previous = c.args.previous
-
-  abbrev step : Step
-  step = c.args.step
-
-  joined : first (join_test previous step ∷ []) ≡ first (step_tests profile step ++ (join_test previous step ∷ []))
-  unfolding step_fault
-  joined =
-      let e = sym (own c.before.before.before.before) ∙ c.if-f-ne0.false in
-      sym (on (step_tests profile step) (join_test previous step ∷ []) (passed (step_tests profile step) tt e))
-
-  same : (b : Bool) → c.same_realization.result ≡ b → same_realization previous.after step.before ≡ b
-  same b e = sym c.same_realization.ensures ∙ e
-
-pub returns-then-not-same_realization : goal.returns-then-not-same_realization
-returns-then-not-same_realization c = let e = same c.before false (c.if-not-same_realization.true) in ap (λ (b : Bool). pick (not b) 5 0) (sym e) ∙ joined c.before
+pub returns-then-ne : goal.returns-then-ne
+unfolding step_fault
+returns-then-ne c =
+    let s = c.args in
+    let e = two_places s.previous.after s.step.before true c.if-ne.ensures in
+    let p : first (step_tests s.profile s.step) ≡ 0 = sym (c.in_ok-step_fault.ensures ∙ ap (λ (y : ℤ). step_fault y s.step) (rd c.ranges.profile)) in
+    ap (λ (b : Bool). pick (not b) 5 0) (sym e) ∙ sym (on (step_tests s.profile s.step) (join_test s.previous s.step ∷ []) (passed (step_tests s.profile s.step) tt p))
 
 pub returns : goal.returns
-returns c = let e = same c.before true (c.if-not-same_realization.false) in ap (λ (b : Bool). pick (not b) 5 0) (sym e) ∙ joined c.before
+unfolding step_fault
+returns c = let e = two_places c.args.previous.after c.args.step.before false c.if-ne.ensures in grind (arith, e)

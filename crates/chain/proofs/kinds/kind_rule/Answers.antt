@@ -1,7 +1,6 @@
 -- `chain::kinds::kind_rule` meets its contract. Assumes nothing.
 use mathlib.Core.Path.{sym, ◌∙◌, ap}
 use mathlib.Core.Bool.{Bool}
-use borrow.Author.Rules.{rules}
 use Rattle.chain.specs.Faults.{kind_rule}
 use Rattle.chain.specs.declared.Kind.{Kind}
 use Rattle.chain.proofs.kinds.kind_rule.Tie as tie
@@ -17,16 +16,5 @@ module _ (s : TheStart) where
   abbrev rule : Kind → Bool
   rule kind = kind_rule kind s.args.before s.args.after
 
-pub returns-in-Shift : goal.returns-in-Shift
-unfolding kind_rule
-returns-in-Shift c = ap (rule c.before) (sym c.in-Shift.is)
-
 pub returns-in-Velocity : goal.returns-in-Velocity
 returns-in-Velocity c = c.velocity_rule.ensures _ ∙ ap (rule c.before.before) (sym c.in-Velocity.is)
-
-pub returns-in-BursaWolf : goal.returns-in-BursaWolf
-unfolding kind_rule
-returns-in-BursaWolf c = ap (rule c.before) (sym c.in-BursaWolf.is)
-
-pub returns-in-Frame : goal.returns-in-Frame
-returns-in-Frame c = c.frame_rule.ensures ∙ ap (rule c.before.before) (sym c.in-Frame.is)

@@ -1,7 +1,6 @@
 -- `chain::numbers::after_at` meets its contract. Assumes nothing.
 use mathlib.Core.Path.{◌∙◌, ap}
 use Prim.Native.Nat.{◌*◌}
-use borrow.Author.Rules.{rules}
 use mathlib.Core.List.{List}
 use lib.IntN.{ℤ}
 use Rattle.chain.specs.Numbers.{step_from}

@@ -1,7 +1,6 @@
 -- `chain::numbers::step_at` meets its contract. Assumes nothing.
 use mathlib.Core.Path.{◌∙◌, ap}
 use Prim.Native.Nat.{◌*◌}
-use borrow.Author.Rules.{rules}
 use Rattle.chain.specs.Numbers.{step_from}
 use Rattle.chain.proofs.LentSteps.{rest-is}
 use Rattle.chain.proofs.numbers.step_at.Goals as goal

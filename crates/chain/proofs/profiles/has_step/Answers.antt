@@ -1,8 +1,7 @@
 -- `chain::profiles::has_step` meets its contract. Assumes nothing.
-use mathlib.Core.Path.{◌≡◌, refl, sym, ◌∙◌, ap, ap₂}
-use mathlib.Core.Bool.{Bool, true, false, not, ◌&&◌, ◌||◌}
+use mathlib.Core.Path.{◌≡◌, sym, ◌∙◌, ap}
+use mathlib.Core.Bool.{true, false, ◌&&◌}
 use lib.IntN.{ℤ, pos}
-use borrow.Author.Tests.{not-true}
 use Rattle.rounding.proofs.Machine.{rd}
 use Rattle.ranges.specs.Ranges.{equal}
 use Rattle.chain.specs.declared.Kind.{Kind}
@@ -27,13 +26,3 @@ returns-then-not-equal c =
     let s = c in
     let e = c.equal.ensures ∙ ap (λ (z : ℤ). equal (pos 2009) z) (rd s.ranges.profile) in
     lacks-none s.args.profile s.args.step (sym e ∙ c.if-not-equal.true)
-
-pub returns : goal.returns
-unfolding has_step
-returns c =
-    let s = c in
-    let step = s.args.step in
-    let y = rd s.ranges.profile in
-    ap₂ ◌&&◌
-    (ap₂ ◌&&◌ (c.has_kind.ensures ∙ ap (λ (z : ℤ). has_kind z step.kind) y) (c.has_datum.ensures ∙ ap (λ (z : ℤ). has_datum z step.before) y))
-    (c.has_datum-2.ensures ∙ ap (λ (z : ℤ). has_datum z step.after) y)

@@ -9,7 +9,6 @@ use Rattle.rounding.proofs.Zn.{mul-le, add-le}
 use Rattle.rounding.proofs.Machine.{rd, fits, rd+, rd*, fit+, fit*}
 use lib.Dec.{lit<}
 use Rattle.chain.specs.Parts.{at_epoch}
-use Rattle.chain.proofs.steps.at_epoch.Tie as tie
 use Rattle.chain.proofs.steps.at_epoch.Lts as lts
 use Rattle.chain.proofs.steps.at_epoch.Reads as reads
 use Rattle.chain.proofs.steps.at_epoch.Goals as goal

@@ -9,7 +9,6 @@ use Rattle.rounding.proofs.Zn.{mul-le, add-le}
 use Rattle.rounding.proofs.Machine.{rd, fits, rd+, rd*, fit+, fit*}
 use native.Mathlib.Nat.{le_refl}
 use Rattle.chain.specs.Axes.{on_x, on_y, on_z}
-use Rattle.chain.proofs.steps.linear.Tie as tie
 use Rattle.chain.proofs.steps.linear.Lts as lts
 use Rattle.chain.proofs.steps.linear.Reads as reads
 use Rattle.chain.proofs.steps.linear.Goals as goal

@@ -9,7 +9,6 @@ use Rattle.rounding.proofs.Machine.{rd, fits, rd-, fit-, of₃}
 use Rattle.chain.specs.Parts.{minus}
 use Rattle.chain.specs.Axes.{Axis, on_x, on_y, on_z, coordinate}
 use Rattle.chain.specs.Ready.{position}
-use Rattle.chain.proofs.steps.minus.Tie as tie
 use Rattle.chain.proofs.steps.minus.Lts as lts
 use Rattle.chain.proofs.steps.minus.Reads as reads
 use Rattle.chain.proofs.steps.minus.Goals as goal

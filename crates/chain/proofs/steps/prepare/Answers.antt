@@ -1,6 +1,5 @@
 -- `chain::steps::prepare` meets its contract: each arm prepares its kind. Assumes nothing.
 use mathlib.Core.Path.{sym, ◌∙◌, ap}
-use borrow.Author.Rules.{rules}
 use Rattle.chain.specs.declared.Kind.{Kind}
 use Rattle.chain.specs.declared.steps.Ready.{Ready}
 use Rattle.chain.specs.declared.steps.Ready.TheVariants.{Fixed, Turned, Scaled}

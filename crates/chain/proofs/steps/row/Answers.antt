@@ -2,11 +2,10 @@
 use mathlib.Core.Path.{◌≡◌, sym, ◌∙◌, ap}
 use mathlib.Core.Bool.{Bool, true, false}
 use mathlib.Core.List.{[]}
-use borrow.Author.Rules.{rules}
 use lib.IntN.{pos}
 use lib.ListN.{get_or}
 use Rattle.refusal.specs.Order.{pick}
-use Rattle.rounding.proofs.Machine.{rd, fits}
+use Rattle.rounding.proofs.Machine.{rd}
 use Rattle.ranges.specs.Ranges.{equal}
 use Rattle.chain.specs.Rows.{rows, row_index, row_of}
 use Rattle.chain.proofs.steps.row.Tie as tie

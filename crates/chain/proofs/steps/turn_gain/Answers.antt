@@ -8,7 +8,7 @@ use mir.Val.{SFits, to_z, of_z}
 use Rattle.rounding.proofs.Zn.{k, abs_neg}
 use Rattle.rounding.proofs.Machine.{rd, fits, rd0-, fit0-, to₄, of₃, of₄}
 use Rattle.chain.specs.declared.steps.Turn.{Turn}
-use Rattle.chain.specs.Parts.{linear, part, gain, over11}
+use Rattle.chain.specs.Parts.{part, gain, over11}
 use Rattle.chain.specs.Ready.{TurnOk, PartOk}
 use Rattle.chain.specs.Ready.{position}
 use Rattle.chain.proofs.steps.turn_gain.Tie as tie

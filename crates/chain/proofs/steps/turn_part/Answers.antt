@@ -1,6 +1,5 @@
 -- `chain::steps::turn_part` meets its contract. Assumes nothing.
-use mathlib.Core.Path.{◌≡◌, ◌∙◌, ap₂}
-use borrow.Author.Rules.{rules}
+use mathlib.Core.Path.{◌∙◌, ap₂}
 use lib.IntN.{ℤ, pos, ◌+ℤ◌, ◌*ℤ◌}
 use Rattle.rounding.proofs.Machine.{rd, of₃}
 use Rattle.rounding.specs.Nearest.{to_even}

@@ -1,5 +1,4 @@
 -- `elementary::half::arcsine` meets its contract: the formula is the written one. Assumes nothing.
-use borrow.Author.Rules.{rules}
 use lib.Ieee.{of_bits, round}
 use Rattle.elementary.specs.Half.{arcsine_of}
 use Rattle.elementary.proofs.half.arcsine.Goals as goal

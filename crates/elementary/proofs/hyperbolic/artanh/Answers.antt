@@ -1,5 +1,4 @@
 -- `elementary::hyperbolic::artanh` meets its contract: the formula is the written one. Assumes nothing.
-use borrow.Author.Rules.{rules}
 use lib.Ieee.{of_bits, round}
 use Rattle.elementary.specs.Hyperbolic.{artanh_of}
 use Rattle.elementary.proofs.hyperbolic.artanh.Goals as goal

@@ -1,5 +1,4 @@
 -- `elementary::hyperbolic::artanh_small` meets its contract. Assumes nothing.
-use borrow.Author.Rules.{rules}
 use Rattle.elementary.specs.Hyperbolic.{artanh_small_of}
 use Rattle.elementary.proofs.hyperbolic.artanh_small.Goals as goal
 

@@ -1,5 +1,4 @@
 -- `elementary::hyperbolic::cosh` meets its contract. Assumes nothing.
-use borrow.Author.Rules.{rules}
 use Rattle.elementary.specs.Hyperbolic.{cosh_of}
 use Rattle.elementary.proofs.hyperbolic.cosh.Goals as goal
 

@@ -1,5 +1,4 @@
 -- `elementary::hyperbolic::sinh` meets its contract. Assumes nothing.
-use borrow.Author.Rules.{rules}
 use Rattle.elementary.specs.Hyperbolic.{sinh_of}
 use Rattle.elementary.proofs.hyperbolic.sinh.Goals as goal
 

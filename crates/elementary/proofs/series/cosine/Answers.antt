@@ -1,5 +1,4 @@
 -- `elementary::series::cosine` meets its contract. Assumes nothing.
-use borrow.Author.Rules.{rules}
 use Rattle.elementary.specs.Series.{cosine_of}
 use Rattle.elementary.proofs.series.cosine.Goals as goal
 

@@ -1,5 +1,4 @@
 -- `elementary::series::sine` meets its contract. Assumes nothing.
-use borrow.Author.Rules.{rules}
 use Rattle.elementary.specs.Series.{sine_of}
 use Rattle.elementary.proofs.series.sine.Goals as goal
 

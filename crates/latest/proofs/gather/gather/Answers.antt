@@ -5,12 +5,13 @@ use Prim.Native.Nat.{◌<◌}
 use mathlib.Core.Bool.{true}
 use lib.ListN.{length}
 use Rattle.chain.specs.Faults.{latest}
-use Rattle.line.specs.declared.PointLine.TheVariants as P
+use Rattle.line.specs.Answers as P
+use Rattle.line.specs.Answers.{line_told}
 use Rattle.line.specs.Lines.{line_at}
 use Rattle.line.specs.Readers.{read_point}
 use Rattle.line.proofs.Lines.{piece}
 use Rattle.latest.specs.Pile.{is_bad}
-use Rattle.latest.proofs.Gathering.{read_as, ended, gathering-none, gathering-bad, gathering-put, row-left, gathered}
+use Rattle.latest.proofs.Gathering.{read_as, unread-bad, ended, gathering-none, gathering-bad, gathering-put, row-left, gathered}
 use Rattle.latest.proofs.gather.gather.Goals as goal
 
 pub loop-at-init : goal.loop-at-init
@@ -22,8 +23,8 @@ put_row-requires c =
     let a = c.args in
     let q = ended _ _ _ c.read_placed-read.ensures in
     let some : k.at < length a.x.now = c.loop-at-test.true in
-    let p = c.in-Point.p in
-    let e : read_point latest (line_at a.x.now k.at) ≡ P.Point p = sym (read_as _ _ _ c.read_placed-read.ensures) ∙ c.in-Point.is in
+    let p = c.in-Ok.p in
+    let e : read_point latest (line_at a.x.now k.at) ≡ P.Good p = sym (read_as _ _ _ c.read_placed-read.ensures) ∙ ap line_told c.in-Ok.is in
     let i = (piece _ _ _ q some).inside in
     let n = row-left _ _ _ _ _ _ _ _ _ _ _ _ _ q some k.invariant p e in
     let r = c.requires in
@@ -39,8 +40,8 @@ overflow_add-count c =
     let a = c.args in
     let q = ended _ _ _ c.read_placed-read.ensures in
     let some : k.at < length a.x.now = c.loop-at-test.true in
-    let p = c.in-Point.p in
-    let e : read_point latest (line_at a.x.now k.at) ≡ P.Point p = sym (read_as _ _ _ c.read_placed-read.ensures) ∙ c.in-Point.is in
+    let p = c.in-Ok.p in
+    let e : read_point latest (line_at a.x.now k.at) ≡ P.Good p = sym (read_as _ _ _ c.read_placed-read.ensures) ∙ ap line_told c.in-Ok.is in
     let i = (piece _ _ _ q some).inside in
     let n = row-left _ _ _ _ _ _ _ _ _ _ _ _ _ q some k.invariant p e in
     let r = c.requires in
@@ -50,19 +51,19 @@ overflow_add-count c =
     let kb : k.count < length k.b = omega (arith, i, n, r.3, k.invariant.start) in
     record { fits = omega (arith, i, n, c.well_formed.0) }
 
-pub loop-at-smaller-in-Point : goal.loop-at-smaller-in-Point
-loop-at-smaller-in-Point c =
+pub loop-at-smaller-in-Ok : goal.loop-at-smaller-in-Ok
+loop-at-smaller-in-Ok c =
     let l = piece _ _ _ (ended _ _ _ c.read_placed-read.ensures) c.loop-at-test.true in
     omega arith
 
-pub loop-at-preserved-in-Point : goal.loop-at-preserved-in-Point
-loop-at-preserved-in-Point c =
+pub loop-at-preserved-in-Ok : goal.loop-at-preserved-in-Ok
+loop-at-preserved-in-Ok c =
     let k = c.loop-at in
     let a = c.args in
     let q = ended _ _ _ c.read_placed-read.ensures in
     let some : k.at < length a.x.now = c.loop-at-test.true in
-    let p = c.in-Point.p in
-    let e : read_point latest (line_at a.x.now k.at) ≡ P.Point p = sym (read_as _ _ _ c.read_placed-read.ensures) ∙ c.in-Point.is in
+    let p = c.in-Ok.p in
+    let e : read_point latest (line_at a.x.now k.at) ≡ P.Good p = sym (read_as _ _ _ c.read_placed-read.ensures) ∙ ap line_told c.in-Ok.is in
     let i = (piece _ _ _ q some).inside in
     let n = row-left _ _ _ _ _ _ _ _ _ _ _ _ _ q some k.invariant p e in
     let r = c.requires in
@@ -72,20 +73,6 @@ loop-at-preserved-in-Point c =
     let kb : k.count < length k.b = omega (arith, i, n, r.3, k.invariant.start) in
     let z = c.put_row.ensures in
     gathering-put _ _ _ _ _ _ _ _ _ _ _ _ _ q some k.invariant _ _ _ _ p e kh kl ks kb z.0 z.1 z.2 z.3
-
-pub loop-at-smaller-in-Malformed : goal.loop-at-smaller-in-Malformed
-loop-at-smaller-in-Malformed c =
-    let l = piece _ _ _ (ended _ _ _ c.read_placed-read.ensures) c.loop-at-test.true in
-    omega arith
-
-pub loop-at-preserved-in-Malformed : goal.loop-at-preserved-in-Malformed
-loop-at-preserved-in-Malformed c =
-    let k = c.loop-at in
-    let a = c.args in
-    let q = ended _ _ _ c.read_placed-read.ensures in
-    let some : k.at < length a.x.now = c.loop-at-test.true in
-    let e : is_bad (read_point latest (line_at a.x.now k.at)) ≡ true = ap is_bad (sym (read_as _ _ _ c.read_placed-read.ensures) ∙ c.in-Malformed.is) in
-    gathering-bad _ _ _ _ _ _ _ _ _ _ _ _ _ q some k.invariant e
 
 pub loop-at-smaller : goal.loop-at-smaller
 loop-at-smaller c =
@@ -98,7 +85,7 @@ loop-at-preserved c =
     let a = c.args in
     let q = ended _ _ _ c.read_placed-read.ensures in
     let some : k.at < length a.x.now = c.loop-at-test.true in
-    let e : is_bad (read_point latest (line_at a.x.now k.at)) ≡ true = ap is_bad (sym (read_as _ _ _ c.read_placed-read.ensures) ∙ c.in-Refused.is) in
+    let e : is_bad (read_point latest (line_at a.x.now k.at)) ≡ true = ap is_bad (sym (read_as _ _ _ c.read_placed-read.ensures) ∙ ap line_told c.in-Err.is) ∙ unread-bad _ in
     gathering-bad _ _ _ _ _ _ _ _ _ _ _ _ _ q some k.invariant e
 
 pub shape_of-h : goal.shape_of-h

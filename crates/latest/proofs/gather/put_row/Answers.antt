@@ -11,4 +11,4 @@ pub returns : goal.returns
 returns c =
     let a = c.args in
     let e : to_z w64 (of_z w64 a.label.issue) ≡ a.label.issue = search rules in
-    (refl, refl, ap (λ (n : ℕ). set a.s.now a.k n) (rw e at c.size-issue.ensures), refl)
+    (refl, refl, ap (λ (n : ℕ). set a.s.now a.k n) (rw e at c.unsigned_abs.ensures.value), refl)

@@ -3,6 +3,3 @@ use Rattle.latest.proofs.judge.judge.Given as goal
 
 abbrev pub invariant-loop-k : goal.invariant-loop-k
 invariant-loop-k l = Judging l.x l.h l.l l.s l.b l.o l.v l.k l.standing
-
-abbrev pub decreases-loop-k : goal.decreases-loop-k
-decreases-loop-k l = l.k

@@ -9,6 +9,3 @@ use Rattle.latest.proofs.judge.marks.Given as goal
 abbrev pub invariant-loop-k : goal.invariant-loop-k
 invariant-loop-k l = (1 ≤ l.k) × (l.k ≤ l.n) × (l.n ≡ length l.o) × (length l.w ≡ length l.initial.w) ×
     ((p : ℕ) → p < l.k → get_or l.w p 0 ≡ mark_of (group_of l.h l.l l.s) (text_in l.x l.b) l.o p)
-
-abbrev pub decreases-loop-k : goal.decreases-loop-k
-decreases-loop-k l = l.n - l.k

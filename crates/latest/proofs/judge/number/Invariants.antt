@@ -1,10 +1,7 @@
 use mathlib.Core.Path.{◌≡◌}
-use Prim.Native.Nat.{ℕ, ◌≤◌, ◌<◌, ◌-◌}
-use lib.ListN.{length, get_or}
+use Prim.Native.Nat.{ℕ, ◌<◌}
+use lib.ListN.{get_or}
 use Rattle.latest.proofs.judge.number.Given as goal
 
 abbrev pub invariant-loop-i : goal.invariant-loop-i
-invariant-loop-i l = (l.i ≤ length l.o) × (length l.o ≡ length l.initial.o) × ((p : ℕ) → p < l.i → get_or l.o p 0 ≡ p)
-
-abbrev pub decreases-loop-i : goal.decreases-loop-i
-decreases-loop-i l = length l.o - l.i
+invariant-loop-i l = (p : ℕ) → p < l.i → get_or l.o p 0 ≡ p

@@ -4,7 +4,7 @@ use Rattle.line.proofs.Texts.{nothing}
 use Rattle.latest.proofs.print.print_good.Goals as goal
 
 pub returns-then-verdict-eq17 : goal.returns-then-verdict-eq17
-returns-then-verdict-eq17 c = rw (eq-eqb c.args.verdict 17 c.if-verdict-eq17.true) c.write_refusal.ensures
+returns-then-verdict-eq17 c = rw (eq-eqb c.args.verdict 17 c.if-verdict-eq17.true) (rw c.number.ensures at c.write_refusal.ensures)
 
 pub returns-then-stop : goal.returns-then-stop
 returns-then-stop c = rw (ne_eqb c.args.verdict 17 c.if-verdict-eq17.false, eq-eqb c.args.verdict 1 c.if-verdict-eq1.true, c.if-stop.true) (nothing _ _)

@@ -1,5 +1,5 @@
 -- `line::edition_line::edition_fields` meets its contract. Assumes nothing.
-use Rattle.std.proofs.Common.{◌≡◌, ◌∙◌, arith, w64, to_z, of_z, rules}
+use Rattle.std.proofs.Common.{◌≡◌, ◌∙◌, w64, to_z, of_z, rules}
 use Rattle.line.proofs.Walk as W
 use Rattle.line.specs.Forms.{edition_form}
 use Rattle.line.proofs.edition_line.edition_fields.Goals as goal

@@ -1,30 +1,19 @@
 -- `line::edition_line::read_edition` meets its contract. Assumes nothing.
-use Rattle.std.proofs.Common.{◌≡◌, sym, ap, ◌∙◌, arith, length-take-le, w64, to_z, of_z, rules}
-use Rattle.line.proofs.Answers as A
-use Rattle.line.specs.declared.EditionLine.TheVariants.{Edition, Malformed}
+use Rattle.std.proofs.Common.{◌≡◌, ℤ, Err, refl, ◌∙◌}
+use mathlib.Core.Option.{Option, none, some, map}
+use Rattle.line.specs.Answers.{Fault}
+use Rattle.line.specs.Fields.{said}
 use Rattle.line.specs.Forms.{edition_form}
-use Rattle.line.specs.Malformed.{edition_shape, fault_of}
 use Rattle.line.specs.Readers.{edition_as, read_edition}
+use Rattle.line.specs.Reading.{capped_z, form_as}
+use Rattle.line.proofs.Formed as F
+use Rattle.line.proofs.GoodForm.{edition-exactly}
 use Rattle.line.proofs.edition_line.read_edition.Goals as goal
-use Rattle.line.proofs.edition_line.read_edition.Goals.{then-end-line+else-r-end, else-end-line}
 
-pub slice_bounds-s-end : goal.slice_bounds-s-end
-slice_bounds-s-end c = sym (length-take-le _ _ (omega arith))
-
-pub returns-then-r-end : goal.returns-then-r-end
-unfolding read_edition
-returns-then-r-end c =
-    let line = c.args.line.now in
-    let e : to_z w64 (of_z w64 c.edition_fields-r.result.year) ≡ c.edition_fields-r.result.year = search rules in
-    A.of-form (edition_as (Malformed (fault_of edition_shape line))) edition_form _ _ c.body_end-end.ensures (omega arith) c.edition_fields-r.ensures _ c.if-r-end.true (λ y q. ap Edition (e ∙ q))
+same : (f : Fault) (o : Option ℤ) → form_as f (map capped_z o) ≡ edition_as (Err f) o
+same f none = refl
+same f (some year) = refl
 
 pub returns : goal.returns
 unfolding read_edition
-returns c =
-    let framed = c.body_end-end.ensures in
-    let line = c.args.line.now in
-    ap Malformed c.fault_of-fault.ensures
-    ∙ (elim c.if-end-line.branch [
-      | then-end-line+else-r-end w ↦ A.no-form (edition_as (Malformed (fault_of edition_shape line))) edition_form _ _ framed (omega arith) w.edition_fields-r.ensures w.if-r-end.false
-      | else-end-line w ↦ A.no-frame (edition_as (Malformed (fault_of edition_shape line))) edition_form _ _ framed (omega arith)
-    ])
+returns c = let line = c.args.line.now in F.read edition_form capped_z line _ _ (edition-exactly line) c.read_form.ensures ∙ same _ (said edition_form line)

@@ -1,6 +1,5 @@
 -- `line::ends::among_four` meets its contract. Assumes nothing.
 use Rattle.line.proofs.Lines.{one, either}
-use Rattle.std.proofs.Common.{arith}
 use Rattle.line.proofs.ends.among_four.Goals as goal
 
 pub returns : goal.returns

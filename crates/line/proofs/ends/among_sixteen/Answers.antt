@@ -1,6 +1,5 @@
 -- `line::ends::among_sixteen` meets its contract. Assumes nothing.
 use Rattle.line.proofs.Lines.{either}
-use Rattle.std.proofs.Common.{arith}
 use Rattle.line.proofs.ends.among_sixteen.Goals as goal
 
 pub returns : goal.returns

@@ -1,6 +1,5 @@
 -- `line::ends::end_in_sixteen` meets its contract. Assumes nothing.
-use Rattle.std.proofs.Common.{◌≡◌, ◌+◌, ◌-◌, ◌≤◌, ◌∙◌, arith}
-use Rattle.line.specs.Lines.{Onward}
+use Rattle.std.proofs.Common.{◌≡◌, ◌∙◌, arith}
 use Rattle.line.proofs.Lines.{at-feed, stands, further}
 use Rattle.line.proofs.ends.end_in_sixteen.Goals as goal
 

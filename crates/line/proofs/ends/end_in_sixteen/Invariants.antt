@@ -1,10 +1,6 @@
-use Rattle.std.proofs.Common.{◌≡◌, ◌+◌, ◌-◌, ◌≤◌, ◌∙◌, arith}
+use Rattle.std.proofs.Common.{◌+◌, ◌≤◌}
 use Rattle.line.specs.Lines.{Onward}
-use Rattle.line.proofs.Lines.{at-feed, stands, further}
 use Rattle.line.proofs.ends.end_in_sixteen.Given as goal
 
 abbrev pub invariant-loop-clear : goal.invariant-loop-clear
 invariant-loop-clear l = (l.clear ≤ 16) × Onward l.input l.from (l.from + l.clear)
-
-abbrev pub decreases-loop-clear : goal.decreases-loop-clear
-decreases-loop-clear l = 16 - l.clear

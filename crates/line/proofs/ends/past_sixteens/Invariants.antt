@@ -1,6 +1,5 @@
-use Rattle.std.proofs.Common.{◌-◌, length, arith}
+use Rattle.std.proofs.Common.{◌-◌, length}
 use Rattle.line.specs.Lines.{Onward}
-use Rattle.line.proofs.Lines.{skip}
 use Rattle.line.proofs.ends.past_sixteens.Given as goal
 
 abbrev pub invariant-loop-place : goal.invariant-loop-place

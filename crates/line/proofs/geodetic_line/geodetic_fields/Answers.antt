@@ -1,5 +1,5 @@
 -- `line::geodetic_line::geodetic_fields` meets its contract. Assumes nothing.
-use Rattle.std.proofs.Common.{◌≡◌, ◌∙◌, arith, w64, to_z, of_z, rules}
+use Rattle.std.proofs.Common.{◌≡◌, ◌∙◌, w64, to_z, of_z, rules}
 use Rattle.line.proofs.Walk as W
 use Rattle.line.specs.Forms.{geodetic_form}
 use Rattle.line.proofs.geodetic_line.geodetic_fields.Goals as goal

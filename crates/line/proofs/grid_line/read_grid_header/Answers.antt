@@ -1,29 +1,20 @@
 -- `line::grid_line::read_grid_header` meets its contract. Assumes nothing.
-use Rattle.std.proofs.Common.{sym, ap, ◌∙◌, arith, length-take-le}
-use Rattle.line.proofs.Answers as A
-use Rattle.line.specs.declared.GridLine.TheVariants.{Header, Malformed}
+use Rattle.std.proofs.Common.{◌≡◌, Err, refl, ◌∙◌}
+use mathlib.Core.Option.{Option, none, some, map}
+use Rattle.line.specs.declared.GridHeader.{GridHeader}
+use Rattle.line.specs.Answers.{Fault}
+use Rattle.line.specs.Fields.{said}
 use Rattle.line.specs.Forms.{grid_form}
-use Rattle.line.specs.Malformed.{grid_shape, fault_of}
 use Rattle.line.specs.Readers.{grid_as, read_grid_header}
+use Rattle.line.specs.Reading.{capped_header, form_as}
+use Rattle.line.proofs.Formed as F
+use Rattle.line.proofs.GoodForm.{grid-exactly}
 use Rattle.line.proofs.grid_line.read_grid_header.Goals as goal
-use Rattle.line.proofs.grid_line.read_grid_header.Goals.{then-end-line+else-r-end, else-end-line}
 
-pub slice_bounds-s-end : goal.slice_bounds-s-end
-slice_bounds-s-end c = sym (length-take-le _ _ (omega arith))
-
-pub returns-then-r-end : goal.returns-then-r-end
-unfolding read_grid_header
-returns-then-r-end c =
-    let line = c.args.line.now in
-    A.of-form (grid_as (Malformed (fault_of grid_shape line))) grid_form _ _ c.body_end-end.ensures (omega arith) c.header_fields-r.ensures _ c.if-r-end.true (λ h q. ap Header q)
+same : (f : Fault) (o : Option GridHeader) → form_as f (map capped_header o) ≡ grid_as (Err f) o
+same f none = refl
+same f (some header) = refl
 
 pub returns : goal.returns
 unfolding read_grid_header
-returns c =
-    let framed = c.body_end-end.ensures in
-    let line = c.args.line.now in
-    ap Malformed c.fault_of-fault.ensures
-    ∙ (elim c.if-end-line.branch [
-      | then-end-line+else-r-end w ↦ A.no-form (grid_as (Malformed (fault_of grid_shape line))) grid_form _ _ framed (omega arith) w.header_fields-r.ensures w.if-r-end.false
-      | else-end-line w ↦ A.no-frame (grid_as (Malformed (fault_of grid_shape line))) grid_form _ _ framed (omega arith)
-    ])
+returns c = let line = c.args.line.now in F.read grid_form capped_header line _ _ (grid-exactly line) c.read_form.ensures ∙ same _ (said grid_form line)

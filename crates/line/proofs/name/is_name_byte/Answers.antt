@@ -1,6 +1,5 @@
 -- `line::name::is_name_byte` meets its contract. Assumes nothing.
 use Rattle.line.proofs.NameBytes as B
-use Rattle.std.proofs.Common.{arith}
 use Rattle.line.proofs.name.is_name_byte.Goals as goal
 
 pub returns-then-b-lt45 : goal.returns-then-b-lt45

@@ -1,5 +1,5 @@
 -- `line::node_line::hyphen_line` meets its contract. Assumes nothing.
-use Rattle.std.proofs.Common.{arith, eq-eqb, ne_eqb}
+use Rattle.std.proofs.Common.{eq-eqb, ne_eqb}
 use Rattle.line.specs.Readers.{hyphen_line}
 use Rattle.line.proofs.node_line.hyphen_line.Goals as goal
 

@@ -1,6 +1,5 @@
 -- `line::number::above_zero` meets its contract. Assumes nothing.
 use Rattle.line.proofs.Numbers as N
-use Rattle.std.proofs.Common.{arith}
 use Rattle.line.proofs.number.above_zero.Goals as goal
 
 pub returns : goal.returns

@@ -13,12 +13,3 @@ returns-then-not-other_eight c =
     let y = F.spelt c.word-d.ensures (c.other_eight.ensures c.if-not-other_eight.true) in
     let v = F.says y (omega arith) in
     rw c.eight.ensures (L.carry 100000000 (L.unmoved g.s.now g.at g.first (omega arith)) v (omega (arith, v.less)))
-
-pub returns-else-not-other_eight : goal.returns-else-not-other_eight
-returns-else-not-other_eight c = L.unmoved _ _ _ (omega arith)
-
-pub returns-else-at-s : goal.returns-else-at-s
-returns-else-at-s c = L.unmoved _ _ _ (omega arith)
-
-pub returns-else-s-ge8 : goal.returns-else-s-ge8
-returns-else-s-ge8 c = L.unmoved _ _ _ (omega arith)

@@ -1,6 +1,5 @@
 -- `line::number::below_zero` meets its contract. Assumes nothing.
 use Rattle.line.proofs.Numbers as N
-use Rattle.std.proofs.Common.{arith}
 use Rattle.line.proofs.number.below_zero.Goals as goal
 
 pub overflow_sub-result : goal.overflow_sub-result

@@ -1,7 +1,6 @@
-use Rattle.std.proofs.Common.{ℕ, ◌-◌, ◌≤◌, length, ⊎_elim, arith}
+use Rattle.std.proofs.Common.{ℕ, ◌-◌, ◌≤◌, length}
 use Rattle.line.specs.Number.{digits}
 use Rattle.line.specs.Reading.{Got, capped}
-use Rattle.line.proofs.Numbers as N
 use Rattle.line.proofs.number.magnitude.Given as goal
 
 abbrev pub invariant-loop-i : goal.invariant-loop-i

@@ -1,6 +1,5 @@
-use Rattle.std.proofs.Common.{ℕ, ◌-◌, length, arith, rules}
+use Rattle.std.proofs.Common.{ℕ, ◌-◌, length}
 use Rattle.line.specs.Reading.{Long}
-use Rattle.line.proofs.Numbers as N
 use Rattle.line.proofs.number.rest.Given as goal
 
 abbrev pub invariant-loop-i : goal.invariant-loop-i

@@ -1,26 +1,34 @@
 -- `line::origin_line::read_origin` meets its contract. Assumes nothing.
-use Rattle.std.proofs.Common.{sym, ap, ◌∙◌, arith, length-take-le}
-use Rattle.line.proofs.Answers as A
-use Rattle.line.proofs.Faults as F
-use Rattle.line.specs.declared.OriginLine.TheVariants.{Malformed, Refused}
+use Rattle.std.proofs.lemmas.Result.{err_from_is_err_and}
+use Rattle.angle.specs.Ranges.{origin_fault}
+use Rattle.line.specs.Fields.{said}
+use Rattle.line.specs.Forms.{origin_form}
 use Rattle.line.specs.Readers.{read_origin}
+use Rattle.line.specs.Reading.{capped_origin}
+use Rattle.line.proofs.Faults.{careful-origin}
+use Rattle.line.proofs.Formed as F
+use Rattle.line.proofs.GoodForm.{origin-exactly}
 use Rattle.line.proofs.origin_line.read_origin.Goals as goal
-use Rattle.line.proofs.origin_line.read_origin.Goals.{then-end-line+else-r-end, else-end-line}
 
-pub slice_bounds-s-end : goal.slice_bounds-s-end
-slice_bounds-s-end c = sym (length-take-le _ _ (omega arith))
-
-pub returns-then-r-end : goal.returns-then-r-end
+pub returns-in_err-origin : goal.returns-in_err-origin
 unfolding read_origin
-returns-then-r-end c =
-    A.good-form _ _ Refused F.careful-origin _ _ _ _ c.body_end-end.ensures (omega arith) c.origin_fields-r.ensures _ c.if-r-end.true c.judge_origin.ensures
+returns-in_err-origin c =
+    let line = c.args.line.now in
+    let p = err_from_is_err_and c.from_residual.result c.from_residual.ensures.1 in
+    rw (p.1, p.2) (F.malformed origin_fault careful-origin _ (said origin_form line) _ (F.read origin_form capped_origin line _ _ (origin-exactly line) c.in_err-origin.ensures))
+
+pub returns-in_err-origin_fault : goal.returns-in_err-origin_fault
+unfolding read_origin
+returns-in_err-origin_fault c =
+    let line = c.args.line.now in
+    let p = err_from_is_err_and c.from_residual-in_err-origin_fault.result c.from_residual-in_err-origin_fault.ensures.1 in
+    rw (p.1, p.2)
+    (F.refused origin_fault careful-origin _ (said origin_form line) _ (F.read origin_form capped_origin line _ _ (origin-exactly line) c.in_ok-origin.ensures)
+    c.in_err-origin_fault.field-0.0 c.in_err-origin_fault.ensures)
 
 pub returns : goal.returns
 unfolding read_origin
 returns c =
-    let framed = c.body_end-end.ensures in
-    ap Malformed c.fault_of-fault.ensures
-    ∙ (elim c.if-end-line.branch [
-      | then-end-line+else-r-end w ↦ A.bad-form _ _ Refused F.careful-origin _ _ _ _ framed (omega arith) w.origin_fields-r.ensures w.if-r-end.false
-      | else-end-line w ↦ A.bad-frame _ _ Refused F.careful-origin _ _ _ _ framed (omega arith)
-    ])
+    let line = c.args.line.now in
+    F.good origin_fault careful-origin _ (said origin_form line) _ (F.read origin_form capped_origin line _ _ (origin-exactly line) c.in_ok-origin.ensures)
+    c.in_ok-origin_fault.ensures

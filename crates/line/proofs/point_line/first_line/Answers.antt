@@ -6,7 +6,6 @@ use Rattle.line.proofs.point_line.first_line.Goals as goal
 
 pub returns : goal.returns
 returns c =
-    λ e.
     let n0 = c.letter-at in
     let n1 = c.name-named in
     let n2 = c.of_few-issue in
@@ -15,8 +14,8 @@ returns c =
     let n5 = c.of_seven-epoch in
     let n6 = c.of_minus_twelve-x in
     let n7 = c.of_twelve-y in
-    let n8 = c.last_field-last in
-    let z = n8.ensures e in
+    let n8 = c.in_ok-z in
+    let z = n8.ensures in
     let a7 = ahead n7.ensures (omega (arith, z.behind, z.inside)) in
     let a6 = ahead n6.ensures (omega (arith, a7, z.behind, z.inside)) in
     let a5 = ahead n5.ensures (omega (arith, a6, a7, z.behind, z.inside)) in

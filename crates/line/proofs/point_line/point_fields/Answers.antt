@@ -1,6 +1,5 @@
 -- `line::point_line::point_fields` meets its contract. Assumes nothing.
 use Rattle.line.proofs.Places.{point-told}
-use Rattle.std.proofs.Common.{arith}
 use Rattle.line.proofs.point_line.point_fields.Goals as goal
 
 pub returns : goal.returns

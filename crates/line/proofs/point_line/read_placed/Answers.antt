@@ -1,7 +1,7 @@
 -- `line::point_line::read_placed` meets its contract. Assumes nothing.
-use Rattle.std.proofs.Common.{◌≡◌, ℕ, List, length, take, ℤ, sym, refl, ap, ◌∙◌, arith, length-drop, length-take-le, take_all, to_z-of_z}
+use Rattle.std.proofs.Common.{◌≡◌, ℕ, List, length, take, ℤ, sym, ap, ◌∙◌, arith, length-take-le, take_all, to_z-of_z}
 use Rattle.chain.specs.Faults.{point_fault}
-use Rattle.line.specs.declared.PointLine.TheVariants as line
+use Rattle.line.specs.Answers.{Good, Refused}
 use Rattle.line.specs.Lines.{line_at, line_end}
 use Rattle.line.specs.Readers.{judged}
 use Rattle.line.proofs.AsWritten.{placed, one-read}
@@ -16,18 +16,18 @@ returns-then-input-from c =
 
 pub overflow_add-result : goal.overflow_add-result
 overflow_add-result c =
-    let f = rw (rest c.args.input.now c.args.from) at (c.first_line-first.ensures c.if-first.true) in
+    let f = rw (rest c.args.input.now c.args.from) at (c.in-Some.ensures) in
     let w = line_of c.args.input.now c.args.from _ f.ends in
     let i = line-inside c.args.input.now c.args.from _ w.1 (omega arith) in
     record { fits = omega (arith, i.1) }
 
-pub returns-then-first : goal.returns-then-first
-returns-then-first c =
-    let f = rw (rest c.args.input.now c.args.from) at (c.first_line-first.ensures c.if-first.true) in
+pub returns-in-Some : goal.returns-in-Some
+returns-in-Some c =
+    let f = rw (rest c.args.input.now c.args.from) at (c.in-Some.ensures) in
     let y = c.args.profile in
     let w = line_of c.args.input.now c.args.from _ f.ends in
     let l = line_at c.args.input.now c.args.from in
-    let j = c.judge_point.ensures ∙ ap (λ (z : ℤ). judged (point_fault z) line.Point line.Refused c.first_line-first.result.point) (to_z-of_z c.ranges.profile) in
+    let j = c.judge_point.ensures ∙ ap (λ (z : ℤ). judged (point_fault z) Good Refused c.in-Some.first.point) (to_z-of_z c.ranges.profile) in
     let says = rw w.0 at f.says in
     placed y c.args.input.now c.args.from (answered y l (good y l j f.point f.told ∙ ap (answer y l) (sym says))) w.1
 

@@ -1,5 +1,5 @@
 -- `line::point_line::read_point` meets its contract. Assumes nothing.
-use Rattle.std.proofs.Common.{ap, ◌∙◌, arith, to_z-of_z}
+use Rattle.std.proofs.Common.{to_z-of_z}
 use Rattle.line.proofs.AsWritten.{one-read}
 use Rattle.line.proofs.point_line.read_point.Goals as goal
 

@@ -1,5 +1,5 @@
 -- `line::second_look::after` meets its contract. Assumes nothing.
-use Rattle.std.proofs.Common.{◌-◌, length, arith}
+use Rattle.std.proofs.Common.{◌≡◌, length, arith}
 use Rattle.line.proofs.SecondLook as L
 use Rattle.line.proofs.second_look.after.Goals as goal
 
@@ -19,4 +19,7 @@ loop-i-preserved c =
     L.begun-on g.s.now g.at k.loop-i.i k.loop-i.invariant (omega arith) c.if-s-i-eq-TAB.false
 
 pub returns : goal.returns
-returns c = let g = c.args in L.begun-end g.s.now g.at c.loop-i.i c.loop-i.invariant (omega arith)
+returns c =
+    let g = c.args in
+    let e : c.loop-i.i ≡ length g.s.now = omega (arith, c.loop-i.invariant.inside) in
+    rw e at (L.begun-end g.s.now g.at c.loop-i.i c.loop-i.invariant (omega arith))

@@ -1,9 +1,5 @@
-use Rattle.std.proofs.Common.{◌-◌, length, arith}
 use Rattle.line.proofs.SecondLook as L
 use Rattle.line.proofs.second_look.after.Given as goal
 
 abbrev pub invariant-loop-i : goal.invariant-loop-i
 invariant-loop-i l = L.Begun l.s l.at l.i
-
-abbrev pub decreases-loop-i : goal.decreases-loop-i
-decreases-loop-i l = length l.s - l.i

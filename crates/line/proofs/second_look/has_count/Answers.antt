@@ -1,5 +1,4 @@
 -- `line::second_look::has_count` meets its contract. Assumes nothing.
-use Rattle.std.proofs.Common.{arith}
 use Rattle.line.proofs.second_look.has_count.Goals as goal
 
 pub returns : goal.returns

@@ -1,5 +1,5 @@
 -- `line::second_look::is_counted` meets its contract. Assumes nothing.
-use Rattle.std.proofs.Common.{eqb, List, length, ap, ◌∙◌, arith}
+use Rattle.std.proofs.Common.{eqb, List, length, ap, ◌∙◌}
 use Rattle.line.specs.Fields.{fields}
 use Rattle.line.specs.Malformed.{Class}
 use Rattle.line.proofs.second_look.is_counted.Goals as goal

@@ -1,5 +1,5 @@
 -- `line::second_look::kind_in` meets its contract. Assumes nothing.
-use Rattle.std.proofs.Common.{ap, arith}
+use Rattle.std.proofs.Common.{ap}
 use Rattle.line.specs.Fields.{fields}
 use Rattle.line.specs.Malformed.{kind_of}
 use Rattle.line.specs.SecondLook.{classes_of}

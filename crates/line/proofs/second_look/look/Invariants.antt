@@ -1,8 +1,5 @@
-use Rattle.std.proofs.Common.{◌+◌, ◌-◌, length, ap, ◌∙◌, arith}
-use mathlib.Core.Option.{Option}
-use Rattle.line.specs.Malformed.{Class}
-use Rattle.line.specs.Reading.{from}
-use Rattle.line.specs.SecondLook.{classes_of, first_fault}
+use Rattle.std.proofs.Common.{◌+◌, ◌-◌, length}
+use Rattle.line.specs.SecondLook.{classes_of}
 use Rattle.line.proofs.SecondLook as L
 use Rattle.line.proofs.second_look.look.Given as goal
 

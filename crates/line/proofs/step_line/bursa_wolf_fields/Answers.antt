@@ -1,5 +1,5 @@
 -- `line::step_line::bursa_wolf_fields` meets its contract. Assumes nothing.
-use Rattle.std.proofs.Common.{◌≡◌, ap, ◌∙◌, arith, w64, to_z, of_z}
+use Rattle.std.proofs.Common.{◌≡◌, ap, ◌∙◌, w64, to_z, of_z}
 use Rattle.line.proofs.Places.{told}
 use Rattle.line.proofs.Walk as W
 use Rattle.line.specs.Forms.{bursa_wolf_form, convention_of}

@@ -1,5 +1,5 @@
 -- `line::step_line::step_fields` meets its contract. Assumes nothing.
-use Rattle.std.proofs.Common.{◌≡◌, ◌∙◌, arith, w64, to_z, of_z}
+use Rattle.std.proofs.Common.{◌≡◌, ◌∙◌, w64, to_z, of_z}
 use Rattle.line.proofs.Places.{told}
 use Rattle.line.proofs.Walk as W
 use Rattle.line.specs.Forms.{step_form, step_of}

@@ -1,6 +1,6 @@
 -- `line::write::byte` meets its contract. Assumes nothing.
 use lib.Seq.{set_out}
-use Rattle.std.proofs.Common.{sym, arith, rules}
+use Rattle.std.proofs.Common.{sym, arith}
 use Rattle.line.proofs.write.byte.Goals as goal
 
 pub returns-else-at-out : goal.returns-else-at-out

@@ -1,5 +1,5 @@
 -- `line::write::cut_moved` meets its contract. Assumes nothing.
-use Rattle.std.proofs.Common.{◌≡◌, arith, w64, to_z, of_z, rules}
+use Rattle.std.proofs.Common.{◌≡◌, w64, to_z, of_z, rules}
 use Rattle.line.proofs.Moved as M
 use Rattle.line.proofs.Texts as T
 use Rattle.line.proofs.write.cut_moved.Goals as goal

@@ -1,6 +1,5 @@
 -- `line::write::letter` meets its contract. Assumes nothing.
 use Rattle.line.proofs.Texts as T
-use Rattle.std.proofs.Common.{arith}
 use Rattle.line.proofs.write.letter.Goals as goal
 
 pub returns : goal.returns

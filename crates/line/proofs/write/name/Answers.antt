@@ -1,6 +1,5 @@
 -- `line::write::name` meets its contract. Assumes nothing.
 use Rattle.line.proofs.Texts as T
-use Rattle.std.proofs.Common.{arith}
 use Rattle.line.proofs.write.name.Goals as goal
 
 pub returns : goal.returns

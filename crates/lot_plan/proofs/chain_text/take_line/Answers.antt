@@ -1,13 +1,13 @@
 -- `lot_plan::chain_text::take_line` meets its contract. Assumes nothing.
+use borrow.Author.Rules.{rules}
 use mathlib.Core.Path.{◌≡◌, ap}
 use mir.Syntax.{w64}
 use mir.Val.{to_z, of_z}
 use borrow.Author.Tests.{eq-eqb, ne_eqb}
-use Rattle.line.specs.declared.Fault.{Fault}
+use Rattle.std.proofs.Common.{Result, Err, ℤ, ℕ}
+use Rattle.line.specs.Answers.{Fault}
 use Rattle.line.specs.Bytes.{letter_s, letter_e}
-use Rattle.lot_plan.specs.declared.Read.TheVariants.{Refused}
 use Rattle.lot_plan.specs.LotPlan.{with_line}
-use borrow.Author.Rules.{rules}
 use Rattle.lot_plan.proofs.chain_text.take_line.Goals as goal
 
 pub returns-then-letter-eq83 : goal.returns-then-letter-eq83
@@ -24,9 +24,11 @@ returns-then-letter-eq69 c =
     λ ss none h.
     rw (ne_eqb _ letter_s c.if-letter-eq83.false, eq-eqb _ letter_e c.if-letter-eq69.true) (c.take_edition.ensures _ ss _ none h)
 
+told-fault : Fault → Result ℤ ℕ
+told-fault f = Err f.number
+
 pub returns : goal.returns
-unfolding with_line
+unfolding with_line told-fault
 returns c =
     λ ss none h.
-    rw (ne_eqb _ letter_s c.if-letter-eq83.false, ne_eqb _ letter_e c.if-letter-eq69.false)
-    (ap (λ (f : Fault). Refused f.number) c.strange-fault.ensures)
+    rw (ne_eqb _ letter_s c.if-letter-eq83.false, ne_eqb _ letter_e c.if-letter-eq69.false) (ap told-fault c.strange.ensures)

@@ -1,5 +1,4 @@
 -- `oblique_mercator::from_plane::find` meets its contract: the formulas are the written ones, and each literal is the f64 of its number, which antt computes. Assumes nothing.
-use borrow.Author.Rules.{rules}
 use lib.Ieee.{of_bits, round}
 use Rattle.oblique_mercator.specs.Reverse.{found_of}
 use Rattle.angle.proofs.UnitLaws.{seconds-is}

@@ -1,16 +1,12 @@
 -- `oblique_mercator::from_plane::reverse` meets its contract: the projection decides first, and then the point on it. Assumes nothing.
-use borrow.Author.Rules.{rules}
-use mathlib.Core.Path.{◌≡◌, sym, ◌∙◌}
+use Rattle.angle.proofs.Exits.{told-is}
 use Rattle.oblique_mercator.specs.Reverse.{reverse_of}
 use Rattle.oblique_mercator.proofs.from_plane.reverse.Goals as goal
 
-pub returns-in-Refused : goal.returns-in-Refused
+pub returns-in_err-make_projection : goal.returns-in_err-make_projection
 unfolding reverse_of
-returns-in-Refused c = let e = sym c.make_projection.ensures ∙ c.in-Refused.is in rw e
+returns-in_err-make_projection c = rw (← c.in_err-make_projection.ensures) (told-is c.from_residual.result _ c.from_residual.ensures.1)
 
-pub returns-in-Made : goal.returns-in-Made
+pub returns : goal.returns
 unfolding reverse_of
-returns-in-Made c =
-    let a = c in
-    let e = sym c.make_projection.ensures ∙ c.in-Made.is in
-    rw e (cc)
+returns c = rw (← c.in_ok-make_projection.ensures) c.reverse_from.ensures

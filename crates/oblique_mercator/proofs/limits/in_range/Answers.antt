@@ -1,9 +1,6 @@
 -- `oblique_mercator::limits::in_range` meets its contract. Assumes nothing.
-use borrow.Author.Rules.{rules}
 use mathlib.Core.Path.{◌∙◌, ap, ap₂}
 use mathlib.Core.Bool.{◌&&◌}
-use mir.Val.{SFits}
-use mir.Syntax.{w64}
 use Rattle.rounding.proofs.Machine.{told}
 use Rattle.ranges.specs.Ranges.{ellipsoid_range, longitude_range, offset_range}
 use Rattle.oblique_mercator.specs.Parameters.{centre_range, angle_range, centre_scale_range, parameters_range}

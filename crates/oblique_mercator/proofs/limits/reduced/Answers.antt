@@ -1,30 +1,22 @@
 -- `oblique_mercator::limits::reduced` meets its contract. Assumes nothing.
-use borrow.Author.Rules.{rules}
-use mathlib.Core.Path.{◌≡◌, sym, ap, ◌∙◌, subst}
-use mathlib.Core.Bool.{Bool, true, false}
+use mathlib.Core.Path.{◌≡◌, sym, subst}
+use mathlib.Core.Bool.{Bool, true}
 use Prim.Native.Nat.{◌≤◌}
 use native.Mathlib.Omega.{arith}
 use lib.IntN.{ℤ, pos, nat_abs, ◌-ℤ◌}
 use mir.Syntax.{w64}
 use mir.Val.{SFits, to_z, of_z}
 use mir.ValLaws.{to_z-of_z}
-use Rattle.refusal.specs.Order.{pick}
 use Rattle.ranges.proofs.Ranges.{told, natural}
 use Rattle.rounding.proofs.Zn as zn
 use Rattle.rounding.proofs.Zn.{◌⊖◌}
 use Rattle.angle.proofs.Wholes.{fits}
 use Rattle.oblique_mercator.specs.Parameters.{past_turn, reduced}
 use Rattle.oblique_mercator.proofs.Wholes.{sized-upto}
-use Rattle.oblique_mercator.proofs.limits.reduced.Tie as tie
-use Rattle.oblique_mercator.proofs.limits.reduced.Lts as lts
-use Rattle.oblique_mercator.proofs.limits.reduced.Reads as reads
 use Rattle.oblique_mercator.proofs.limits.reduced.Goals as goal
 
-abbrev TheAfterWithin : Type 0
-TheAfterWithin = lts.After-within tie.the-claims reads.Pre reads.Post
-
-past : (c : TheAfterWithin) (t : Bool) → c.within.result ≡ t → past_turn c.args.z ≡ t
-past c t h = told (pos 108000000000) c.args.z (pos 118800000000) c.ranges.z c.within.ensures h
+past : (z : ℤ) {r t : Bool} → SFits w64 z → r ≡ past_turn (to_z w64 (of_z w64 z)) → r ≡ t → past_turn z ≡ t
+past z f e h = told (pos 108000000000) z (pos 118800000000) f e h
 
 -- less a full turn it fits
 less-fits : (z : ℤ) → past_turn z ≡ true → SFits w64 (z -ℤ pos 129600000000)
@@ -37,20 +29,18 @@ less-fits z h =
 
 pub overflow_sub-result : goal.overflow_sub-result
 overflow_sub-result c =
-    let a = c in
-    rw (to_z-of_z w64 a.args.z a.ranges.z) (less-fits a.args.z (past c.before true c.if-within.true))
+    let z = c.args.z in
+    let f = c.ranges.z in
+    rw (to_z-of_z w64 z f) (less-fits z (past z f c.is_past_turn.ensures c.if-is_past_turn.true))
 
-pub returns-then-within : goal.returns-then-within
+pub returns-then-is_past_turn : goal.returns-then-is_past_turn
 unfolding reduced
-returns-then-within c =
-    let a = c in
-    let e = past c.before true c.if-within.true in
-    let z : to_z w64 (of_z w64 a.args.z) ≡ a.args.z = to_z-of_z w64 a.args.z a.ranges.z in
-    let d : to_z w64 (of_z w64 (a.args.z -ℤ pos 129600000000)) ≡ a.args.z -ℤ pos 129600000000 = to_z-of_z w64 (a.args.z -ℤ pos 129600000000) (less-fits a.args.z e) in
-    rw (z, d, e)
+returns-then-is_past_turn c =
+    let z = c.args.z in
+    let f = c.ranges.z in
+    let e = past z f c.is_past_turn.ensures c.if-is_past_turn.true in
+    rw (to_z-of_z w64 z f, to_z-of_z w64 (z -ℤ pos 129600000000) (less-fits z e), e)
 
 pub returns : goal.returns
 unfolding reduced
-returns c =
-    let a = c in
-    rw (to_z-of_z w64 a.args.z a.ranges.z, past c.before false c.if-within.false)
+returns c = rw (to_z-of_z w64 c.args.z c.ranges.z, past c.args.z c.ranges.z c.is_past_turn.ensures c.if-is_past_turn.false)

@@ -1,10 +1,7 @@
 -- `oblique_mercator::making::make_projection` meets its contract: the ranges decide, and then the values. Assumes nothing.
-use borrow.Author.Rules.{rules}
-use mathlib.Core.Path.{◌≡◌, sym, ap, ◌∙◌}
-use borrow.Author.Tests.{not-true, not-false}
-use Rattle.oblique_mercator.specs.Parameters.{parameters_range}
+use mathlib.Core.Path.{sym, ap, ◌∙◌}
 use Rattle.oblique_mercator.specs.Projection.{projection_of}
-use Rattle.oblique_mercator.specs.declared.ProjectionAnswer.TheVariants.{Made}
+use Rattle.std.specs.Prelude.{Ok}
 use Rattle.oblique_mercator.proofs.making.make_projection.Goals as goal
 
 pub returns-then-not-in_range : goal.returns-then-not-in_range
@@ -16,4 +13,4 @@ made-requires c = sym c.in_range.ensures ∙ c.if-not-in_range.false
 
 pub returns : goal.returns
 unfolding projection_of
-returns c = let e = sym c.in_range.ensures ∙ c.if-not-in_range.false in rw e (ap Made c.made.ensures)
+returns c = let e = sym c.in_range.ensures ∙ c.if-not-in_range.false in rw e (ap Ok c.made.ensures)

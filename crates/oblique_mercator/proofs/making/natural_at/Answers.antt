@@ -1,5 +1,4 @@
 -- `oblique_mercator::making::natural_at` meets its contract: the formulas are the written ones, and each literal is the f64 of its number, which antt computes. Assumes nothing.
-use borrow.Author.Rules.{rules}
 use lib.Ieee.{of_bits, round}
 use Rattle.oblique_mercator.specs.Projection.{natural_of}
 use Rattle.oblique_mercator.proofs.making.natural_at.Goals as goal

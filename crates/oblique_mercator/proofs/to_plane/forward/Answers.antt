@@ -1,21 +1,18 @@
 -- `oblique_mercator::to_plane::forward` meets its contract: the projection decides first, and then the point on it. Assumes nothing.
-use borrow.Author.Rules.{rules}
-use mathlib.Core.Path.{◌≡◌, sym, ◌∙◌}
+use mathlib.Core.Path.{ap₂, ◌∙◌}
 use mir.Syntax.{w64}
-use mir.Val.{to_z, of_z}
 use mir.ValLaws.{to_z-of_z}
-use Rattle.oblique_mercator.specs.Forward.{forward_of}
+use Rattle.angle.proofs.Exits.{told-is}
+use Rattle.oblique_mercator.specs.Forward.{forward_from_of, forward_of}
 use Rattle.oblique_mercator.proofs.to_plane.forward.Goals as goal
 
-pub returns-in-Refused : goal.returns-in-Refused
+pub returns-in_err-make_projection : goal.returns-in_err-make_projection
 unfolding forward_of
-returns-in-Refused c = let e = sym c.make_projection.ensures ∙ c.in-Refused.is in rw e
+returns-in_err-make_projection c = rw (← c.in_err-make_projection.ensures) (told-is c.from_residual.result _ c.from_residual.ensures.1)
 
-pub returns-in-Made : goal.returns-in-Made
+pub returns : goal.returns
 unfolding forward_of
-returns-in-Made c =
-    let a = c in
-    let lat : to_z w64 (of_z w64 a.args.latitude) ≡ a.args.latitude = to_z-of_z w64 a.args.latitude a.ranges.latitude in
-    let lon : to_z w64 (of_z w64 a.args.longitude) ≡ a.args.longitude = to_z-of_z w64 a.args.longitude a.ranges.longitude in
-    let e = sym c.make_projection.ensures ∙ c.in-Made.is in
-    rw e (cc)
+returns c =
+    let a = c.args in
+    rw (← c.in_ok-make_projection.ensures)
+    (c.forward_from.ensures ∙ ap₂ (forward_from_of c.in_ok-make_projection.field-0) (to_z-of_z w64 a.latitude c.ranges.latitude) (to_z-of_z w64 a.longitude c.ranges.longitude))

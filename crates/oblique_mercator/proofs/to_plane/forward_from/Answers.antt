@@ -1,71 +1,53 @@
 -- `oblique_mercator::to_plane::forward_from` meets its contract: each return has the tests that led there. Assumes nothing.
 use borrow.Author.Rules.{rules}
-use mathlib.Core.Path.{◌≡◌, sym, ap₂, ◌∙◌}
-use mathlib.Core.Bool.{Bool, true, false}
-use borrow.Author.Tests.{not-true, not-false}
-use lib.IntN.{pos}
+use borrow.Author.Tests.{not-false}
+use mathlib.Core.Path.{◌≡◌, sym, ap, ap₂, ◌∙◌}
+use mathlib.Core.Bool.{Bool}
+use lib.IntN.{ℤ, pos}
 use mir.Syntax.{w64}
-use mir.Val.{to_z, of_z}
+use mir.Val.{SFits, to_z, of_z}
 use mir.ValLaws.{to_z-of_z}
-use Rattle.ranges.specs.Ranges.{latitude_range, longitude_range}
+use Rattle.std.specs.Prelude.{Ok, Err}
+use Rattle.refusal.specs.Refusals.{number}
+use Rattle.refusal.specs.declared.Refusal.{Refusal}
+use Rattle.refusal.specs.Order.{first}
+use Rattle.refusal.proofs.Refusals.{unless-number}
+use Rattle.ranges.specs.Ranges.{within, longitude_range}
 use Rattle.ranges.proofs.Ranges.{told}
-use Rattle.oblique_mercator.specs.Forward.{forward_from_of}
-use Rattle.oblique_mercator.proofs.to_plane.forward_from.Tie as tie
-use Rattle.oblique_mercator.proofs.to_plane.forward_from.Lts as lts
-use Rattle.oblique_mercator.proofs.to_plane.forward_from.Reads as reads
+use Rattle.angle.specs.Ranges.{angle_tests}
+use Rattle.angle.proofs.Exits.{told-is}
+use Rattle.angle.proofs.NoFault.{angles-read, angles-passed}
+use Rattle.oblique_mercator.specs.Forward.{plane_at, forward_from_of}
 use Rattle.oblique_mercator.proofs.to_plane.forward_from.Goals as goal
 
-abbrev TheAfterIsLatitude : Type 0
-TheAfterIsLatitude = lts.After-is_latitude tie.the-claims reads.Pre reads.Post
-
-abbrev TheAfterIsLongitude : Type 0
-TheAfterIsLongitude = lts.After-is_longitude tie.the-claims reads.Pre reads.Post
-
-abbrev TheAfterIsLongitude2 : Type 0
-TheAfterIsLongitude2 = lts.After-is_longitude2 tie.the-claims reads.Pre reads.Post
-
-abbrev TheElse3 : Type 0
-TheElse3 = lts.Else3 tie.the-claims reads.Pre reads.Post
-
-centre : (c : TheAfterIsLongitude) (t : Bool) → c.is_longitude.result ≡ t → longitude_range c.args.p.centre ≡ t
-centre c t h = told (pos 35640000000) c.args.p.centre (pos 43200000000) (search rules) c.is_longitude.ensures h
-
-latitude : (c : TheAfterIsLatitude) (t : Bool) → c.is_latitude.result ≡ t → latitude_range c.args.latitude ≡ t
-latitude c t h = let a = c in told (pos 0) a.args.latitude (pos 2880000000) a.ranges.latitude c.is_latitude.ensures h
-
-longitude : (c : TheAfterIsLongitude2) (t : Bool) → c.is_longitude-2.result ≡ t → longitude_range c.args.longitude ≡ t
-longitude c t h =
-    let a = c in
-    told (pos 35640000000) a.args.longitude (pos 43200000000) a.ranges.longitude c.is_longitude-2.ensures h
+-- what the test says of the centre
+centre : (z : ℤ) {r t : Bool} → SFits w64 z → r ≡ within (pos 35640000000) (to_z w64 (of_z w64 z)) (pos 43200000000) → r ≡ t → longitude_range z ≡ t
+centre z f e h = told (pos 35640000000) z (pos 43200000000) f e h
 
 pub returns-then-not-is_longitude : goal.returns-then-not-is_longitude
 unfolding forward_from_of
-returns-then-not-is_longitude c = rw (centre c.before false (c.if-not-is_longitude.true))
+returns-then-not-is_longitude c = rw (centre c.args.p.centre (search rules) c.is_longitude.ensures c.if-not-is_longitude.true)
 
-pub returns-then-not-is_latitude : goal.returns-then-not-is_latitude
+pub returns-in_err-angles_fault : goal.returns-in_err-angles_fault
 unfolding forward_from_of
-returns-then-not-is_latitude c = rw (centre c.before.before.before true (c.if-not-is_longitude.false), latitude c.before false (c.if-not-is_latitude.true))
-
-pub returns-then-not-is_longitude-2 : goal.returns-then-not-is_longitude-2
-unfolding forward_from_of
-returns-then-not-is_longitude-2 c = rw (centre c.before.before.before.before.before true (c.if-not-is_longitude.false), latitude c.before.before.before true (c.if-not-is_latitude.false), longitude c.before false (c.if-not-is_longitude-2.true))
-
--- past all three
-all : (c : TheElse3)
-    → (longitude_range c.args.p.centre ≡ true) × (latitude_range c.args.latitude ≡ true) × (longitude_range c.args.longitude ≡ true)
-all c = (centre c.before.before.before.before.before true (c.if-not-is_longitude.false), latitude c.before.before.before true (c.if-not-is_latitude.false), longitude c.before true (c.if-not-is_longitude-2.false))
+returns-in_err-angles_fault c =
+    let a = c.args in
+    let r : Refusal = c.in_err-angles_fault.field-0.0 in
+    let e : number r ≡ first (angle_tests a.latitude a.longitude) = c.in_err-angles_fault.ensures ∙ angles-read a.latitude a.longitude c.ranges.latitude c.ranges.longitude in
+    rw (centre a.p.centre (search rules) c.is_longitude.ensures c.if-not-is_longitude.false)
+    (told-is c.from_residual.result r c.from_residual.ensures.1 ∙ sym (unless-number r (first (angle_tests a.latitude a.longitude)) Err (Ok (plane_at a.p a.latitude a.longitude)) e))
 
 pub project-requires : goal.project-requires
 project-requires c =
-    let a = c in
-    let p = all c.before in
-    rw (to_z-of_z w64 a.args.latitude a.ranges.latitude, to_z-of_z w64 a.args.longitude a.ranges.longitude) (p.1, p.2, p.0)
+    let a = c.args in
+    let p = angles-passed a.latitude a.longitude c.ranges.latitude c.ranges.longitude c.in_ok-angles_fault.ensures in
+    rw (to_z-of_z w64 a.latitude c.ranges.latitude, to_z-of_z w64 a.longitude c.ranges.longitude)
+    (not-false _ p.0, not-false _ p.1.0, centre a.p.centre (search rules) c.is_longitude.ensures c.if-not-is_longitude.false)
 
 pub returns : goal.returns
 unfolding forward_from_of
 returns c =
-    let a = c in
-    let p = all c.before in
-    let lat : to_z w64 (of_z w64 a.args.latitude) ≡ a.args.latitude = to_z-of_z w64 a.args.latitude a.ranges.latitude in
-    let lon : to_z w64 (of_z w64 a.args.longitude) ≡ a.args.longitude = to_z-of_z w64 a.args.longitude a.ranges.longitude in
-    rw (p.0, p.1, p.2) (cc)
+    let a = c.args in
+    let p = angles-passed a.latitude a.longitude c.ranges.latitude c.ranges.longitude c.in_ok-angles_fault.ensures in
+    rw (centre a.p.centre (search rules) c.is_longitude.ensures c.if-not-is_longitude.false, p.0, p.1.0)
+    (ap Ok (c.project.ensures ∙ ap₂ (plane_at a.p) (to_z-of_z w64 a.latitude c.ranges.latitude) (to_z-of_z w64 a.longitude c.ranges.longitude)))

@@ -1,5 +1,4 @@
 -- `oblique_mercator::to_plane::plane` meets its contract: the formulas are the written ones, and each literal is the f64 of its number, which antt computes. Assumes nothing.
-use borrow.Author.Rules.{rules}
 use Rattle.oblique_mercator.specs.Forward.{plane_of}
 use Rattle.oblique_mercator.proofs.to_plane.plane.Goals as goal
 

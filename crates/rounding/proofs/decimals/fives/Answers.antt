@@ -1,5 +1,4 @@
 -- `rounding::decimals::fives` meets its contract: each arm's power computes, and no other number of places comes here. Assumes nothing.
-use borrow.Author.Rules.{rules}
 use mathlib.Core.Path.{◌≡◌, sym, ap}
 use Prim.Native.Nat.{ℕ, ◌^◌}
 use Rattle.rounding.proofs.decimals.fives.Goals as goal

@@ -1,5 +1,4 @@
 -- `rounding::decimals::scaled` meets its contract: `Halves` has what it returns and what fits. Assumes nothing.
-use borrow.Author.Rules.{rules}
 use mathlib.Core.Path.{ap, ◌∙◌}
 use Prim.Native.Nat.{ℕ, ◌+◌, ◌-◌, ◌*◌, ◌/◌, ◌^◌, ◌≤◌}
 use native.Mathlib.Nat.{le_of_eq, le_trans}

@@ -1,5 +1,4 @@
 -- `rounding::decimals::signed` meets its contract: `Pattern` has the sign as the machine works it out. Assumes nothing.
-use borrow.Author.Rules.{rules}
 use mathlib.Core.Path.{sym, ap, ◌∙◌}
 use mathlib.Core.Bool.{Bool}
 use mir.Syntax.{w64}

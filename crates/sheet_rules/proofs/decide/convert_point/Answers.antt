@@ -2,26 +2,26 @@
 use mathlib.Core.Path.{◌≡◌, refl, sym, ◌∙◌}
 use mathlib.Core.Bool.{true, false, or-true}
 use Rattle.sheet_rules.proofs.Laws.{answered, gave-refusal, gave-point}
+use mir.Syntax.{w64}
+use mir.Val.{to_z, of_z}
+use borrow.Author.Rules.{rules}
 use Rattle.sheet_rules.proofs.decide.convert_point.Goals as goal
 
 pub returns-then-state : goal.returns-then-state
 returns-then-state c =
-    λ s h. let q : s.refused ≡ true = sym h.refused ∙ c.if-state.true in rw q (gave-refusal h _ _ _ _ refl (sym (or-true s.closed)) _ _ _ c.refuse.ensures)
-
-pub returns-in-Refused : goal.returns-in-Refused
-returns-in-Refused c =
     λ s h.
-    let f = c in
-    let b = c in
-    let q : s.refused ≡ false = sym h.refused ∙ c.if-state.false in
-    let e = answered h b.args.point b.requires.1 f.forward_prepared.ensures c.in-Refused.is in
-    rw (q, e) (gave-refusal h _ _ _ _ refl (sym (or-true s.closed)) _ _ _ c.refuse-in-Refused.ensures)
+    let q : s.refused ≡ true = sym h.refused ∙ c.if-state.true in rw q (gave-refusal h _ _ _ _ c.if-state.true (sym (or-true s.closed)) _ _ _ (rw c.closing-closed.ensures at c.refuse.ensures))
 
-pub returns-in-Converted : goal.returns-in-Converted
-returns-in-Converted c =
+pub returns-in-Err : goal.returns-in-Err
+returns-in-Err c =
     λ s h.
-    let f = c in
-    let b = c in
     let q : s.refused ≡ false = sym h.refused ∙ c.if-state.false in
-    let e = answered h b.args.point b.requires.1 f.forward_prepared.ensures c.in-Converted.is in
-    rw (q, e) (gave-point h _ _ _ _ refl (sym (or-true s.closed)) _ _ refl c.after-next.ensures)
+    let e = answered h c.args.point c.requires (sym c.in-Err.ensures) in
+    rw (q, e) (gave-refusal h _ _ _ _ c.if-state.false (sym (or-true s.closed)) _ _ _ (rw c.closing-closed.ensures at c.refuse-in-Err.ensures))
+
+pub returns-in-Ok : goal.returns-in-Ok
+returns-in-Ok c =
+    λ s h.
+    let q : s.refused ≡ false = sym h.refused ∙ c.if-state.false in
+    let e = answered h c.args.point c.requires (sym c.in-Ok.ensures) in
+    rw (q, e) (gave-point h _ _ _ _ c.if-state.false (sym (or-true s.closed)) _ _ refl c.closing-closed.ensures)

@@ -8,14 +8,16 @@ use borrow.Author.Rules.{rules}
 use Rattle.sheet_rules.proofs.decide.take_edition.Goals as goal
 
 pub returns-then-state-ne1 : goal.returns-then-state-ne1
-returns-then-state-ne1 c = λ s l h. gave-late-edition h c.args.year (λ e. omega (arith, e)) _ c.refuse.ensures
+returns-then-state-ne1 c =
+    λ s l h.
+    gave-late-edition h c.args.year (λ e. omega (arith, e)) _ (rw c.blocked-refused.ensures at c.refuse.ensures)
 
 pub returns-then-not-is_profile : goal.returns-then-not-is_profile
 returns-then-not-is_profile c =
     λ s l h.
     let y = c.args.year in
     let e : to_z w64 (of_z w64 y) ≡ y = search rules in
-    gave-no-edition h y (omega arith) (sym (rw e at c.is_profile.ensures) ∙ c.if-not-is_profile.true) _ c.refuse-then-not-is_profile.ensures
+    gave-no-edition h y (omega arith) (sym (rw e at c.is_profile.ensures) ∙ c.if-not-is_profile.true) _ (rw c.blocked-refused.ensures at c.refuse-then-not-is_profile.ensures)
 
 pub returns : goal.returns
 returns c =

@@ -4,96 +4,123 @@ use native.Mathlib.Omega.{arith}
 use mathlib.Core.Path.{◌≡◌, sym, ◌∙◌, ap, ap₂}
 use mathlib.Core.List.{List}
 use Prim.Native.Nat.{ℕ, ◌*◌, ◌≤◌}
-use lib.IntN.{ℤ, nat_abs}
-use lib.ListN.{length, take}
+use lib.IntN.{ℤ, pos, nat_abs}
+use lib.ListN.{length, take, replicate, length-replicate}
 use lib.Seq.{sets, length-sets, length-take-le}
-use Rattle.rounding.proofs.Machine.{rd, told}
+use mir.Syntax.{w64}
+use mir.Val.{SFits}
+use mir.ValLaws.{to_z-of_z}
+use Rattle.std.specs.Prelude.{Result, Ok, Err}
+use Rattle.rounding.proofs.Machine.{rd}
+use Rattle.chain.specs.declared.Velocity.{Velocity}
 use Rattle.line.specs.declared.GridHeader.{GridHeader}
+use Rattle.line.specs.declared.VelocityParts.{VelocityParts}
+use Rattle.angle.proofs.Exits.{told-is}
+use Rattle.velocity_grid.specs.Answers.{GridFault}
+use Rattle.velocity_grid.specs.AtPoint.{parts_at}
 use Rattle.velocity_grid.specs.OnGrid.{size_range, nodes_of}
+use Rattle.velocity_grid.specs.Step.{velocity_of}
 use Rattle.velocity_grid.specs.Text.{grid_of, grid_numbers, room_after}
-use Rattle.velocity_grid.specs.Motion.{motion_with, motion_of}
-use Rattle.velocity_grid.specs.declared.GridAnswer.{GridAnswer}
-use Rattle.velocity_grid.specs.declared.GridAnswer.TheVariants.{Grid}
+use Rattle.velocity_grid.specs.Motion.{motion_from, motion_on, motion_with, motion_of}
 use Rattle.velocity_grid.proofs.OnGrid.{header}
-use Rattle.velocity_grid.proofs.Motions.{same-motion, at-start}
+use Rattle.velocity_grid.proofs.Motions.{same-velocity, at-start}
 use Rattle.velocity_grid.proofs.Texts as T
 use Rattle.velocity_grid.proofs.moving.motion_at.Goals as goal
 
+-- the room before the text is read
+abbrev fresh : List ℤ
+fresh = replicate 12000 (pos 0)
+
 -- the grid of an accepted text, and the room as the text left it
-record Found (text : List ℕ) (grid : GridHeader) (n : ℕ) (fresh held : List ℤ) : Type 0 where
-  is-grid : grid_of text ≡ Grid grid
+module _ (text : List ℕ) (grid : GridHeader) {held : List ℤ} (read : (Ok grid ≡ grid_of text) × (held ≡ room_after (grid_of text) (grid_numbers text) fresh))
+    {n : ℕ} {rows columns : ℤ} (count : n ≡ 3 * (nat_abs rows * nat_abs columns)) (r : rows ≡ grid.rows) (s : columns ≡ grid.columns) where
   counted : n ≡ 3 * nodes_of grid
-  made : length fresh ≡ 12000
+  unfolding nodes_of
+  counted = count ∙ ap (λ (k : ℕ). 3 * k) (ap₂ (λ (a b : ℤ). nat_abs a * nat_abs b) r s)
+
   held-is : held ≡ sets fresh 0 (grid_numbers text)
+  held-is = read.1 ∙ ap (λ (w : Result GridHeader GridFault). room_after w (grid_numbers text) fresh) (sym read.0)
 
-found : (text : List ℕ) (answer : GridAnswer) (grid : GridHeader) (n : ℕ) (fresh held : List ℤ) (rows columns : ℤ)
-    → (answer ≡ grid_of text) × (held ≡ room_after (grid_of text) (grid_numbers text) fresh)
-    → answer ≡ Grid grid → n ≡ 3 * (nat_abs rows * nat_abs columns) → rows ≡ grid.rows → columns ≡ grid.columns → length fresh ≡ 12000
-    → Found text grid n fresh held
-unfolding nodes_of
-found text answer grid n fresh held rows columns read is count r s made =
-    let g : grid_of text ≡ Grid grid = sym read.0 ∙ is in
-    record {
-      is-grid = g;
-      counted = count ∙ ap (λ (k : ℕ). 3 * k) (ap₂ (λ (a b : ℤ). nat_abs a * nat_abs b) r s);
-      made = made;
-      held-is = read.1 ∙ ap (λ (w : GridAnswer). room_after w (grid_numbers text) fresh) g;
-    }
+  made : length fresh ≡ 12000
+  made = length-replicate {0} {A = ℤ} 12000 (pos 0)
 
-module _ (text : List ℕ) (grid : GridHeader) (n : ℕ) (fresh held : List ℤ) (f : Found text grid n fresh held) where
   few : n ≤ 12000
-  few = omega (arith, f.counted, T.few-nodes grid (T.accepted text grid f.is-grid).range)
+  few = omega (arith, counted, T.few-nodes grid (T.accepted text grid (sym read.0)).range)
 
   roomy : n ≤ length held
-  roomy = omega (arith, few, ap length f.held-is, length-sets fresh 0 (grid_numbers text), f.made)
+  roomy = omega (arith, few, ap length held-is, length-sets fresh 0 (grid_numbers text), made)
 
   first : take n held ≡ grid_numbers text
-  first =
-      ap (take n) f.held-is
-      ∙ at-start (grid_numbers text) fresh n (T.numbers-many text grid f.is-grid ∙ sym f.counted) (omega (arith, few, f.made))
+  first = ap (take n) held-is ∙ at-start (grid_numbers text) fresh n (T.numbers-many text grid (sym read.0) ∙ sym counted) (omega (arith, few, made))
 
-pub count-count-requires : goal.count-count-requires
-count-count-requires c =
-    let t = c.struct_told-in-Grid-1.given in
-    let g = c.in-Grid.g in
-    ap₂ size_range (told t.1.1.0.1) (told t.1.1.1.0.1)
-    ∙ (header g (T.accepted c.args.text.now g (sym c.read_grid.ensures.0 ∙ c.in-Grid.is)).range).sizes
+-- what the velocity and the parts decide, of the numbers as the machine reads them
+module _ (text : List ℕ) (g : GridHeader) {ns : List ℤ} {lat lat' lon lon' d d' b b' a a' : ℤ} (e : Ok g ≡ grid_of text) (m : ns ≡ grid_numbers text)
+    (p : lat' ≡ lat) (q : lon' ≡ lon) (r : d' ≡ d) (s : b' ≡ b) (t : a' ≡ a) where
+  velocity : {w : Result Velocity ℕ} → w ≡ velocity_of g ns lat' lon' d' b' a' → w ≡ velocity_of g (grid_numbers text) lat lon d b a
+  velocity h = h ∙ ap (λ (l : List ℤ). velocity_of g l lat' lon' d' b' a') m ∙ same-velocity g (grid_numbers text) p q r s t
+
+  by-velocity : {w : Result Velocity ℕ} → w ≡ velocity_of g ns lat' lon' d' b' a' → motion_from w (parts_at g (grid_numbers text) lat lon) ≡ motion_of text lat lon d b a
+  unfolding motion_of motion_with motion_on
+  by-velocity h =
+      ap (λ (w : Result Velocity ℕ). motion_from w (parts_at g (grid_numbers text) lat lon)) (velocity h)
+      ∙ ap (λ (w : Result GridHeader GridFault). motion_with w (grid_numbers text) lat lon d b a) e
+
+  by-both : {w : Result Velocity ℕ} {x : Result VelocityParts ℕ} → w ≡ velocity_of g ns lat' lon' d' b' a' → x ≡ parts_at g ns lat' lon' → motion_from w x ≡ motion_of text lat lon d b a
+  by-both {w} h k = ap (motion_from w) (k ∙ ap (λ (l : List ℤ). parts_at g l lat' lon') m ∙ ap₂ (parts_at g (grid_numbers text)) p q) ∙ by-velocity h
+
+pub returns-in_err-g : goal.returns-in_err-g
+unfolding motion_of motion_with
+returns-in_err-g c =
+    let a = c.args in
+    told-is c.from_residual.result _ c.from_residual.ensures.1
+    ∙ ap (λ (w : Result GridHeader GridFault). motion_with w (grid_numbers a.text.now) a.latitude a.longitude a.datum a.before a.after) c.in_err-g.ensures.0
+
+pub count-requires : goal.count-requires
+count-requires c =
+    let g = c.in_ok-g.g in
+    let r : SFits w64 g.rows = search rules in
+    let n : SFits w64 g.columns = search rules in
+    ap₂ size_range (to_z-of_z w64 g.rows r) (to_z-of_z w64 g.columns n) ∙ (header g (T.accepted c.args.text.now g (sym c.in_ok-g.ensures.0)).range).sizes
 
 pub slice_bounds-nodes-end : goal.slice_bounds-nodes-end
 slice_bounds-nodes-end c =
-    let t = c.struct_told-in-Grid-1.given in
-    roomy c.args.text.now c.in-Grid.g c.count-count.result c.node_space-nodes.result c.read_grid.new.nodes
-    (found c.args.text.now c.read_grid.result c.in-Grid.g c.count-count.result c.node_space-nodes.result c.read_grid.new.nodes _ _
-    c.read_grid.ensures c.in-Grid.is c.count-count.ensures (told t.1.1.0.1) (told t.1.1.1.0.1) c.node_space-nodes.ensures)
+    let g = c.in_ok-g.g in
+    let r : SFits w64 g.rows = search rules in
+    let n : SFits w64 g.columns = search rules in
+    roomy c.args.text.now g c.in_ok-g.ensures c.count.ensures (to_z-of_z w64 g.rows r) (to_z-of_z w64 g.columns n)
 
-pub slice_bounds-motion_on-end : goal.slice_bounds-motion_on-end
-slice_bounds-motion_on-end c =
-    let t = c.struct_told-in-Grid-1.given in
-    sym (length-take-le _ _
-    (roomy c.args.text.now c.in-Grid.g c.count-count.result c.node_space-nodes.result c.read_grid.new.nodes
-    (found c.args.text.now c.read_grid.result c.in-Grid.g c.count-count.result c.node_space-nodes.result c.read_grid.new.nodes _ _
-    c.read_grid.ensures c.in-Grid.is c.count-count.ensures (told t.1.1.0.1) (told t.1.1.1.0.1) c.node_space-nodes.ensures)))
+pub slice_bounds-known-end : goal.slice_bounds-known-end
+slice_bounds-known-end c =
+    let g = c.in_ok-g.g in
+    let r : SFits w64 g.rows = search rules in
+    let n : SFits w64 g.columns = search rules in
+    sym (length-take-le _ _ (roomy c.args.text.now g c.in_ok-g.ensures c.count.ensures (to_z-of_z w64 g.rows r) (to_z-of_z w64 g.columns n)))
 
-pub returns-in-Refused : goal.returns-in-Refused
-unfolding motion_of motion_with
-returns-in-Refused c =
-    let s = c in
-    ap (λ (w : GridAnswer). motion_with w (grid_numbers s.args.text.now) s.args.latitude s.args.longitude s.args.datum s.args.before s.args.after)
-    (sym (sym c.read_grid.ensures.0 ∙ c.in-Refused.is))
+pub returns-in_err-velocity : goal.returns-in_err-velocity
+unfolding motion_from
+returns-in_err-velocity c =
+    let g = c.in_ok-g.g in
+    let r : SFits w64 g.rows = search rules in
+    let n : SFits w64 g.columns = search rules in
+    told-is c.from_residual-in_err-velocity.result _ c.from_residual-in_err-velocity.ensures.1
+    ∙ by-velocity c.args.text.now g c.in_ok-g.ensures.0 (first c.args.text.now g c.in_ok-g.ensures c.count.ensures (to_z-of_z w64 g.rows r) (to_z-of_z w64 g.columns n))
+    (rd c.ranges.latitude) (rd c.ranges.longitude) (rd c.ranges.datum) (rd c.ranges.before) (rd c.ranges.after) c.in_err-velocity.ensures
 
-pub returns-in-Grid : goal.returns-in-Grid
-unfolding motion_of motion_with
-returns-in-Grid c =
-    let s = c in
-    let t = c.struct_told-in-Grid-1.given in
-    let n = c.count-count.result in
-    let fresh = c.node_space-nodes.result in
-    let held = c.read_grid.new.nodes in
-    let f : Found c.args.text.now c.in-Grid.g n fresh held =
-    found c.args.text.now c.read_grid.result c.in-Grid.g n fresh held _ _ c.read_grid.ensures c.in-Grid.is
-    c.count-count.ensures (told t.1.1.0.1) (told t.1.1.1.0.1) c.node_space-nodes.ensures in
-    c.motion_on.ensures
-    ∙ same-motion c.in-Grid.g (first c.args.text.now c.in-Grid.g n fresh held f) (rd s.ranges.latitude) (rd s.ranges.longitude)
-    (rd s.ranges.datum) (rd s.ranges.before) (rd s.ranges.after)
-    ∙ ap (λ (w : GridAnswer). motion_with w (grid_numbers s.args.text.now) s.args.latitude s.args.longitude s.args.datum s.args.before s.args.after)
-    (sym f.is-grid)
+pub returns-in_err-parts : goal.returns-in_err-parts
+unfolding motion_from
+returns-in_err-parts c =
+    let g = c.in_ok-g.g in
+    let r : SFits w64 g.rows = search rules in
+    let n : SFits w64 g.columns = search rules in
+    told-is c.from_residual-in_err-parts.result _ c.from_residual-in_err-parts.ensures.1
+    ∙ by-both c.args.text.now g c.in_ok-g.ensures.0 (first c.args.text.now g c.in_ok-g.ensures c.count.ensures (to_z-of_z w64 g.rows r) (to_z-of_z w64 g.columns n))
+    (rd c.ranges.latitude) (rd c.ranges.longitude) (rd c.ranges.datum) (rd c.ranges.before) (rd c.ranges.after) c.in_ok-velocity.ensures c.in_err-parts.ensures
+
+pub returns : goal.returns
+unfolding motion_from
+returns c =
+    let g = c.in_ok-g.g in
+    let r : SFits w64 g.rows = search rules in
+    let n : SFits w64 g.columns = search rules in
+    by-both c.args.text.now g c.in_ok-g.ensures.0 (first c.args.text.now g c.in_ok-g.ensures c.count.ensures (to_z-of_z w64 g.rows r) (to_z-of_z w64 g.columns n))
+    (rd c.ranges.latitude) (rd c.ranges.longitude) (rd c.ranges.datum) (rd c.ranges.before) (rd c.ranges.after) c.in_ok-velocity.ensures c.in_ok-parts.ensures

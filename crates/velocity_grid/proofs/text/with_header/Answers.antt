@@ -1,37 +1,35 @@
 -- `velocity_grid::text::with_header` meets its contract: the header's ranges, then the nodes. Assumes nothing.
 use borrow.Author.Rules.{rules}
-use borrow.Author.Tests.{eq-eqb, ne_eqb, not-true, not-false}
-use mathlib.Core.Path.{◌≡◌, sym, ◌∙◌, ap, ap₂}
+use borrow.Author.Tests.{ne_eqb}
 use mathlib.Core.Bool.{true}
+use mathlib.Core.List.{List}
+use lib.ListN.{drop}
+use Rattle.line.specs.Lines.{lines}
+use mathlib.Core.Path.{◌≡◌, sym, ◌∙◌, ap, ap₂}
 use Prim.Native.Nat.{ℕ, ◌*◌}
 use lib.IntN.{ℤ, nat_abs}
-use lib.ListN.{drop}
 use mir.Syntax.{w64}
-use mir.Val.{to_z, of_z}
-use Rattle.rounding.proofs.Machine.{told}
-use Rattle.line.specs.Lines.{lines}
+use mir.Val.{SFits, to_z, of_z}
+use mir.ValLaws.{to_z-of_z}
+use Rattle.std.specs.Prelude.{Result, Ok, Err}
+use Rattle.refusal.proofs.Refusals.{not-none}
 use Rattle.line.specs.declared.GridHeader.{GridHeader}
+use Rattle.velocity_grid.specs.Answers.{GridFault, fault_told, faultless}
+use Rattle.velocity_grid.proofs.Exits.{grid-is}
 use Rattle.velocity_grid.specs.OnGrid.{size_range, grid_range, nodes_of}
 use Rattle.velocity_grid.specs.Text.{nodes_fault, unless_grid_fault, headed}
-use Rattle.velocity_grid.specs.declared.GridFault.{GridFault}
-use Rattle.velocity_grid.specs.declared.GridAnswer.TheVariants.{Grid, Refused}
 use Rattle.velocity_grid.proofs.OnGrid.{header}
-use Rattle.velocity_grid.proofs.text.with_header.Tie as tie
-use Rattle.velocity_grid.proofs.text.with_header.Lts as lts
-use Rattle.velocity_grid.proofs.text.with_header.Reads as reads
 use Rattle.velocity_grid.proofs.text.with_header.Goals as goal
 
-abbrev TheAfterNodesFault : Type 0
-TheAfterNodesFault = lts.After-nodes_fault tie.the-claims reads.Pre reads.Post
-
-abbrev TheStart : Type 0
-TheStart = lts.Start tie.the-claims reads.Pre reads.Post
-
-refused : (f : GridFault) (g : GridHeader) → (f.number ≡ 0 → ⊥) → Refused f ≡ unless_grid_fault f g
+-- what the nodes' lines decide, of a header in its ranges
+refused : (f : GridFault) (g : GridHeader) → (f.number ≡ 0 → ⊥) → ◌≡◌ {A = Result GridHeader GridFault} (Err f) (unless_grid_fault f g)
 refused f g z = rw (ne_eqb f.number 0 z)
 
-given : (f : GridFault) (g : GridHeader) → f.number ≡ 0 → Grid g ≡ unless_grid_fault f g
-given f g z = rw (eq-eqb f.number 0 z)
+module _ (g : GridHeader) (ls : List (List ℕ)) {f : GridFault} {n : ℕ} {rows columns : ℤ}
+    (q : grid_range g ≡ true) (e : f ≡ nodes_fault n 2 ls) (h : n ≡ nat_abs rows * nat_abs columns) (r : rows ≡ g.rows) (c : columns ≡ g.columns) where
+  decided : unless_grid_fault f g ≡ headed (Ok g) ls
+  unfolding headed nodes_of
+  decided = rw q (ap (λ (x : GridFault). unless_grid_fault x g) (e ∙ ap (λ (k : ℕ). nodes_fault k 2 ls) (h ∙ ap₂ (λ (a b : ℤ). nat_abs a * nat_abs b) r c)))
 
 pub returns-then-not-in_range : goal.returns-then-not-in_range
 unfolding headed
@@ -39,41 +37,28 @@ returns-then-not-in_range c = rw (sym c.in_range.ensures ∙ c.if-not-in_range.t
 
 pub nodes-requires : goal.nodes-requires
 nodes-requires c =
-    let t = c.struct_told-2-1.given in
     let g = c.args.g in
-    ap₂ size_range (told t.1.1.0.1) (told t.1.1.1.0.1)
-    ∙ (header g (sym c.in_range.ensures ∙ c.if-not-in_range.false)).sizes
+    let r : SFits w64 g.rows = search rules in
+    let n : SFits w64 g.columns = search rules in
+    ap₂ size_range (to_z-of_z w64 g.rows r) (to_z-of_z w64 g.columns n) ∙ (header g (sym c.in_range.ensures ∙ c.if-not-in_range.false)).sizes
 
-pub nodes_fault-fault-requires : goal.nodes_fault-fault-requires
-nodes_fault-fault-requires c = (c.requires, c.nodes.ensures.1)
+pub nodes_fault-requires : goal.nodes_fault-requires
+nodes_fault-requires c = (c.requires, c.nodes.ensures.1)
 
-module _ (c : TheAfterNodesFault) where
-  abbrev begun : TheStart
-  begun = c.before.before.before.before.before.before.before
-
-  in-range : grid_range begun.args.g ≡ true
-  in-range = sym c.in_range.ensures ∙ c.if-not-in_range.false
-
-  fault-is : c.nodes_fault-fault.result ≡ nodes_fault (nodes_of begun.args.g) 2 (lines (drop begun.args.start begun.args.text.now))
-  unfolding nodes_of
-  fault-is =
-      let t = c.struct_told-2-1.given in
-      let rows : to_z w64 (of_z w64 begun.args.g.rows) ≡ begun.args.g.rows = told t.1.1.0.1 in
-      let columns : to_z w64 (of_z w64 begun.args.g.columns) ≡ begun.args.g.columns = told t.1.1.1.0.1 in
-      c.nodes_fault-fault.ensures
-      ∙ ap (λ (n : ℕ). nodes_fault n 2 (lines (drop begun.args.start begun.args.text.now)))
-      (c.nodes.ensures.0 ∙ ap₂ (λ (a b : ℤ). nat_abs a * nat_abs b) rows columns)
-
-pub returns-then-fault-ne0 : goal.returns-then-fault-ne0
-unfolding headed
-returns-then-fault-ne0 c =
-    let n = c.before.before.before in
-    let g = (begun n).args.g in
-    rw (in-range n) (refused n.nodes_fault-fault.result g c.if-fault-ne0.true ∙ ap (λ (f : GridFault). unless_grid_fault f g) (fault-is n))
+pub returns-in_err-nodes_fault : goal.returns-in_err-nodes_fault
+returns-in_err-nodes_fault c =
+    let g = c.args.g in
+    let f = c.in_err-nodes_fault.field-0.0 in
+    let r : SFits w64 g.rows = search rules in
+    let n : SFits w64 g.columns = search rules in
+    grid-is c.from_residual.result f c.from_residual.ensures.1 ∙ refused (fault_told f) g (not-none f.refusal)
+    ∙ decided g (lines (drop c.args.start c.args.text.now)) (sym c.in_range.ensures ∙ c.if-not-in_range.false) c.in_err-nodes_fault.ensures c.nodes.ensures.0
+    (to_z-of_z w64 g.rows r) (to_z-of_z w64 g.columns n)
 
 pub returns : goal.returns
-unfolding headed
 returns c =
-    let n = c.before.before.before in
-    let g = (begun n).args.g in
-    rw (in-range n) (given n.nodes_fault-fault.result g c.if-fault-ne0.false ∙ ap (λ (f : GridFault). unless_grid_fault f g) (fault-is n))
+    let g = c.args.g in
+    let r : SFits w64 g.rows = search rules in
+    let n : SFits w64 g.columns = search rules in
+    decided g (lines (drop c.args.start c.args.text.now)) (sym c.in_range.ensures ∙ c.if-not-in_range.false) c.in_ok-nodes_fault.ensures c.nodes.ensures.0
+    (to_z-of_z w64 g.rows r) (to_z-of_z w64 g.columns n)

@@ -3,11 +3,8 @@ use mathlib.Core.Path.{◌≡◌, sym, ◌∙◌, ap}
 use Prim.Native.Nat.{ℕ, suc, ◌-◌}
 use native.Mathlib.Omega.{arith}
 use lib.ListN.{length, take}
-use Rattle.rounding.proofs.Zn.{k}
-use lib.ListN.{length-map}
 use Rattle.chain.specs.Convert.{end_of}
 use Rattle.chain.proofs.AtIndex.{end-at}
-use Rattle.chain.proofs.steps.convert.end_of.Tie as tie
 use Rattle.chain.proofs.steps.convert.end_of.Lts as lts
 use Rattle.chain.proofs.steps.convert.end_of.Reads as reads
 use Rattle.chain.proofs.steps.convert.end_of.Goals as goal

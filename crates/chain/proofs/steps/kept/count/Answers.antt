@@ -1,13 +1,11 @@
 -- `chain::steps::kept::count` meets its contract. Assumes nothing.
 use mathlib.Core.Path.{◌≡◌, ◌∙◌}
 use native.Mathlib.Omega.{arith}
-use borrow.Author.Rules.{rules}
 use lib.IntN.{pos}
 use mir.Syntax.{w64}
 use mir.Val.{to_z, of_z}
 use Rattle.rounding.proofs.Machine.{rd}
 use Rattle.ranges.proofs.Ranges.{Natural, natural}
-use Rattle.chain.proofs.steps.kept.count.Tie as tie
 use Rattle.chain.proofs.steps.kept.count.Lts as lts
 use Rattle.chain.proofs.steps.kept.count.Reads as reads
 use Rattle.chain.proofs.steps.kept.count.Goals as goal

@@ -13,7 +13,6 @@ use Rattle.rounding.specs.Quotient.{mixed, settled_of}
 use Rattle.rounding.proofs.Machine.{rd}
 use Rattle.rounding.proofs.Lifted.{lifted-rounds}
 use Rattle.chain.proofs.Lifting as L
-use borrow.Author.Rules.{rules}
 use Rattle.chain.proofs.steps.lifted.over11.Tie as tie
 use Rattle.chain.proofs.steps.lifted.over11.Lts as lts
 use Rattle.chain.proofs.steps.lifted.over11.Reads as reads

@@ -10,7 +10,6 @@ use Rattle.rounding.specs.Quotient.{settled_of}
 use Rattle.rounding.proofs.Machine.{rd, rd+, fit+}
 use Rattle.rounding.proofs.Lifted.{lifted-rounds}
 use Rattle.chain.proofs.Lifting as L
-use borrow.Author.Rules.{rules}
 use Rattle.chain.proofs.steps.lifted.over3.Tie as tie
 use Rattle.chain.proofs.steps.lifted.over3.Lts as lts
 use Rattle.chain.proofs.steps.lifted.over3.Reads as reads

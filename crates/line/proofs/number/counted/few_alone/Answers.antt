@@ -1,11 +1,9 @@
 -- `line::number::counted::few_alone` meets its contract. Assumes nothing.
-use Rattle.std.proofs.Common.{◌≡◌, ℕ, ◌+◌, ◌%◌, ◌<◌, ◌≤◌, Bool, false, not, ◌||◌, eqb, get_or, List, length, refl, arith, eqb-true}
+use Rattle.std.proofs.Common.{◌≡◌, ℕ, ◌<◌, ◌≤◌, Bool, false, ◌||◌, eqb, refl, arith, eqb-true}
 use borrow.Author.Tests.{eqb-false, not-false}
-use Rattle.line.specs.Reading.{Word, Clear, Led, higher_halves, sixes}
 use Rattle.line.proofs.Ahead as L
 use Rattle.line.proofs.Counted as K
 use Rattle.line.proofs.Few as F
-use Rattle.line.proofs.Words.{Spelt}
 use Rattle.line.proofs.number.counted.few_alone.Goals as goal
 
 -- ---- one to seven are counted
@@ -28,10 +26,10 @@ eight-requires c =
     let z = none _ _ _ c.if-other_eight-d.false in
     F.small (F.spelt-few c.word-d.ensures k (omega (arith, n)) (c.other_eight.ensures z.0))
 
-pub returns-clause-alone : goal.returns-clause-alone
-returns-clause-alone c =
+pub returns : goal.returns
+returns c =
     let k = c.digits_before-k.result in
     let n = some k c.if-k.false c.digits_before-k.ensures in
     let z = none _ _ _ c.if-other_eight-d.false in
     let y = F.counted (F.spelt-few c.word-d.ensures k (omega (arith, n)) (c.other_eight.ensures z.0)) (omega (arith, n, c.requires)) n.0 (F.led-by c.word-d.ensures (eqb-false _ 0 z.1)) in
-    λ o. (K.tabbed (omega (arith, n, c.requires)) (eqb-true _ 9 (not-false _ z.2)) refl y, rw c.eight.ensures y)
+    (n.0, n.1, K.tabbed (omega (arith, n, c.requires)) (eqb-true _ 9 (not-false _ z.2)) refl y, rw c.eight.ensures y)

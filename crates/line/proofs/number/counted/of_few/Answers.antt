@@ -5,10 +5,10 @@ use Rattle.line.proofs.Counted as K
 use Rattle.line.proofs.number.counted.of_few.Goals as goal
 
 -- seven digits say less than 10 ^ 7, and so do fewer
-pub returns-then-v-gt0 : goal.returns-then-v-gt0
-returns-then-v-gt0 c =
-    let a = c.few_alone-v.ensures.alone c.if-v-gt0.true in
+pub returns-in-Some : goal.returns-in-Some
+returns-in-Some c =
+    let a = c.in-Some.ensures in
     let z = c.above_zero.result in
     let e : to_z w64 (of_z w64 z) ≡ z = search rules in
     rw (e, c.above_zero.ensures)
-    (K.counted _ _ _ a.1 a.0 (omega arith) (omega (arith, pow-le-pow_right {n = 10} (omega arith) c.few_alone-v.ensures.count_bound)) refl)
+    (K.counted _ _ _ a.3 a.2 (omega (arith, a.0)) (omega (arith, pow-le-pow_right {n = 10} (omega arith) a.1)) refl)

@@ -3,15 +3,9 @@ use Rattle.std.proofs.Common.{◌≡◌, arith, w64, to_z, of_z, rules}
 use Rattle.line.proofs.Counted as K
 use Rattle.line.proofs.number.counted.of_last_eleven.Goals as goal
 
-pub overflow_sub-s : goal.overflow_sub-s
-overflow_sub-s c = omega (arith, c.reaches.ensures c.if-reaches.true)
-
-pub above_zero-requires : goal.above_zero-requires
-above_zero-requires c = let y = c.eleven-v.ensures c.if-v.true in omega (arith, y.says.less)
-
-pub returns-then-v : goal.returns-then-v
-returns-then-v c =
-    let y = c.eleven-v.ensures c.if-v.true in
+pub returns-in-Some : goal.returns-in-Some
+returns-in-Some c =
+    let y = c.in-Some.ensures in
     let z = c.above_zero.result in
     let e : to_z w64 (of_z w64 z) ≡ z = search rules in
     let r = c.reaches.ensures c.if-reaches.true in

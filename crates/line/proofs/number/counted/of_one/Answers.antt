@@ -1,16 +1,7 @@
 -- `line::number::counted::of_one` meets its contract. Assumes nothing.
-use Rattle.std.proofs.Common.{◌≡◌, arith, w64, to_z, of_z, rules}
+use Rattle.std.proofs.Common.{◌≡◌, w64, to_z, of_z, rules}
 use Rattle.line.proofs.Counted as K
 use Rattle.line.proofs.number.counted.of_one.Goals as goal
-
-pub bounds-s-at : goal.bounds-s-at
-bounds-s-at c = let a = c.one_alone.ensures c.if-one_alone.true in omega (arith, a.inside)
-
-pub overflow_sub-wide : goal.overflow_sub-wide
-overflow_sub-wide c = let a = c.one_alone.ensures c.if-one_alone.true in omega (arith, K.first-low a (omega arith))
-
-pub overflow_add-at : goal.overflow_add-at
-overflow_add-at c = let a = c.one_alone.ensures c.if-one_alone.true in omega (arith, a.inside)
 
 pub returns-then-one_alone : goal.returns-then-one_alone
 returns-then-one_alone c =

@@ -1,5 +1,5 @@
 -- `line::number::words::digits_before` meets its contract. Assumes nothing.
-use Rattle.std.proofs.Common.{◌≤◌, arith}
+use Rattle.std.proofs.Common.{arith}
 use lib.Bits.{bit_and, bit_or}
 use lib.Count.{trailing_le}
 use Rattle.line.proofs.number.words.digits_before.Goals as goal

@@ -1,6 +1,6 @@
 -- `line::number::words::other` meets its contract. Assumes nothing.
-use Rattle.std.proofs.Common.{◌≡◌, ℕ, sym, ap, ◌∙◌, arith, eqb-true}
-use lib.Bits.{bit_and, bit_or}
+use Rattle.std.proofs.Common.{ℕ, sym, ap, ◌∙◌, eqb-true}
+use lib.Bits.{bit_and}
 use borrow.Author.Tests.{not-false}
 use Rattle.line.proofs.Words as W
 use Rattle.line.proofs.number.words.other.Goals as goal

@@ -1,5 +1,5 @@
 -- `line::write::feeds::write_feeds` meets its contract. Assumes nothing.
-use Rattle.std.proofs.Common.{refl, arith, rules}
+use Rattle.std.proofs.Common.{refl, arith}
 use Rattle.line.proofs.BareLines.{fed-ten}
 use Rattle.line.proofs.write.feeds.write_feeds.Goals as goal
 

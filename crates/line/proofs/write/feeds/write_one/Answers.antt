@@ -7,7 +7,7 @@ use Rattle.line.proofs.write.feeds.write_one.Goals as goal
 pub returns-then-input-from-eq-LINE_FEED : goal.returns-then-input-from-eq-LINE_FEED
 returns-then-input-from-eq-LINE_FEED c =
     let call = c.write_refusal-past in
-    record { some = λ f. omega arith; each = only (record { inside = omega arith; byte = omega arith }); wrote = T.as-text (feeds-one _) call.ensures }
+    record { some = λ f. omega arith; each = only (record { inside = omega arith; byte = omega arith }); wrote = T.as-text (feeds-one _) (rw c.number.ensures at call.ensures) }
 
 pub returns-else-input-from-eq-LINE_FEED : goal.returns-else-input-from-eq-LINE_FEED
 returns-else-input-from-eq-LINE_FEED c = record { some = λ f. absurd (c.if-input-from-eq-LINE_FEED.false f.byte); each = λ i h. absurd (omega arith); wrote = T.as-text (sym (feeds-none 0 _ refl)) (T.nothing _ _) }

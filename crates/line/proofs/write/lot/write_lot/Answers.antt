@@ -1,5 +1,5 @@
 -- `line::write::lot::write_lot` meets its contract. Assumes nothing.
-use Rattle.std.proofs.Common.{◌≡◌, arith, w64, to_z, of_z, rules}
+use Rattle.std.proofs.Common.{◌≡◌, w64, to_z, of_z, rules}
 use Rattle.line.proofs.Texts as T
 use Rattle.line.proofs.Lots.{lot-is}
 use Rattle.line.proofs.write.lot.write_lot.Goals as goal

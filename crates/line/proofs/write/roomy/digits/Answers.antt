@@ -1,8 +1,5 @@
-use Rattle.std.proofs.Common.{arith, rules}
+use Rattle.std.proofs.Common.{arith}
 use Rattle.line.proofs.Lengths.{length-decimal}
-use Rattle.line.proofs.write.natural.Reads as natural-reads
-use Rattle.line.proofs.write.roomy.long.Reads as long-reads
-use Rattle.line.proofs.write.roomy.up_to_eight.Reads as up-to-eight-reads
 use Rattle.line.proofs.write.roomy.digits.Goals as goal
 
 pub returns : goal.returns

@@ -14,4 +14,4 @@ returns c =
     let z = c.args.z in
     let e : to_z w64 (of_z w64 z) ≡ z = to_z-of_z c.ranges.z in
     T.named 22 c.mostly_seven.ensures (omega arith)
-    (T.whole_above z _ _ (rw e at c.size.ensures) (rw e at c.if-z-lt0.false))
+    (T.whole_above z _ _ (rw e at c.unsigned_abs.ensures.value) (rw e at c.if-z-lt0.false))

@@ -1,5 +1,5 @@
 -- `line::write::roomy::label` meets its contract. Assumes nothing.
-use Rattle.std.proofs.Common.{◌≡◌, arith, w64, to_z, of_z, rules}
+use Rattle.std.proofs.Common.{◌≡◌, w64, to_z, of_z, rules}
 use Rattle.line.proofs.Texts as T
 use Rattle.line.proofs.write.roomy.label.Goals as goal
 

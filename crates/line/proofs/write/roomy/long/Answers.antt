@@ -1,8 +1,6 @@
 use Rattle.std.proofs.Common.{arith}
 use Rattle.line.proofs.Texts as T
 use Rattle.line.proofs.Leading as D
-use Rattle.line.proofs.write.roomy.packed.eight_digits.Reads as eight-digits-reads
-use Rattle.line.proofs.write.roomy.packed.mostly_four.Reads as mostly-four-reads
 use Rattle.line.proofs.write.roomy.long.Goals as goal
 
 pub returns : goal.returns

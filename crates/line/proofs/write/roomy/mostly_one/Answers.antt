@@ -1,5 +1,5 @@
 -- `line::write::roomy::mostly_one` meets its contract. Assumes nothing.
-use Rattle.std.proofs.Common.{sym, arith, rules}
+use Rattle.std.proofs.Common.{sym, arith}
 use Rattle.line.proofs.Texts as T
 use Rattle.line.proofs.write.roomy.mostly_one.Goals as goal
 

@@ -1,5 +1,5 @@
 -- `line::write::roomy::pair` meets its contract: two stores side by side. Assumes nothing.
-use Rattle.std.proofs.Common.{arith, length-set, rules}
+use Rattle.std.proofs.Common.{arith, length-set}
 use Rattle.line.proofs.Texts as T
 use Rattle.line.proofs.write.roomy.pair.Goals as goal
 

@@ -5,4 +5,4 @@ use Rattle.line.proofs.write.roomy.short.Goals as goal
 
 pub returns : goal.returns
 returns c =
-    T.named 5 (T.after (rw c.wide.ensures at c.up_to_four-a.ensures) c.put.ensures) (omega arith) refl
+    T.named 5 (T.after (rw c.wide.ensures.0 at c.up_to_four-a.ensures) c.put.ensures) (omega arith) refl

@@ -1,5 +1,5 @@
 -- `line::write::roomy::two_numbers` meets its contract. Assumes nothing.
-use Rattle.std.proofs.Common.{◌≡◌, arith, to_z-of_z, w64, to_z, of_z}
+use Rattle.std.proofs.Common.{◌≡◌, to_z-of_z, w64, to_z, of_z}
 use Rattle.line.proofs.Texts as T
 use Rattle.line.proofs.write.roomy.two_numbers.Goals as goal
 

@@ -1,5 +1,5 @@
 -- `line::write::roomy::up_to_eight` meets its contract. Assumes nothing.
-use Rattle.std.proofs.Common.{arith, rules}
+use Rattle.std.proofs.Common.{arith}
 use Rattle.line.proofs.Texts as T
 use Rattle.line.proofs.Leading as D
 use Rattle.line.proofs.write.roomy.up_to_eight.Goals as goal

@@ -1,25 +1,25 @@
 -- `line::write::roomy::word` meets its contract. Assumes nothing.
-use Rattle.line.specs.Text.{letters, Wrote}
-use Rattle.std.proofs.Common.{◌≡◌, ℕ, ◌+◌, ◌<◌, ◌≤◌, List, length, sym, refl, ◌∙◌, arith}
+use Rattle.std.proofs.Common.{◌≡◌, ◌+◌, ◌-◌, sym, refl, ◌∙◌, arith}
 use Rattle.line.proofs.Texts as T
 use Rattle.line.proofs.write.roomy.word.Goals as goal
 
-pub loop-left-init : goal.loop-left-init
-loop-left-init c = (omega arith, refl, omega arith, λ m r g. g)
+pub loop-init : goal.loop-init
+loop-init c = (omega arith, refl, omega arith, λ m r g. g)
 
-pub loop-left-preserved : goal.loop-left-preserved
-loop-left-preserved c =
-    let k = c.loop-left in
-    (omega arith, c.put-p.auto.out ∙ k.invariant.1, omega (arith, c.put-p.ensures.most, k.invariant.2), λ m r g. k.invariant.3 m r (T.as-text (sym (T.letters-on k.left k.v (omega arith) c.if-b-eq0.false)) (T.«then» c.put-p.ensures.wrote g)))
+pub loop-preserved : goal.loop-preserved
+loop-preserved c =
+    let k = c.loop in
+    let e : 8 - k.counter - 1 ≡ 8 - (k.counter + 1) = omega arith in
+    (omega arith, c.put-p.auto.out ∙ k.invariant.1, omega (arith, c.put-p.ensures.most, k.invariant.2), λ m r g. k.invariant.3 m r (T.as-text (sym (T.letters-on (8 - k.counter) k.v (omega arith) c.if-b-eq0.false)) (T.«then» c.put-p.ensures.wrote (rw (sym e) at g))))
 
-pub shape_of-out-after-loop-left : goal.shape_of-out-after-loop-left
-shape_of-out-after-loop-left c = c.loop-left.invariant.1
+pub shape_of-out-after-loop : goal.shape_of-out-after-loop
+shape_of-out-after-loop c = c.loop.invariant.1
 
-pub returns-after-loop-left : goal.returns-after-loop-left
-returns-after-loop-left c = let k = c.loop-left in record { wrote = k.invariant.3 _ _ (T.as-text (sym (T.letters-none k.left k.v (omega arith))) (T.nothing _ _)); most = omega (arith, k.invariant.2) }
+pub returns-after-loop : goal.returns-after-loop
+returns-after-loop c = let k = c.loop in record { wrote = k.invariant.3 _ _ (T.as-text (sym (T.letters-none (8 - k.counter) k.v (omega arith))) (T.nothing _ _)); most = omega (arith, k.invariant.2) }
 
 pub shape_of-out-then-b-eq0 : goal.shape_of-out-then-b-eq0
-shape_of-out-then-b-eq0 c = c.loop-left.invariant.1
+shape_of-out-then-b-eq0 c = c.loop.invariant.1
 
 pub returns-then-b-eq0 : goal.returns-then-b-eq0
-returns-then-b-eq0 c = let k = c.loop-left in record { wrote = k.invariant.3 _ _ (T.as-text (sym (T.letters-end k.left k.v c.if-b-eq0.true)) (T.nothing _ _)); most = omega (arith, k.invariant.2) }
+returns-then-b-eq0 c = let k = c.loop in record { wrote = k.invariant.3 _ _ (T.as-text (sym (T.letters-end (8 - k.counter) k.v c.if-b-eq0.true)) (T.nothing _ _)); most = omega (arith, k.invariant.2) }

@@ -22,5 +22,5 @@ returns c =
     let easting : to_z w64 (of_z w64 c.args.false_easting) ≡ c.args.false_easting = search rules in
     let northing : to_z w64 (of_z w64 c.args.false_northing) ≡ c.args.false_northing = search rules in
     let r : to_z w64 (of_z w64 c.write.result) ≡ c.write.result = search rules in
-    let l = rw (ellipsoid, latitude, longitude, easting, northing) at c.lot_of-lot.ensures in
+    let l = rw (ellipsoid, latitude, longitude, easting, northing) at c.lot_of.ensures in
     rw (le-leb least _ c.if-out-lt-ROOM.false, r, ← l) c.write.ensures

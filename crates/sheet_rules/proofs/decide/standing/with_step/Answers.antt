@@ -15,15 +15,6 @@ use Rattle.sheet_rules.proofs.decide.standing.with_step.Goals as goal
 few : (steps : List Step) (n : ℕ) → length steps ≡ 8 → n ≤ 8 → length (take n steps) < 8 → n < 8
 few steps n long short k = omega (arith, length-take n steps)
 
-pub offset_bounds-steps-n : goal.offset_bounds-steps-n
-offset_bounds-steps-n c = omega (arith, few c.args.chain.steps c.args.chain.length c.well_formed.0.1.1.0.1.0.1 c.requires.0 c.requires.1)
-
-pub bounds-steps-n : goal.bounds-steps-n
-bounds-steps-n c = few c.args.chain.steps c.args.chain.length c.well_formed.0.1.1.0.1.0.1 c.requires.0 c.requires.1
-
-pub overflow_add-result : goal.overflow_add-result
-overflow_add-result c = omega (arith, few c.args.chain.steps c.args.chain.length c.well_formed.0.1.1.0.1.0.1 c.requires.0 c.requires.1)
-
 pub returns : goal.returns
 returns c =
     let a = c.args in

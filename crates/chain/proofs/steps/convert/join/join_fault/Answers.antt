@@ -1,48 +1,31 @@
 -- `chain::steps::convert::join::join_fault` meets its contract: the first chain decides, then the second, then the two together. Assumes nothing.
-use mathlib.Core.Path.{◌≡◌, sym, ◌∙◌}
-use Rattle.refusal.specs.Order.{first}
-use Rattle.chain.specs.Faults.{chain_tests}
+use Rattle.std.proofs.Common.{sym, ◌∙◌}
+use Rattle.std.proofs.lemmas.Result.{err_from_is_err_and}
+use Rattle.refusal.proofs.Refusals.{not-none}
 use Rattle.chain.proofs.Accepted.{chain-passed}
 use Rattle.chain.proofs.Joins.{by_first, by-second, by-pair}
-use Rattle.chain.proofs.steps.convert.join.join_fault.Tie as tie
-use Rattle.chain.proofs.steps.convert.join.join_fault.Lts as lts
-use Rattle.chain.proofs.steps.convert.join.join_fault.Reads as reads
 use Rattle.chain.proofs.steps.convert.join.join_fault.Goals as goal
 
-abbrev TheElse1 : Type 0
-TheElse1 = lts.Else1 tie.the-claims reads.Pre reads.Post
-
-abbrev TheElse2 : Type 0
-TheElse2 = lts.Else2 tie.the-claims reads.Pre reads.Post
-
-pub returns-then-a-ne0 : goal.returns-then-a-ne0
-returns-then-a-ne0 c =
+pub returns-in_err-chain_fault : goal.returns-in_err-chain_fault
+returns-in_err-chain_fault c =
     let s = c.args in
-    let f = c.chain_fault-a.ensures in
-    f ∙ by_first s.first s.second (λ e. c.if-a-ne0.true (f ∙ e))
+    let p = err_from_is_err_and c.from_residual.result c.from_residual.ensures.1 in
+    let f = c.in_err-chain_fault.ensures in
+    rw (p.1, p.2) (f ∙ by_first s.first s.second (λ e. not-none _ (f ∙ e)))
 
--- the first chain is good
-good : (c : TheElse1) → first (chain_tests c.args.first) ≡ 0
-good c = sym c.chain_fault-a.ensures ∙ c.if-a-ne0.false
-
-pub returns-then-b-ne0 : goal.returns-then-b-ne0
-returns-then-b-ne0 c =
-    let e = c.before.before in
-    let s = e.args in
-    let f = c.chain_fault-b.ensures in
-    f ∙ by-second s.first s.second (good e) (λ z. c.if-b-ne0.true (f ∙ z))
-
--- so is the second
-other : (c : TheElse2) → first (chain_tests c.args.second) ≡ 0
-other c = sym c.chain_fault-b.ensures ∙ c.if-b-ne0.false
+pub returns-in_err-chain_fault-2 : goal.returns-in_err-chain_fault-2
+returns-in_err-chain_fault-2 c =
+    let s = c.args in
+    let p = err_from_is_err_and c.from_residual-in_err-chain_fault-2.result c.from_residual-in_err-chain_fault-2.ensures.1 in
+    let f = c.in_err-chain_fault-2.ensures in
+    rw (p.1, p.2) (f ∙ by-second s.first s.second (sym c.in_ok-chain_fault.ensures) (λ e. not-none _ (f ∙ e)))
 
 pub pair_fault-requires : goal.pair_fault-requires
 pair_fault-requires c =
     let s = c.args in
-    ((chain-passed s.first (good c.before.before)).0, (chain-passed s.second (other c)).0)
+    ((chain-passed s.first (sym c.in_ok-chain_fault.ensures)).0, (chain-passed s.second (sym c.in_ok-chain_fault-2.ensures)).0)
 
 pub returns : goal.returns
 returns c =
-    let e = c.before in
-    let s = e.args in
-    c.pair_fault.ensures ∙ by-pair s.first s.second (good e.before.before) (other e)
+    let s = c.args in
+    c.pair_fault.ensures ∙ by-pair s.first s.second (sym c.in_ok-chain_fault.ensures) (sym c.in_ok-chain_fault-2.ensures)

@@ -2,9 +2,7 @@
 use mathlib.Core.Path.{◌≡◌, sym, ◌∙◌, ap}
 use Prim.Native.Nat.{ℕ, ◌/◌}
 use native.Mathlib.Omega.{arith}
-use borrow.Author.Rules.{rules}
 use lib.ListN.{length, take}
-use Rattle.chain.specs.declared.Step.{Step}
 use Rattle.chain.specs.Convert.{start_of}
 use Rattle.chain.specs.Numbers.{eight_from}
 use Rattle.chain.proofs.LentSteps.{starts-at}

@@ -1,31 +1,8 @@
--- `chain::steps::kept::rows::turn_moved` meets its contract. Assumes nothing.
-use mathlib.Core.Path.{◌≡◌, sym, ◌∙◌}
-use mathlib.Core.Bool.{true}
-use borrow.Author.Rules.{rules}
-use borrow.Author.Tests.{not-true, not-false}
+-- `chain::steps::kept::rows::turn_moved` meets its contract: figures that were tested are no larger than any step gives. Assumes nothing.
+use Rattle.std.proofs.Common.{sym, ◌∙◌}
 use Rattle.chain.specs.declared.steps.Ready.TheVariants.{Turned}
-use Rattle.chain.specs.Prepared.{ready_range}
 use Rattle.chain.proofs.KeptRows.{range-ok}
-use Rattle.chain.proofs.KeptTurns.{no_both}
-use Rattle.chain.proofs.steps.kept.rows.turn_moved.Tie as tie
-use Rattle.chain.proofs.steps.kept.rows.turn_moved.Lts as lts
-use Rattle.chain.proofs.steps.kept.rows.turn_moved.Reads as reads
 use Rattle.chain.proofs.steps.kept.rows.turn_moved.Goals as goal
 
-abbrev TheElse1 : Type 0
-TheElse1 = lts.Else1 tie.the-claims reads.Pre reads.Post
-
-pub returns-then-not-turn_in_range : goal.returns-then-not-turn_in_range
-returns-then-not-turn_in_range c =
-    let bad = sym c.turn_in_range.ensures ∙ c.if-not-turn_in_range.true in
-    (c.nowhere.ensures ∙ sym bad, λ e. no_both bad e)
-
--- the range, once it was tested
-good : (c : TheElse1) → ready_range (Turned c.args.t) ≡ true
-good c = sym c.turn_in_range.ensures ∙ c.if-not-turn_in_range.false
-
-pub turn_forward-requires : goal.turn_forward-requires
-turn_forward-requires c = (range-ok (Turned c.args.t) (good c), c.requires)
-
-pub returns : goal.returns
-returns c = (sym (good c.before), λ e. c.turn_forward.ensures)
+pub turn_by-requires : goal.turn_by-requires
+turn_by-requires c = (range-ok (Turned c.args.t) (sym c.turn_in_range.ensures ∙ c.if-not-turn_in_range.false), c.requires)

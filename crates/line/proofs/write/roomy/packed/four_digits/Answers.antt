@@ -1,8 +1,6 @@
 use Rattle.std.proofs.Common.{◌/◌, ◌%◌, arith}
 use Rattle.line.proofs.Texts as T
 use Rattle.line.proofs.Packed as P
-use Rattle.line.proofs.write.roomy.packed.put_half.Reads as put-half-reads
-use Rattle.line.proofs.write.roomy.packed.spread.Reads as spread-reads
 use Rattle.line.proofs.write.roomy.packed.four_digits.Goals as goal
 
 pub spread-w-requires : goal.spread-w-requires

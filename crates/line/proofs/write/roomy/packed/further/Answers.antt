@@ -1,6 +1,5 @@
 use Rattle.std.proofs.Common.{arith}
 use Rattle.line.proofs.Leading as D
-use Rattle.line.proofs.write.roomy.packed.reaches.Reads as reaches-reads
 use Rattle.line.proofs.write.roomy.packed.further.Goals as goal
 
 pub overflow_add-result : goal.overflow_add-result

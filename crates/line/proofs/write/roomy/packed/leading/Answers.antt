@@ -1,9 +1,6 @@
 use Rattle.std.proofs.Common.{◌/◌, ◌%◌, arith}
 use Rattle.line.proofs.Packed as P
 use Rattle.line.proofs.Leading as D
-use Rattle.line.proofs.write.roomy.packed.further.Reads as further-reads
-use Rattle.line.proofs.write.roomy.packed.put_half.Reads as put-half-reads
-use Rattle.line.proofs.write.roomy.packed.spread.Reads as spread-reads
 use Rattle.line.proofs.write.roomy.packed.leading.Goals as goal
 
 pub spread-w-requires : goal.spread-w-requires

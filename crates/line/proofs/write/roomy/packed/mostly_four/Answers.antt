@@ -1,5 +1,5 @@
 -- `line::write::roomy::packed::mostly_four` meets its contract. Assumes nothing.
-use Rattle.std.proofs.Common.{arith, rules}
+use Rattle.std.proofs.Common.{arith}
 use Rattle.line.proofs.Leading as D
 use Rattle.line.proofs.write.roomy.packed.mostly_four.Goals as goal
 

@@ -1,8 +1,6 @@
 use Rattle.std.proofs.Common.{◌≡◌, ℕ, ◌+◌, ◌-◌, ◌*◌, ◌/◌, ◌%◌, ap, ◌∙◌, arith}
-use Rattle.line.proofs.Texts as T
 use Rattle.line.proofs.Packed as P
 use lib.Bits.{bit_and}
-use Rattle.line.proofs.write.roomy.packed.pairs_of.Tie as tie
 use Rattle.line.proofs.write.roomy.packed.pairs_of.Lts as lts
 use Rattle.line.proofs.write.roomy.packed.pairs_of.Reads as reads
 use Rattle.line.proofs.write.roomy.packed.pairs_of.Goals as goal

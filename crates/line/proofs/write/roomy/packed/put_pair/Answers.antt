@@ -1,6 +1,5 @@
-use Rattle.std.proofs.Common.{◌/◌, ◌%◌, arith, length-set, rules}
+use Rattle.std.proofs.Common.{◌/◌, ◌%◌, arith, length-set}
 use Rattle.line.proofs.Texts as T
-use Rattle.line.proofs.Packed as P
 use Rattle.line.proofs.write.roomy.packed.put_pair.Goals as goal
 
 pub bounds-out-at-2 : goal.bounds-out-at-2

@@ -1,7 +1,5 @@
 use Rattle.std.proofs.Common.{refl, arith}
 use Rattle.line.proofs.Texts as T
-use Rattle.line.proofs.Packed as P
-use Rattle.line.proofs.write.roomy.packed.put_half.Reads as put-half-reads
 use Rattle.line.proofs.write.roomy.packed.put_word.Goals as goal
 
 pub returns : goal.returns

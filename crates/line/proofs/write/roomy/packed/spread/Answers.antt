@@ -1,5 +1,4 @@
 use Rattle.std.proofs.Common.{arith}
-use Rattle.line.proofs.Texts as T
 use Rattle.line.proofs.Packed as P
 use Rattle.line.proofs.write.roomy.packed.spread.Goals as goal
 

@@ -1,0 +1,18 @@
+-- `plan_rules::State::answer` meets its contract. Assumes nothing.
+use mathlib.Core.Path.{sym, ap, ◌∙◌}
+use Prim.Native.Nat.{ℕ, ◌+◌}
+use Rattle.plan_rules.specs.State.{unread_reply, reply_told}
+use Rattle.plan_rules.proofs.Laws.{next-line}
+use Rattle.plan_rules.proofs.State.answer.Goals as goal
+
+pub returns-in-Ok : goal.returns-in-Ok
+returns-in-Ok c = λ p h.
+    let g = c.decide-decided.ensures p h in
+    (sym (ap (reply_told p.line) c.in-Ok.is) ∙ g.reply, record { line = ap (λ (n : ℕ). n + 1) h.line ∙ sym (next-line p _); origin = g.after })
+
+pub returns-in-Err : goal.returns-in-Err
+returns-in-Err c = λ p h.
+    let g = c.decide-decided.ensures p h in (
+      c.refused.ensures ∙ ap (λ (n : ℕ). unread_reply n c.in-Err.unread) h.line ∙ sym (ap (reply_told p.line) c.in-Err.is) ∙ g.reply,
+      record { line = ap (λ (n : ℕ). n + 1) h.line ∙ sym (next-line p _); origin = g.after },
+    )

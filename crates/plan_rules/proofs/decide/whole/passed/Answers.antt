@@ -1,9 +1,0 @@
--- `plan_rules::decide::whole::passed` meets its contract. Assumes nothing.
-use mathlib.Core.Path.{refl}
-use borrow.Author.Rules.{rules}
-use Rattle.plan_rules.specs.State.{passed_in}
-use Rattle.plan_rules.proofs.decide.whole.passed.Goals as goal
-
-pub returns : goal.returns
-unfolding passed_in
-returns c = search rules

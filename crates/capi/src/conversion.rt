@@ -18,6 +18,7 @@ fn are_sized(chain: usize, point: usize, out: usize) -> bool
 }
 
 // A point, from its seven numbers: issue, order, datum, epoch, X, Y, Z. Its id stays with the caller.
+// stays a function: the numbers are what C lends, and the record is chain's, so no From can stand here
 pub(crate) fn point_from(n: &[i64]) -> Point
     requires { 7 ≤ length n.now }
     ensures { result ≡ point_from n.now }

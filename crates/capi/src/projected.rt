@@ -20,6 +20,7 @@ pub(crate) fn give_metres(answer: Result<Projected, Refusal>, out: &mut [f64]) -
     }
 }
 
+// stays a function, as `point_from` does
 fn origin_from(
     ellipsoid: i64,
     latitude: i64,

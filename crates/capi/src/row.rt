@@ -26,6 +26,7 @@ fn are_whole(chain: usize, points: usize, answers: usize) -> bool
 }
 
 // Which way: 0 along the chain, 1 back.
+// Stays a function: neither TryFrom nor Direction is this crate's, so no impl can stand here.
 fn direction_from(direction: i64) -> Option<Direction>
     ensures { result ≡ pick (direction_range direction) (Some (direction_from direction)) None }
 {

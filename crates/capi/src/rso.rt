@@ -9,6 +9,7 @@ use crate::status::{give, status};
 use oblique_mercator::Parameters;
 
 // A projection's eight numbers: ellipsoid, centre's latitude and longitude, azimuth, rectified angle, scale, false easting, false northing.
+// Stays a function, as `point_from` does.
 fn parameters_from(n: &[i64]) -> Parameters
     requires { length n.now ≡ 8 }
     ensures { result ≡ parameters_from n.now }

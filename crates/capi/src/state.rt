@@ -112,6 +112,7 @@ pub(crate) fn is_answered(n: &[i64]) -> bool
 }
 
 // The whole state, put together at once: a chain is not copied from one part of it into the next.
+// Stays a function: what C lends has no type of its own.
 pub(crate) fn stream_from(n: &[i64], bytes: &[u8]) -> Stream
     requires { (length n.now ≡ 111) × (length bytes.now ≡ 200) × (state_range n.now ≡ true) }
     ensures { result ≡ stream_from n.now bytes.now }
@@ -161,6 +162,7 @@ fn head_of(stream: Stream) -> [i64; 7]
     [lines, kept, refused, closed, finished, chain.profile, steps]
 }
 
+// The letter that C knows a convention by. It stays here: how a step stands in numbers is not chain's to say
 fn convention_number(convention: Convention) -> i64
     ensures { result ≡ convention_number convention }
 {

@@ -44,6 +44,7 @@ pub(crate) fn shift_from(n: &[i64]) -> Kind
     })
 }
 
+// stays beside `shift_from`: three numbers each, but of another kind with other names
 pub(crate) fn velocity_from(n: &[i64]) -> Kind
     requires { 13 ≤ length n.now }
     ensures { result ≡ velocity_from n.now }

@@ -47,6 +47,7 @@ fn label_in_range(label: Label) -> bool
 }
 
 // Whether a point's numbers are in their ranges.
+// stays beside `kinds::step_in_range`: other parts
 #[tactic(auto, unfolding(crate::specs::Faults::point_range))]
 pub(crate) fn point_in_range(point: Point) -> bool
     ensures { result ≡ point_range point }

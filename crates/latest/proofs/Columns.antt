@@ -1,13 +1,14 @@
 -- The columns' rows as numbers, and their places in order.
 use mathlib.Core.Path.{◌≡◌, refl, ap₂, sym, ◌∙◌}
 use mathlib.Core.Bool.{Bool}
-use mathlib.Core.List.{List}
-use Prim.Native.Nat.{ℕ, ◌≤◌, ◌<◌}
+use mathlib.Core.List.{List, [], ◌∷◌}
+use Prim.Native.Nat.{ℕ, zero, suc, ◌≤◌, ◌<◌}
+use Rattle.std.proofs.Common.{suc-le-suc}
 use native.Mathlib.Nat.{le_of_lt}
 use native.Mathlib.Omega.{arith}
 use lib.ListN.{length, get_or}
 use lib.Seq.{ext_get_or}
-use Rattle.latest.specs.Rank.{pack, pack-second, pack-le, pack-eq, pack-lt-second, key_of, group_of, rank_of}
+use Rattle.latest.specs.Rank.{pack, pack-second, pack-le, pack-eq, pack-lt-second, key_of, group_of, rank_of, Below}
 use Rattle.latest.specs.Counts.{Order}
 use Rattle.latest.specs.Pile.{Row, higher, differs, equal, verdict}
 use Rattle.latest.specs.Columns.{rows_of, verdicts_of, text_in}
@@ -17,6 +18,11 @@ use Rattle.latest.proofs.Runs.{Facts}
 
 abbrev pub Words : List ℕ → Type 0
 Words a = (i : ℕ) → get_or a i 0 < 18446744073709551616
+
+pub words : (a : List ℕ) → Below a 18446744073709551616 → Words a
+words [] h i = omega arith
+words (x ∷ xs) h zero = h 0 (omega arith)
+words (x ∷ xs) h (suc i) = words xs (λ p k. h (suc p) (suc-le-suc k)) i
 
 module _ (x h l s t : List ℕ) (el : length l ≡ length h) (es : length s ≡ length h) (et : length t ≡ length h) (wl : Words l) (ws : Words s) (small : length h < 18446744073709551616) where
   row : ℕ → Row

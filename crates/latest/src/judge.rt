@@ -1,38 +1,13 @@
-// The verdict of each good line, out of columns: h, l its id, s its issue, b where it begins in the pile x. The places of the rows are put in order by id, issue and
-// place; a pass forward marks where lines of one id and issue differ, and one backward, from the highest issue of each id on, gives the verdicts.
-ghost use Rattle.std.specs.Prelude.{◌≡◌, List, ℕ, ◌+◌, ◌≤◌, ◌<◌, eqb, length, get_or};
-ghost use Rattle.line.specs.Later.{same_bytes};
-ghost use Rattle.line.specs.Lines.{line_at};
-ghost use Rattle.latest.specs.Rank.{key_of, group_of, rank_of, Below};
+// The verdict of each good line. The places of the rows are put in order by id, issue and place; a pass forward marks where lines of
+// one id and issue differ, and one backward, from the highest issue of each id on, gives the verdicts.
+ghost use Rattle.std.specs.Prelude.{◌≡◌, ℕ, ◌+◌, ◌≤◌, ◌<◌, eqb, length, get_or};
+ghost use Rattle.latest.specs.Rank.{Below};
 ghost use Rattle.latest.specs.Counts.{Order, Places};
-ghost use Rattle.latest.specs.Columns.{text_in, rows_of, verdicts_of};
+ghost use Rattle.latest.specs.Rows.{size, key, group, rank, text, listed};
+ghost use Rattle.latest.specs.Columns.{rows_of, verdicts_of};
 ghost use Rattle.latest.specs.Marks.{next_mark, mark_of, fresh, stand, settle};
 
-// Whether rows i and j bear one id.
-fn same_key(h: &[u64], l: &[u64], i: usize, j: usize) -> bool
-    requires { (length l.now ≡ length h.now) × (i < length h.now) × (j < length h.now) }
-    ensures { result ≡ eqb (key_of h.now l.now i) (key_of h.now l.now j) }
-{
-    l[i] == l[j] && h[i] == h[j]
-}
-
-// Whether rows i and j bear one id and issue.
-fn same_top(h: &[u64], l: &[u64], s: &[u64], i: usize, j: usize) -> bool
-    requires { (length l.now ≡ length h.now) × (length s.now ≡ length h.now) × (i < length h.now) × (j < length h.now) }
-    ensures { result ≡ eqb (group_of h.now l.now s.now i) (group_of h.now l.now s.now j) }
-{
-    same_key(h, l, i, j) && s[i] == s[j]
-}
-
-// Whether the lines that begin at i and j are byte-equal.
-fn same_line(x: &[u8], i: usize, j: usize) -> bool
-    requires { (i < length x.now) × (j < length x.now) }
-    ensures { result ≡ same_bytes (line_at x.now i) (line_at x.now j) }
-{
-    let a = line::line_end(x, i);
-    let e = line::line_end(x, j);
-    x[i..a] == x[j..e]
-}
+use crate::rows::Rows;
 
 // The mark of a place, from that of the place before it: 0, 1, or SAME's number.
 // stays a number: marks and verdicts stand in the columns of numbers that the caller lends
@@ -61,9 +36,9 @@ fn number(o: &mut [usize])
 }
 
 // The mark of each place.
-fn marks(h: &[u64], l: &[u64], s: &[u64], b: &[usize], o: &[usize], x: &[u8], w: &mut [usize])
-    requires { (length l.now ≡ length h.now) × (length s.now ≡ length h.now) × (length b.now ≡ length h.now) × (length o.now ≤ length w.old) × (Below o.now (length h.now)) × ((i : ℕ) → i < length h.now → get_or b.now i 0 < length x.now) }
-    ensures { (k : ℕ) → k < length o.now → get_or w.new k 0 ≡ mark_of (group_of h.now l.now s.now) (text_in x.now b.now) o.now k }
+fn marks(rows: &Rows, o: &[usize], w: &mut [usize])
+    requires { (length o.now ≤ length w.old) × Below o.now (size rows.now) }
+    ensures { (k : ℕ) → k < length o.now → get_or w.new k 0 ≡ mark_of (group rows.now) (text rows.now) o.now k }
 {
     let n = o.len();
     if 0 < n {
@@ -72,7 +47,7 @@ fn marks(h: &[u64], l: &[u64], s: &[u64], b: &[usize], o: &[usize], x: &[u8], w:
             let i = o[k - 1];
             let j = o[k];
             let prior = w[k - 1];
-            let mark = next_mark(prior, same_top(h, l, s, i, j), same_line(x, b[i], b[j]));
+            let mark = next_mark(prior, rows.same_top(i, j), rows.same_line(i, j));
             w[k] = mark;
         }
     }
@@ -88,19 +63,11 @@ fn fresh_standing(mark: usize) -> u64
 }
 
 // The standing of the row at a place, from that at the next.
-fn standing_at(
-    h: &[u64],
-    l: &[u64],
-    s: &[u64],
-    o: &[usize],
-    k: usize,
-    after: u64,
-    mark: usize,
-) -> u64
-    requires { (length l.now ≡ length h.now) × (length s.now ≡ length h.now) × (k < length o.now) × (Below o.now (length h.now)) }
+fn standing_at(rows: &Rows, o: &[usize], k: usize, after: u64, mark: usize) -> u64
+    requires { (k < length o.now) × Below o.now (size rows.now) }
     ensures { result ≡ stand (eqb (k + 1) (length o.now))
-        (eqb (key_of h.now l.now (get_or o.now k 0)) (key_of h.now l.now (get_or o.now (k + 1) 0)))
-        (eqb (group_of h.now l.now s.now (get_or o.now k 0)) (group_of h.now l.now s.now (get_or o.now (k + 1) 0))) after mark }
+        (eqb (key rows.now (get_or o.now k 0)) (key rows.now (get_or o.now (k + 1) 0)))
+        (eqb (group rows.now (get_or o.now k 0)) (group rows.now (get_or o.now (k + 1) 0))) after mark }
 {
     let e = k + 1;
     if e == o.len() {
@@ -108,10 +75,10 @@ fn standing_at(
     }
     let i = o[k];
     let j = o[e];
-    if same_top(h, l, s, i, j) {
+    if rows.same_top(i, j) {
         return after;
     }
-    if same_key(h, l, i, j) {
+    if rows.same_key(i, j) {
         return 0;
     }
     fresh_standing(mark)
@@ -127,31 +94,23 @@ fn settled(standing: u64, mark: usize) -> u64
 }
 
 // The verdict of each row, from the places in order.
-fn judge(
-    h: &[u64],
-    l: &[u64],
-    s: &[u64],
-    b: &[usize],
-    o: &[usize],
-    x: &[u8],
-    w: &mut [usize],
-    v: &mut [u64],
-)
-    requires l_len { (length l.now ≡ length h.now) × (length s.now ≡ length h.now) × (length b.now ≡ length h.now) × (length o.now ≤ length w.old) × (length v.old ≡ length h.now) × ((i : ℕ) → i < length h.now → get_or b.now i 0 < length x.now) }
-    requires order { Order (rank_of h.now l.now s.now) o.now (length h.now) }
-    ensures { v.new ≡ verdicts_of (rows_of x.now h.now l.now s.now b.now) }
+fn judge(rows: &Rows, o: &[usize], w: &mut [usize], v: &mut [u64])
+    requires room { (length o.now ≤ length w.old) × (length v.old ≡ size rows.now) }
+    requires order { Order (rank rows.now) o.now (size rows.now) }
+    ensures { v.new ≡ verdicts_of (listed rows.now) }
 {
-    marks(h, l, s, b, o, x, w);
+    marks(rows, o, w);
     let mut standing: u64 = 0;
     for k in (0..o.len()).rev() {
         let mark = w[k];
-        standing = standing_at(h, l, s, o, k, standing, mark);
+        standing = standing_at(rows, o, k, standing, mark);
         let i = o[k];
         v[i] = settled(standing, mark);
     }
 }
 
 // The verdicts of all rows, into v; o and w are work space.
+// stays with its columns apart (tried: Rows made in hand_out; the search for its proof did not end in ten minutes)
 pub fn exact(
     h: &[u64],
     l: &[u64],
@@ -165,7 +124,14 @@ pub fn exact(
     requires { (length l.now ≡ length h.now) × (length s.now ≡ length h.now) × (length b.now ≡ length h.now) × (length o.old ≡ length h.now) × (length h.now ≤ length w.old) × (length v.old ≡ length h.now) × ((i : ℕ) → i < length h.now → get_or b.now i 0 < length x.now) }
     ensures { v.new ≡ verdicts_of (rows_of x.now h.now l.now s.now b.now) }
 {
+    let rows = Rows {
+        high: h,
+        low: l,
+        issue: s,
+        begin: b,
+        pile: x,
+    };
     number(o);
-    crate::sorting::sort(h, l, s, o, w);
-    judge(h, l, s, b, o, x, w, v);
+    crate::sorting::sort(&rows, o, w);
+    judge(&rows, o, w, v);
 }

@@ -4,6 +4,7 @@
 mod gather;
 mod judge;
 mod print;
+mod rows;
 mod sorting;
 
 ghost use Rattle.std.specs.Prelude.{◌≡◌, ◌≤◌, length};

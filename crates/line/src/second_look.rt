@@ -88,6 +88,7 @@ fn is_bad_id(s: &[u8], at: usize, awaited: Awaited) -> bool
 }
 
 // Is it to be a number, and none?
+// stays beside `is_bad_id`: each asks the reader of its own class; one over a closure is no shorter
 fn is_bad_number(s: &[u8], at: usize, awaited: Awaited) -> bool
     requires { at ≤ length s.now }
     ensures { result ≡ (first_fault (class_of awaited) (from s.now at) == numbers.plain) }

@@ -60,6 +60,7 @@ fn shift_fields(s: &[u8], at: usize) -> Fields<chain::Kind>
     })
 }
 
+// stays beside `shift_fields`: each says what its three numbers are
 fn velocity_fields(s: &[u8], at: usize) -> Fields<chain::Kind>
     ensures { Tail s.now capped_kind (three_form velocity) at result.record result.next }
 {

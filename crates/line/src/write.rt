@@ -220,6 +220,7 @@ pub fn write_moved(
 }
 
 // C, id, E, N; millimetres.
+// stays beside `write_refusal`, which is alike by chance: another line, other fields
 pub fn write_projected(out: &mut [u8], at: usize, id: chain::Id, e: i64, n: i64) -> usize
     ensures { Wrote out.old at (projected_text id e n) out.new result }
 {

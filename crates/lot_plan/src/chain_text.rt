@@ -58,6 +58,7 @@ fn take_edition(first: bool, text: &[u8]) -> Result<i64, Refusal>
 }
 
 // Any line but the empty piece, by its first byte.
+// stays a row of ifs: each letter is handed what it needs, and no other; a table of closures would hide that
 fn take_line(first: bool, profile: i64, numbers: &mut Prepared, text: &[u8]) -> Result<i64, Refusal>
     requires { 0 < length text.now }
     ensures { (ss : List Step) → (first ≡ true → ss ≡ []) → Holds profile numbers.old ss

@@ -55,6 +55,7 @@ impl State {
     }
 
     // Any line but the empty piece, by its first byte.
+    // stays a row of ifs: two letters, and what is strange
     fn decide(&mut self, text: &[u8]) -> Result<Reply, Unread>
         requires { 0 < length text.now }
         ensures { (p : Plan) → Holds self.old p → Gave p (reply_of p text.now) (next_of p text.now).origin result self.new }

@@ -5,7 +5,6 @@ use mathlib.Core.List.{List, [], ◌∷◌}
 use native.Mathlib.Nat.{add-zero}
 use native.Mathlib.Omega.{arith}
 use lib.IntN.{ℤ}
-use lib.ListN.{length}
 use Rattle.line.specs.Bytes.{line_feed}
 use Rattle.line.specs.Text.{refusal_text}
 use Rattle.line.proofs.BareLines.{feed-fault}

@@ -1,7 +1,7 @@
 -- What the chain says of a step is what the sheet says, and the state after a line holds the sheet after it. Assumes nothing.
 use mathlib.Core.Path.{◌≡◌, refl, sym, ◌∙◌, ap, subst, subst⁻¹}
 use mathlib.Core.Bool.{Bool, true, false}
-use mathlib.Core.List.{List, [], ◌∷◌, ◌++◌}
+use mathlib.Core.List.{List, [], ◌∷◌}
 use Prim.Native.Nat.{ℕ, zero, suc, ◌+◌, ◌<◌}
 use native.Mathlib.Omega.{arith}
 use lib.IntN.{ℤ, pos}
@@ -17,7 +17,7 @@ use Rattle.ranges.specs.Ranges.{profile_range}
 use Rattle.chain.specs.declared.Step.{Step}
 use Rattle.chain.specs.declared.Point.{Point}
 use Rattle.chain.specs.Faults.{latest, point_fault, step_fault}
-use Rattle.chain.specs.Convert.{Answer, more_tests, forward_of}
+use Rattle.chain.specs.Convert.{Answer, forward_of}
 use Rattle.chain.specs.Prepared.{extend_fault, extended_by, forward_prepared, chain_of}
 use Rattle.chain.proofs.Keeping.{holds-none, holds-fresh, extend-joins, extend-holds, refused-is, prepared-forward}
 use Rattle.line.specs.Bytes.{letter_s, letter_p, letter_e}

@@ -14,13 +14,13 @@ use Rattle.refusal.specs.Numbers as refusal
 use Rattle.refusal.specs.Order.{first, pick, unless, ◌gives◌}
 use Rattle.std.specs.Prelude.{Some, None, Result, Ok, Err}
 use Rattle.line.specs.Answers.{Fault, Line, Good, Malformed, Refused}
-use Rattle.refusal.proofs.Orders.{head-holds, step-passed, unless-none}
+use Rattle.refusal.proofs.Orders.{head-holds, step-passed}
 use Rattle.ranges.specs.Ranges.{profile_range}
 use Rattle.chain.specs.declared.Step.{Step}
 use Rattle.chain.specs.declared.Point.{Point}
 use Rattle.chain.specs.declared.Chain.{Chain}
 use Rattle.chain.specs.Faults.{step_fault, steps_tests, chain_tests, steps_of}
-use Rattle.chain.specs.Convert.{forward_of, joins, more_tests}
+use Rattle.chain.specs.Convert.{joins}
 use Rattle.chain.specs.Prepared as prepared
 use Rattle.chain.specs.Prepared.{chain_of}
 use Rattle.chain.proofs.Keeping.{sound_more, holds-fresh}
@@ -30,11 +30,9 @@ use Rattle.line.proofs.Readers.{step-outcome}
 use Rattle.listing.proofs.Fold.{by-letters}
 use Rattle.sheet_rules.specs.declared.Reply.{Reply}
 use Rattle.sheet_rules.specs.declared.Reply.TheVariants as reply
-use Rattle.sheet_rules.specs.declared.State.{State}
 use Rattle.sheet_rules.specs.declared.Standing.{Standing}
-use Rattle.sheet_rules.specs.declared.Answered.{Answered}
 use Rattle.sheet_rules.specs.Sheet.{Sheet, refuse, malformed, step_line_tests, step_reply, point_reply, edition_reply, after_step, after_point, with_step, without_step, with_edition, edition_tests, after_edition, passed, reply_of, next_of}
-use Rattle.sheet_rules.specs.State.{Holds, Gave}
+use Rattle.sheet_rules.specs.State.{Holds}
 use Rattle.sheet_rules.proofs.Laws.{next-line, no_steps}
 use Rattle.sheet_rules.specs.OneLine.{most_lines, sheet_at, chain_with, standing_at, fresh_at, counted, sound_standing, past_lines, reply_to, after_line, answered, line_answered, answered_to, steps_after}
 

@@ -30,7 +30,7 @@ use Rattle.sheet_rules.specs.declared.Reply.TheVariants as reply
 use Rattle.sheet_rules.specs.declared.Standing.{Standing}
 use Rattle.sheet_rules.specs.declared.LentPoint.{LentPoint}
 use Rattle.sheet_rules.specs.Sheet.{Sheet, reply_text, refuse, conversion_reply, point_reply, after_point, closes, reply_of, next_of}
-use Rattle.sheet_rules.specs.OneLine.{most_lines, sheet_at, counted, sound_standing, answered, answered_to, PointAnswer, where_good, point_answered, PrintedAs, PointPrinted}
+use Rattle.sheet_rules.specs.OneLine.{most_lines, sheet_at, counted, answered, answered_to, PointAnswer, where_good, point_answered, PrintedAs, PointPrinted}
 use Rattle.sheet_rules.proofs.OneLine.{chain_same, within-answered, unsound-answered, sound-answered, sound-told, sound-short}
 
 -- the chain is good

@@ -1,26 +1,25 @@
 -- A good chain accepts each of its steps after those before it, so that it can be prepared step by step; one that is refused a step is bad. Assumes nothing.
 use mathlib.Core.Path.{◌≡◌, refl, sym, ◌∙◌, ap}
-use mathlib.Core.Bool.{Bool, true, false}
+use mathlib.Core.Bool.{true, false}
 use mathlib.Core.List.{List, [], ◌∷◌, ◌++◌}
 use Prim.Native.Nat.{ℕ, zero, suc, ◌+◌, ◌<◌, ◌≤◌}
 use native.Mathlib.Nat as NatL
 use native.Mathlib.Numerals.{add-one}
 use native.Mathlib.Omega.{arith}
 use borrow.Author.Tests.{le-ltb, lt-ltb, lt-leb, eq-eqb, ne_eqb}
-use lib.Dec.{ltb, leb, eqb}
+use lib.Dec.{ltb}
 use lib.IntN.{ℤ, pos}
-use lib.ListN.{length, take, drop, get_or, replicate}
+use lib.ListN.{length, take, get_or, replicate}
 use lib.Seq.{take-suc, take-length, length-take-le}
 use Rattle.std.specs.Prelude.{Result, Ok, Err, is_ok, IsErr}
 use Rattle.refusal.specs.declared.Refusal.{Refusal}
 use Rattle.refusal.specs.Numbers as refusal
-use Rattle.refusal.specs.Order.{first, pick}
+use Rattle.refusal.specs.Order.{first}
 use Rattle.ranges.specs.Ranges.{profile_range}
 use Rattle.refusal.proofs.Orders.{head-holds, step-passed}
 use Rattle.chain.specs.declared.Step.{Step}
 use Rattle.chain.specs.declared.Chain.{Chain}
 use Rattle.chain.specs.Faults.{profile_fault, steps_tests, chain_tests, steps_of}
-use Rattle.chain.specs.Convert.{joins, more_tests}
 use Rattle.chain.specs.Prepared as prepared
 use Rattle.chain.specs.Prepared.{extend_fault, extended_by, chain_of}
 use Rattle.chain.proofs.Keeping.{holds-none, steps-at, extend-joins, extend-holds}

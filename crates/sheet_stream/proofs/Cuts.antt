@@ -1,8 +1,8 @@
 -- The cuts don't matter. Assumes nothing.
-use Prim.Native.Nat.{ℕ, zero, suc, ◌+◌, ◌-◌, ◌≤◌, ◌<◌}
+use Prim.Native.Nat.{ℕ, zero, suc, ◌≤◌}
 use mathlib.Core.Path.{◌≡◌, refl, sym, ap, ◌∙◌}
 use mathlib.Core.Bool.{Bool, true, false}
-use mathlib.Core.List.{List, [], ◌∷◌, ◌++◌, append_assoc}
+use mathlib.Core.List.{List, [], ◌∷◌, ◌++◌}
 use lib.Dec.{eqb}
 use lib.ListN.{length, take, drop, length-drop}
 use native.Mathlib.Omega.{arith}
@@ -12,7 +12,7 @@ use Rattle.line.specs.Bytes.{line_feed}
 use Rattle.sheet_rules.specs.declared.Reply.{Reply}
 use Rattle.sheet_stream.specs.declared.Stream.{Stream}
 use Rattle.sheet_stream.specs.declared.Fed.{Fed}
-use Rattle.sheet_stream.specs.Fragments.{keep, ended, end_reply, fed, later, scan, sound, feed_of}
+use Rattle.sheet_stream.specs.Fragments.{keep, ended, end_reply, fed, later, scan, feed_of}
 use Rattle.sheet_stream.specs.Calls.{SoFar, so_far, after, said_by, calls, deliver, joined, bytes, AnyCalls, done, call}
 use Rattle.sheet_stream.specs.WholeSheet.{CutsDontMatter}
 use Rattle.sheet_stream.proofs.Laws.{Sound, sound-parts, sound-made, sound-ended, sound-keep, sound-scan, feed-sound, takes}

@@ -1,5 +1,5 @@
 -- From a fresh state, whatever the cuts, each line is answered as in one run over the text's lines. Assumes nothing.
-use Prim.Native.Nat.{ℕ, zero, suc, ◌+◌, ◌-◌, ◌≤◌, ◌<◌, min}
+use Prim.Native.Nat.{ℕ, zero, suc, ◌+◌, ◌-◌, ◌≤◌, min}
 use mathlib.Core.Path.{◌≡◌, refl, sym, ap, ◌∙◌}
 use mathlib.Core.Bool.{Bool, true, false}
 use mathlib.Core.List.{List, [], ◌∷◌, ◌++◌, append_assoc, append-nil}
@@ -30,10 +30,10 @@ use Rattle.sheet_rules.proofs.OneLine as line
 use Rattle.sheet_rules.proofs.Room.{sheet-lines}
 use Rattle.sheet_rules.proofs.Unread.{cut-reply, cut-next, open-reply, open_next}
 use Rattle.sheet_stream.specs.declared.Stream.{Stream}
-use Rattle.sheet_stream.specs.Fragments.{no_bytes, between, fresh, keep, held, unended, closing, ended, end_reply, finish_of}
+use Rattle.sheet_stream.specs.Fragments.{no_bytes, between, fresh, keep, held, unended, closing, ended, end_reply}
 use Rattle.sheet_stream.specs.Calls.{SoFar, so_far, after, deliver, joined, bytes, finished, rules_run, rules_last, texts}
 use Rattle.sheet_stream.specs.WholeSheet.{OverTheLink, one_run, answers_to, closing_of, no_steps, past_limit}
-use Rattle.sheet_stream.proofs.Laws.{Sound, sound-parts, sound-made, sound-ended, sound-keep, unended-same, finish-none, finish-open}
+use Rattle.sheet_stream.proofs.Laws.{Sound, sound-made, sound-ended, sound-keep, unended-same, finish-none, finish-open}
 use Rattle.sheet_stream.proofs.Cuts.{deliver-bytes, any-calls}
 
 -- ---- the lines of a text that follows an open line

@@ -1,17 +1,17 @@
 -- What the code of a call does is what the definition says, byte by byte. Assumes nothing.
 use Prim.Native.Nat.{ℕ, zero, suc, ◌+◌, ◌-◌, ◌≤◌, ◌<◌, min}
 use mathlib.Core.Path.{◌≡◌, refl, sym, ap, ◌∙◌}
-use mathlib.Core.Bool.{Bool, true, false, ◌&&◌, ◌||◌}
-use mathlib.Core.List.{List, [], ◌∷◌, ◌++◌, append_assoc}
-use lib.Dec.{eqb, leb, ltb}
+use mathlib.Core.Bool.{Bool, true, false, ◌||◌}
+use mathlib.Core.List.{List, [], ◌∷◌, append_assoc}
+use lib.Dec.{eqb, ltb}
 use lib.ListN.{length, get_or, take, drop, set, get_or-eq_default}
-use lib.Seq.{sets, length-sets, take-nil, take_all, take-suc-set, take-set-lt, get_or-take, length-take-le, drop-drop}
+use lib.Seq.{sets, take-nil, take_all, take-suc-set, take-set-lt, get_or-take, length-take-le, drop-drop}
 use borrow.Rule.Slice.PartMut.{put_mid}
 use Rattle.std.proofs.lemmas.List.Edits.{sets-eq}
 use native.Mathlib.Decide.{dec_lt}
 use native.Mathlib.Numerals.{add-one}
 use native.Mathlib.Omega.{arith}
-use borrow.Author.Tests.{le-leb, lt-leb, ltb-true, ltb-false, lt-ltb, le-ltb, eqb-true, eq-eqb, ne_eqb}
+use borrow.Author.Tests.{le-leb, lt-leb, ltb-true, ltb-false, lt-ltb, le-ltb, ne_eqb}
 use Rattle.std.specs.Prelude.{Some, None, Ok}
 use Rattle.refusal.specs.Order.{pick}
 use Rattle.line.specs.Bytes.{line_feed}

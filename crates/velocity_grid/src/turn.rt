@@ -50,6 +50,7 @@ pub(crate) fn turn(p: VelocityParts, latitude: i64, longitude: i64) -> Turned
 }
 
 // Each to the nearest whole unit a year, a half away from zero.
+// stays beside angle's of this name: another record, other places
 pub(crate) fn in_units(t: Turned) -> Result<Velocity, Refusal>
     ensures { told result ≡ in_units t }
 {

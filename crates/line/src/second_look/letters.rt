@@ -61,6 +61,7 @@ fn initial(mark: u8) -> u8
 }
 
 // Of a whole line.
+// stays a row of ifs: a line without a letter, one of one letter and a step ask for different things
 pub fn letter_place(s: &[u8], mark: u8, kind: u8) -> Option<usize>
     ensures { FirstWrong letter s.now 0 (classes_of mark kind) result }
 {

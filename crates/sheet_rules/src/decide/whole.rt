@@ -59,6 +59,7 @@ pub fn sheet(input: &[u8], out: &mut [u8]) -> usize
     let mut at: usize = 0;
     let mut from: usize = 0;
     // stays: a turn takes a line, or a row of feeds, of whatever length; no iterator has those pieces
+    // and so do its three arms by the first byte: the first two go past what any other line goes through, for speed
     while from < input.len() {
         if input[from] == LINE_FEED {
             let feeds = line::write_feeds(input, from, out, at, state.line);

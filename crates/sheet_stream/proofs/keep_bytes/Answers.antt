@@ -1,8 +1,8 @@
 -- `sheet_stream::keep_bytes` meets its contract. Assumes nothing.
-use mathlib.Core.Path.{◌≡◌, refl, sym, ap, ◌∙◌}
+use mathlib.Core.Path.{ap, ◌∙◌}
 use native.Mathlib.Omega.{arith}
-use Prim.Native.Nat.{◌-◌, ◌<◌}
-use lib.ListN.{length, take}
+use Prim.Native.Nat.{◌-◌}
+use lib.ListN.{length}
 use lib.Seq.{sets}
 use Rattle.sheet_stream.proofs.Scanning.{written, take_min}
 use Rattle.sheet_stream.proofs.keep_bytes.Goals as goal

@@ -69,6 +69,7 @@ pub fn arrive_by(profile: i64, steps: &[i64], point: Point) -> Result<Arrival, R
 }
 
 // The same as an answer: what `forward` answers by the chain itself.
+// stays as `kept::convert_prepared` has it: the two lines tell where a point arrives, and a function for them would say no more
 pub fn forward_by(profile: i64, steps: &[i64], point: Point) -> Result<Point, Refusal>
     ensures { told result ≡ forward_of (chain_from profile steps.now) point }
 {

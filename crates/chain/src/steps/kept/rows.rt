@@ -23,6 +23,7 @@ fn fixed_in_range(g: Position) -> bool
     ranges::three_within(-100000000, g.x, g.y, g.z, 100000000)
 }
 
+// stays beside `kinds::bursa_wolf_in_range`: other bounds, of what is made ready
 #[tactic(auto, unfolding(crate::specs::Prepared::ready_range))]
 fn turn_in_range(t: Turn) -> bool
     ensures { result ≡ ready_range (Ready.Turned t) }

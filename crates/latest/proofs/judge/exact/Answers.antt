@@ -1,6 +1,7 @@
 -- `latest::judge::exact` meets its contract. Assumes nothing.
 use native.Mathlib.Omega.{arith}
 use mathlib.Core.Path.{◌≡◌, ◌∙◌}
+use Prim.Native.Nat.{◌<◌}
 use lib.ListN.{length}
 use Rattle.latest.proofs.Judging.{ordered}
 use Rattle.latest.proofs.judge.exact.Goals as goal
@@ -11,7 +12,7 @@ sort-requires c =
     let q = c.requires in
     let x = c.number.new.o in
     let xl : length x ≡ length a.o.now = c.number.auto.o in
-    (q.0, q.1, omega (arith, q.3, q.4), λ p h. omega (arith, q.3, c.number.ensures p (omega arith)))
+    (omega (arith, q.3, q.4), λ p h. omega (arith, q.3, c.number.ensures p (omega arith)))
 
 pub judge-requires : goal.judge-requires
 judge-requires c =
@@ -23,9 +24,10 @@ judge-requires c =
     let yl : length y ≡ length x = c.sort.auto.o in
     let w = c.sort.new.w in
     let wl : length w ≡ length a.w.now = c.sort.auto.w in
+    let small : length a.h.now < 18446744073709551616 = omega (arith, c.well_formed.0) in
     record {
-      l_len = (q.0, q.1, q.2, omega (arith, q.3, q.4), q.5, q.6);
-      order = ordered a.h.now a.l.now a.s.now x y (length a.o.now) (omega (arith, c.well_formed.0)) q.3 xl yl c.number.ensures c.sort.ensures;
+      room = (omega (arith, q.3, q.4), q.5);
+      order = ordered a.h.now a.l.now a.s.now x y (length a.o.now) small q.3 xl yl c.number.ensures c.sort.ensures;
     }
 
 pub shape_of-o : goal.shape_of-o

@@ -4,8 +4,7 @@ use mathlib.Core.Path.{◌≡◌, refl, ap₂, ◌∙◌}
 use mathlib.Core.Bool.{Bool}
 use Prim.Native.Nat.{◌<◌, ◌-◌}
 use lib.ListN.{length, get_or, length-set}
-use Rattle.latest.specs.Rank.{group_of}
-use Rattle.latest.specs.Columns.{text_in}
+use Rattle.latest.specs.Rows.{group, text}
 use Rattle.latest.specs.Marks.{next_mark}
 use Rattle.latest.proofs.Small.{marks-start, marks-more}
 use Rattle.latest.proofs.judge.marks.Goals as goal
@@ -15,7 +14,7 @@ loop-k-init c =
     let a = c.args in
     let q = c.requires in
     let z : 0 < length a.o.now = c.if-n-gt0.true in
-    (omega arith, omega arith, refl, refl, marks-start (group_of a.h.now a.l.now a.s.now) (text_in a.x.now a.b.now) a.o.now a.w.now (omega (arith, q.3)))
+    (omega arith, omega arith, refl, refl, marks-start (group a.rows.now) (text a.rows.now) a.o.now a.w.now (omega (arith, q.0)))
 
 pub bounds-w-k : goal.bounds-w-k
 bounds-w-k c =
@@ -27,7 +26,7 @@ bounds-w-k c =
     let o = a.o.now in
     let f = v.invariant in
     let wl : length w ≡ length a.w.now = f.3 ∙ length-set a.w.now 0 1 in
-    omega (arith, q.3)
+    omega (arith, q.0)
 
 pub same_top-requires : goal.same_top-requires
 same_top-requires c =
@@ -39,63 +38,19 @@ same_top-requires c =
     let o = a.o.now in
     let f = v.invariant in
     let wl : length w ≡ length a.w.now = f.3 ∙ length-set a.w.now 0 1 in
-    (q.0, q.1, q.4 (k - 1) (omega arith), q.4 k (omega arith))
-
-pub offset_bounds-b-i : goal.offset_bounds-b-i
-offset_bounds-b-i c =
-    let v = c.loop-k in
-    let a = c.args in
-    let q = c.requires in
-    let w = v.w in
-    let k = v.k in
-    let o = a.o.now in
-    let f = v.invariant in
-    let wl : length w ≡ length a.w.now = f.3 ∙ length-set a.w.now 0 1 in
-    omega (arith, q.2, q.4 (k - 1) (omega arith), c.well_formed.1.1.1.0)
-
-pub bounds-b-i : goal.bounds-b-i
-bounds-b-i c =
-    let v = c.loop-k in
-    let a = c.args in
-    let q = c.requires in
-    let w = v.w in
-    let k = v.k in
-    let o = a.o.now in
-    let f = v.invariant in
-    let wl : length w ≡ length a.w.now = f.3 ∙ length-set a.w.now 0 1 in
-    omega (arith, q.2, q.4 (k - 1) (omega arith))
-
-pub offset_bounds-b-j : goal.offset_bounds-b-j
-offset_bounds-b-j c =
-    let v = c.loop-k in
-    let a = c.args in
-    let q = c.requires in
-    let w = v.w in
-    let k = v.k in
-    let o = a.o.now in
-    let f = v.invariant in
-    let wl : length w ≡ length a.w.now = f.3 ∙ length-set a.w.now 0 1 in
-    omega (arith, q.2, q.4 k (omega arith), c.well_formed.1.1.1.0)
-
-pub bounds-b-j : goal.bounds-b-j
-bounds-b-j c =
-    let v = c.loop-k in
-    let a = c.args in
-    let q = c.requires in
-    let w = v.w in
-    let k = v.k in
-    let o = a.o.now in
-    let f = v.invariant in
-    let wl : length w ≡ length a.w.now = f.3 ∙ length-set a.w.now 0 1 in
-    omega (arith, q.2, q.4 k (omega arith))
+    (q.1 (k - 1) (omega arith), q.1 k (omega arith))
 
 pub same_line-requires : goal.same_line-requires
 same_line-requires c =
     let v = c.loop-k in
+    let a = c.args in
     let q = c.requires in
+    let w = v.w in
     let k = v.k in
+    let o = a.o.now in
     let f = v.invariant in
-    (q.5 _ (q.4 (k - 1) (omega arith)), q.5 _ (q.4 k (omega arith)))
+    let wl : length w ≡ length a.w.now = f.3 ∙ length-set a.w.now 0 1 in
+    (q.1 (k - 1) (omega arith), q.1 k (omega arith))
 
 pub bounds-w-k-in-loop-k : goal.bounds-w-k-in-loop-k
 bounds-w-k-in-loop-k c =
@@ -107,7 +62,7 @@ bounds-w-k-in-loop-k c =
     let o = a.o.now in
     let f = v.invariant in
     let wl : length w ≡ length a.w.now = f.3 ∙ length-set a.w.now 0 1 in
-    omega (arith, q.3)
+    omega (arith, q.0)
 
 pub loop-k-preserved : goal.loop-k-preserved
 loop-k-preserved c =
@@ -125,7 +80,7 @@ loop-k-preserved c =
       omega arith,
       f.2,
       e ∙ f.3,
-      marks-more (group_of a.h.now a.l.now a.s.now) (text_in a.x.now a.b.now) o w k r f.0 (omega (arith, q.3)) f.4
+      marks-more (group a.rows.now) (text a.rows.now) o w k r f.0 (omega (arith, q.0)) f.4
           (c.next_mark-mark.ensures ∙ ap₂ (λ (b d : Bool). next_mark (get_or w (k - 1) 0) b d) c.same_top.ensures c.same_line.ensures),
     )
 

@@ -15,7 +15,7 @@ pub same_top-requires : goal.same_top-requires
 same_top-requires c =
     let a = c.args in
     let q = c.requires in
-    (q.0, q.1, q.3 a.k q.2, q.3 (a.k + 1) (let ne : a.k + 1 ≡ length a.o.now → ⊥ = c.if-e-o.false in omega arith))
+    (q.1 a.k q.0, q.1 (a.k + 1) (let ne : a.k + 1 ≡ length a.o.now → ⊥ = c.if-e-o.false in omega arith))
 
 pub returns-then-same_top : goal.returns-then-same_top
 returns-then-same_top c =
@@ -26,7 +26,7 @@ pub same_key-requires : goal.same_key-requires
 same_key-requires c =
     let a = c.args in
     let q = c.requires in
-    (q.0, q.3 a.k q.2, q.3 (a.k + 1) (let ne : a.k + 1 ≡ length a.o.now → ⊥ = c.if-e-o.false in omega arith))
+    (q.1 a.k q.0, q.1 (a.k + 1) (let ne : a.k + 1 ≡ length a.o.now → ⊥ = c.if-e-o.false in omega arith))
 
 pub returns-then-same_key : goal.returns-then-same_key
 returns-then-same_key c =

@@ -1,5 +1,5 @@
 -- `sheet_rules::decide::begins_with` meets its contract. Of no bytes the first is 0, no line's letter. Assumes nothing.
-use mathlib.Core.Path.{◌≡◌, sym, ap}
+use mathlib.Core.Path.{◌≡◌, sym}
 use native.Mathlib.Omega.{arith}
 use borrow.Author.Tests.{ne_eqb}
 use lib.ListN.{get_or}

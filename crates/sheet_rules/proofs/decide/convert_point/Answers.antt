@@ -2,9 +2,6 @@
 use mathlib.Core.Path.{◌≡◌, refl, sym, ◌∙◌}
 use mathlib.Core.Bool.{true, false, or-true}
 use Rattle.sheet_rules.proofs.Laws.{answered, gave-refusal, gave-point}
-use mir.Syntax.{w64}
-use mir.Val.{to_z, of_z}
-use borrow.Author.Rules.{rules}
 use Rattle.sheet_rules.proofs.decide.convert_point.Goals as goal
 
 pub returns-then-state : goal.returns-then-state

@@ -1,5 +1,5 @@
 -- `sheet_rules::decide::take_step` meets its contract. Assumes nothing.
-use mathlib.Core.Path.{◌≡◌, refl, sym, ◌∙◌}
+use mathlib.Core.Path.{◌≡◌, refl, sym}
 use Rattle.refusal.proofs.Refusals.{not-none}
 use Rattle.sheet_rules.proofs.Laws.{gave-earlier, gave-misplaced, gave-no-step, gave-step}
 use mir.Syntax.{w64}

@@ -13,12 +13,12 @@ use Rattle.refusal.specs.Refusals.{number}
 use Rattle.chain.specs.Numbers.{chain_from}
 use Rattle.line.specs.declared.PlacedLine as placed
 use Rattle.line.specs.Answers.{fault_told, line_told, placed_told}
-use Rattle.line.specs.Readers.{read_point, one_point, datum_place}
+use Rattle.line.specs.Readers.{read_point, one_point}
 use Rattle.line.proofs.AsWritten.{one-read}
 use Rattle.sheet_rules.specs.declared.LentPoint.{LentPoint}
 use Rattle.sheet_rules.specs.declared.Reply.{Reply}
 use Rattle.sheet_rules.specs.declared.Reply.TheVariants as reply
-use Rattle.sheet_rules.specs.OneLine.{point_answered, where_good, PointPrinted}
+use Rattle.sheet_rules.specs.OneLine.{where_good, PointPrinted}
 use Rattle.sheet_rules.proofs.Answers.{as-malformed, as-refused}
 use Rattle.sheet_rules.proofs.Points.{malformed-answered, refused-answered, earlier-answered, printed-so}
 use Rattle.sheet_rules.proofs.decide.lent.print_any.Goals as goal

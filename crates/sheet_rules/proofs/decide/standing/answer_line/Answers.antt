@@ -1,6 +1,5 @@
 -- `sheet_rules::decide::standing::answer_line` meets its contract. Assumes nothing.
-use mathlib.Core.Path.{◌≡◌, sym, ◌∙◌}
-use mathlib.Core.Bool.{true}
+use mathlib.Core.Path.{sym, ◌∙◌}
 use Rattle.sheet_rules.proofs.OneLine.{unsound-answered, past-answered, sound-answered, sound-told, sound-parts, sound-short, both}
 use Rattle.sheet_rules.proofs.decide.standing.answer_line.Goals as goal
 

@@ -4,9 +4,6 @@ use mathlib.Core.Bool.{or-true, or-false}
 use mathlib.Core.List.{List}
 use Prim.Native.Nat.{ℕ}
 use lib.IntN.{ℤ}
-use mir.Syntax.{w64}
-use mir.Val.{to_z, of_z}
-use borrow.Author.Rules.{rules}
 use Rattle.refusal.specs.Refusals.{number}
 use Rattle.chain.specs.declared.Point.{Point}
 use Rattle.line.specs.Answers.{Line, line_told}

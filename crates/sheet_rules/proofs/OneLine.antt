@@ -12,7 +12,8 @@ use lib.ListN.{length, get_or, take, drop, set, length-append, length-take, take
 use lib.Seq.{drop-nil, take-length, take-append_seam, length-take-le, set_split}
 use Rattle.refusal.specs.Numbers as refusal
 use Rattle.refusal.specs.Order.{first, pick, unless, ◌gives◌}
-use Rattle.std.specs.Prelude.{Some, None, Result, Ok, Err}
+use Rattle.std.specs.Prelude.{Option, Some, None, Result, Ok, Err}
+use Rattle.std.specs.Bool.{then_some}
 use Rattle.line.specs.Answers.{Fault, Line, Good, Malformed, Refused}
 use Rattle.refusal.proofs.Orders.{head-holds, step-passed}
 use Rattle.ranges.specs.Ranges.{profile_range}
@@ -134,6 +135,11 @@ module _ (st : Standing) (l : List ℕ) where
   pub sound-answered : sound_standing st ≡ true → line_answered st l ≡ answered_to st l
   unfolding answered_to
   sound-answered e = rw e
+
+  -- past the limit the chain is tested alone
+  pub past-told : most_lines < st.line → (b : Bool) → b ≡ sound_standing st → (r : Option Reply) → r ≡ then_some b (reply.Refused (suc most_lines) refusal.limit 0) → answered st r ≡ answered_to st l
+  past-told h true e r q = rw q (past-answered h ∙ sound-answered (sym e))
+  past-told h false e r q = rw q (unsound-answered (sym e))
 
 pub sound-told : (st : Standing) (a b : Bool) → a ≡ counted st.line st.chain.length → b ≡ eqb (first (chain_tests st.chain)) 0 → sound_standing st ≡ a && b
 unfolding sound_standing

@@ -111,18 +111,25 @@ fn answer_within(standing: Standing, numbers: &mut Prepared, text: &[u8]) -> Ans
 pub fn answer_line(standing: Standing, text: &[u8]) -> Answered
     ensures { result ≡ answered_to standing text.now }
 {
-    let mut numbers = [0i64; 72];
-    let prepared = prepare(standing.chain, &mut numbers);
-    if !(is_counted(standing.line, standing.chain.length) & prepared.is_ok()) {
+    if MOST_LINES < standing.line {
+        let limit = Reply::Refused(MOST_LINES + 1, Refusal::Limit.number(), 0);
+        return Answered {
+            standing,
+            response: is_sound(standing).then_some(limit),
+        };
+    }
+    if !is_counted(standing.line, standing.chain.length) {
         return Answered {
             standing,
             response: None,
         };
     }
-    if MOST_LINES < standing.line {
+    let mut numbers = [0i64; 72];
+    let good = prepare(standing.chain, &mut numbers).is_ok();
+    if !good {
         return Answered {
             standing,
-            response: Some(Reply::Refused(MOST_LINES + 1, Refusal::Limit.number(), 0)),
+            response: None,
         };
     }
     answer_within(standing, &mut numbers, text)

@@ -1,9 +1,10 @@
 // Standard input, or any reader, read to its end.
 #![tactic(auto)]
 
-ghost use Rattle.std.specs.Prelude.{◌≡◌, ◌≤◌, length};
+ghost use Rattle.std.specs.Prelude.{◌≡◌, ◌≤◌, IfOk, OnErr, Some, None, length};
 ghost use Rattle.input.specs.Input.{after_read, Follows, Reads};
 
+use std::io;
 use std::io::Read;
 use std::ops::ControlFlow;
 
@@ -24,6 +25,14 @@ fn after_read(room: usize, held: usize, got: Option<usize>) -> ControlFlow<Optio
     ControlFlow::Break(Some(room))
 }
 
+// A read's answer: how many bytes it gave, or None where it failed.
+fn got_of(answer: io::Result<usize>) -> Option<usize>
+    ensures read { IfOk answer (λ n. result ≡ Some n) }
+    ensures failed { OnErr answer (result ≡ None) }
+{
+    answer.ok()
+}
+
 // One read, into what is left of the buffer, and what follows from it.
 fn one_read<R: Read>(
     reader: &mut R,
@@ -34,7 +43,7 @@ fn one_read<R: Read>(
     ensures { Follows (length buffer.old) held result }
 {
     let room = buffer.len();
-    let got = reader.read(&mut buffer[held..]).ok();
+    let got = got_of(reader.read(&mut buffer[held..]));
     after_read(room, held, got)
 }
 

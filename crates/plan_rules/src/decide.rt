@@ -1,11 +1,10 @@
-// One line decided over the state, with nothing printed. The whole input is a module below this one, so that what these functions ask of their caller stays
-// theirs.
+// One line decided by value, with nothing printed. The whole input is a module below this one, so that what these functions ask of their caller stays theirs.
 ghost use Rattle.std.specs.Prelude.{◌≡◌, ◌<◌, length};
 ghost use Rattle.line.specs.Readers.{read_origin, read_geodetic};
 ghost use Rattle.plan_rules.specs.Plan.{Plan, origin_reply, origin_after, geodetic_reply, reply_of, next_of};
 ghost use Rattle.plan_rules.specs.State.{Holds, Gave, unread_reply, reply_told};
 
-use crate::{Reply, State};
+use crate::{Decided, Reply, State};
 use line::Unread;
 use refusal::Refusal;
 
@@ -54,9 +53,9 @@ impl State {
         Ok(Reply::Projected(g.id, at.easting, at.northing))
     }
 
-    // Any line but the empty piece, by its first byte.
+    // Any line but the empty piece, by its first byte: its reply or why it has none, and the origin after it.
     // stays a row of ifs: two letters, and what is strange
-    fn decide(&mut self, text: &[u8]) -> Result<Reply, Unread>
+    fn examine(&mut self, text: &[u8]) -> Result<Reply, Unread>
         requires { 0 < length text.now }
         ensures { (p : Plan) → Holds self.old p → Gave p (reply_of p text.now) (next_of p text.now).origin result self.new }
     {
@@ -70,17 +69,20 @@ impl State {
         Err(Unread::Malformed(line::strange(text)))
     }
 
-    // The reply to a line; the state goes on to the next.
-    fn answer(&mut self, text: &[u8]) -> Reply
-        requires { (self.old.line < 1000000) × (0 < length text.now) }
-        ensures { (p : Plan) → Holds self.old p → (result ≡ reply_of p text.now) × Holds self.new (next_of p text.now) }
+    // A line decided: the reply to it, and the state after it.
+    fn decide(self, text: &[u8]) -> Decided
+        requires { (self.line < 1000000) × (0 < length text.now) }
+        ensures { (p : Plan) → Holds self p → (result.reply ≡ reply_of p text.now) × Holds result.state (next_of p text.now) }
     {
-        let line = self.line;
-        let decided = self.decide(text);
-        self.line = line + 1;
-        match decided {
-            Ok(reply) => reply,
-            Err(unread) => refused(line, unread),
+        let mut next = self;
+        let examined = next.examine(text);
+        next.line = self.line + 1;
+        match examined {
+            Ok(reply) => Decided { reply, state: next },
+            Err(unread) => Decided {
+                reply: refused(self.line, unread),
+                state: next,
+            },
         }
     }
 }

@@ -1,4 +1,4 @@
-// A plan's rules: one line decided over a state, and a whole plan from bytes to bytes.
+// A plan's rules: one line decided by value over a state, and a whole plan from bytes to bytes.
 #![tactic(auto)]
 
 mod decide;
@@ -23,4 +23,11 @@ struct State {
     line: u64,
     // The accepted origin's values, made once for all positions.
     origin: Option<angle::Origin>,
+}
+
+// What is decided on a line: the reply to it, and the state after it.
+#[derive(Clone, Copy)]
+struct Decided {
+    reply: Reply,
+    state: State,
 }

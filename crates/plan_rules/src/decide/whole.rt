@@ -51,8 +51,9 @@ pub fn plan(input: &[u8], out: &mut [u8]) -> usize
             from += feeds.lines;
         } else {
             let end = line::line_end(input, from);
-            let reply = state.answer(&input[from..end]);
-            at = write_reply(out, at, reply);
+            let decided = state.decide(&input[from..end]);
+            at = write_reply(out, at, decided.reply);
+            state = decided.state;
             from = end;
         }
     }

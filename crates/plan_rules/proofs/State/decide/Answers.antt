@@ -1,19 +1,18 @@
 -- `plan_rules::State::decide` meets its contract. Assumes nothing.
-use mathlib.Core.Path.{ap}
-use borrow.Author.Tests.{eq-eqb, ne_eqb}
-use Rattle.line.specs.Bytes.{letter_o, letter_g}
-use Rattle.plan_rules.specs.Plan.{malformed, reply_of, next_of}
+use mathlib.Core.Path.{sym, ap, ◌∙◌}
+use Prim.Native.Nat.{ℕ, ◌+◌}
+use Rattle.plan_rules.specs.State.{unread_reply, reply_told}
+use Rattle.plan_rules.proofs.Laws.{next-line}
 use Rattle.plan_rules.proofs.State.decide.Goals as goal
 
-pub returns-then-letter-eq79 : goal.returns-then-letter-eq79
-unfolding reply_of next_of
-returns-then-letter-eq79 c = λ p h. rw (eq-eqb _ letter_o c.if-letter-eq79.true) (c.decide_origin.ensures p h)
+pub returns-in-Ok : goal.returns-in-Ok
+returns-in-Ok c = λ p h.
+    let g = c.examine-examined.ensures p h in
+    (sym (ap (reply_told p.line) c.in-Ok.is) ∙ g.reply, record { line = ap (λ (n : ℕ). n + 1) h.line ∙ sym (next-line p _); origin = g.after })
 
-pub returns-then-letter-eq71 : goal.returns-then-letter-eq71
-unfolding reply_of next_of
-returns-then-letter-eq71 c = λ p h.
-    rw (ne_eqb _ letter_o c.if-letter-eq79.false, eq-eqb _ letter_g c.if-letter-eq71.true) (record { reply = c.decide_geodetic.ensures p h; after = h.origin })
-
-pub returns : goal.returns
-unfolding reply_of next_of
-returns c = λ p h. rw (ne_eqb _ letter_o c.if-letter-eq79.false, ne_eqb _ letter_g c.if-letter-eq71.false) (record { reply = ap (malformed p) c.strange.ensures; after = h.origin })
+pub returns-in-Err : goal.returns-in-Err
+returns-in-Err c = λ p h.
+    let g = c.examine-examined.ensures p h in (
+      c.refused.ensures ∙ ap (λ (n : ℕ). unread_reply n c.in-Err.unread) h.line ∙ sym (ap (reply_told p.line) c.in-Err.is) ∙ g.reply,
+      record { line = ap (λ (n : ℕ). n + 1) h.line ∙ sym (next-line p _); origin = g.after },
+    )

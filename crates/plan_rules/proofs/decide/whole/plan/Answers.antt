@@ -30,23 +30,23 @@ loop-from-smaller-then-input-from-eq-LINE_FEED c = let h = c.write_feeds-feeds.e
 pub loop-from-preserved-then-input-from-eq-LINE_FEED : goal.loop-from-preserved-then-input-from-eq-LINE_FEED
 loop-from-preserved-then-input-from-eq-LINE_FEED c = goes-past rules _ fresh refl _ _ bare _ (λ s h. (h.line, hold-feeds _ h)) c.write_feeds-feeds.ensures c.loop-from.invariant
 
-pub slice_bounds-answer-count : goal.slice_bounds-answer-count
-slice_bounds-answer-count c = let l = piece _ _ _ c.line_end-end.ensures (omega arith) in omega arith
+pub slice_bounds-decide-count : goal.slice_bounds-decide-count
+slice_bounds-decide-count c = let l = piece _ _ _ c.line_end-end.ensures (omega arith) in omega arith
 
-pub slice_bounds-answer-start : goal.slice_bounds-answer-start
-slice_bounds-answer-start c = let l = piece _ _ _ c.line_end-end.ensures (omega arith) in omega arith
+pub slice_bounds-decide-start : goal.slice_bounds-decide-start
+slice_bounds-decide-start c = let l = piece _ _ _ c.line_end-end.ensures (omega arith) in omega arith
 
-pub slice_bounds-answer-end : goal.slice_bounds-answer-end
-slice_bounds-answer-end c = let l = piece _ _ _ c.line_end-end.ensures (omega arith) in omega arith
+pub slice_bounds-decide-end : goal.slice_bounds-decide-end
+slice_bounds-decide-end c = let l = piece _ _ _ c.line_end-end.ensures (omega arith) in omega arith
 
-pub answer-reply-requires : goal.answer-reply-requires
-answer-reply-requires c = let l = piece _ _ _ c.line_end-end.ensures (omega arith) in let k = c.loop-from.invariant in (omega (arith, k.counted, k.held.line, k.inside, c.if-input-gt-LONGEST_INPUT.false), omega (arith, l.some, l.size))
+pub decide-decided-requires : goal.decide-decided-requires
+decide-decided-requires c = let l = piece _ _ _ c.line_end-end.ensures (omega arith) in let k = c.loop-from.invariant in (omega (arith, k.counted, k.held.line, k.inside, c.if-input-gt-LONGEST_INPUT.false), omega (arith, l.some, l.size))
 
 pub loop-from-smaller : goal.loop-from-smaller
 loop-from-smaller c = let l = piece _ _ _ c.line_end-end.ensures (omega arith) in omega arith
 
 pub loop-from-preserved : goal.loop-from-preserved
-loop-from-preserved c = goes_on rules _ fresh refl _ _ roomy _ _ c.line_end-end.ensures (omega (arith, c.loop-from-test.true)) c.answer-reply.ensures c.write_reply-at.ensures c.loop-from.invariant
+loop-from-preserved c = goes_on rules _ fresh refl _ _ roomy _ _ c.line_end-end.ensures (omega (arith, c.loop-from-test.true)) c.decide-decided.ensures c.write_reply-at.ensures c.loop-from.invariant
 
 pub shape_of-out : goal.shape_of-out
 shape_of-out c = c.loop-from.invariant.size

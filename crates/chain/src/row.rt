@@ -1,5 +1,5 @@
 // A row of points in one call: the chain is made ready once, and each point goes by it.
-ghost use Rattle.std.specs.Prelude.{◌≡◌, Ok, Err, map};
+ghost use Rattle.std.specs.Prelude.{◌≡◌, Ok, Err};
 ghost use Rattle.refusal.specs.Order.{first, unless};
 ghost use Rattle.refusal.specs.Refusals.{told, fault_number};
 ghost use Rattle.chain.specs.Faults.{point_fault, chain_tests, steps_of};
@@ -70,21 +70,27 @@ pub fn convert_ready(ready: ReadyChain, direction: Direction, point: Point) -> R
 
 // Each point of a lent row by one chain. The first answers are those of `forward` or `inverse` for each point, in order, refused or not; answers past the
 // points are left as they were. A row of answers that is too short (Row), or a bad chain, is refused and nothing is written.
+// The u8 is that of `convert_ready`: what is lent is the caller's, and a refusal past the points can be any number.
 pub fn convert_row(
     chain: Chain,
     direction: Direction,
     points: &[Point],
-    answers: &mut [Result<Point, Refusal>],
+    answers: &mut [Result<Point, u8>],
 ) -> Result<(), Refusal>
-    ensures { (fault_number result ≡ row_fault_of chain points.now (map told answers.old))
-        × (map told answers.new ≡ row_answers chain direction points.now (map told answers.old)) }
+    ensures { (fault_number result ≡ row_fault_of chain points.now answers.old)
+        × (answers.new ≡ row_answers chain direction points.now answers.old) }
 {
     if answers.len() < points.len() {
         return Err(Refusal::Row);
     }
     let numbers = prepared(chain)?;
+    let ready = ReadyChain {
+        refusal: 0,
+        profile: chain.profile,
+        numbers,
+    };
     for i in 0..points.len() {
-        answers[i] = convert_by(chain.profile, &numbers, direction, points[i]);
+        answers[i] = convert_ready(ready, direction, points[i]);
     }
     Ok(())
 }

@@ -8,6 +8,7 @@ use Rattle.chain.specs.declared.Point.{Point}
 use Rattle.refusal.specs.Refusals as refusals
 use Rattle.chain.specs.Faults.{latest}
 use Rattle.line.specs.declared.LaterFault as declared
+use Rattle.line.specs.declared.Neither.{Neither}
 use Rattle.line.specs.declared.Which.{Which}
 use Rattle.line.specs.declared.Which.TheVariants as which
 use Rattle.line.specs.Answers as P
@@ -90,12 +91,12 @@ abbrev pub later_fault_told : Result Unit declared.LaterFault → LaterFault
 later_fault_told (Ok x) = no_fault
 later_fault_told (Err f) = reason_told f
 
--- the part handed back is the first line itself, or the second itself; or why neither is
-abbrev pub Handed : Verdict → Bor (List ℕ) → Bor (List ℕ) → Result (Bor (List ℕ)) declared.LaterFault → Type 0
+-- the part handed back is the first line itself, or the second itself; or why neither is, beside an empty part that begins where the first begins
+abbrev pub Handed : Verdict → Bor (List ℕ) → Bor (List ℕ) → Result (Bor (List ℕ)) Neither → Type 0
 Handed First a b r = r ≡ Ok a
 Handed Second a b r = r ≡ Ok b
 Handed (Refused f) a b (Ok r) = ⊥
-Handed (Refused f) a b (Err e) = reason_told e ≡ f
+Handed (Refused f) a b (Err e) = (reason_told e.fault ≡ f) × (e.part.now ≡ []) × (e.part.ref_ptr ≡ a.ref_ptr)
 
 -- a line that is not read as a point
 abbrev pub unread_in : ℕ → Unread → Verdict

@@ -5,7 +5,7 @@ ghost use Rattle.line.specs.Answers.{line_told};
 ghost use Rattle.line.specs.Later.{refused_in, unread_in, weighed, compared, later_of, later_fault_of, reason_told, verdict_told, later_fault_told, Refused, Handed};
 
 use crate::point_line::read_point;
-use crate::{LaterFault, Unread, Which};
+use crate::{LaterFault, Neither, Unread, Which};
 use refusal::Refusal;
 
 // A line, 1 or 2, that is not read as a point.
@@ -94,12 +94,16 @@ pub fn later_fault(first: &[u8], second: &[u8]) -> Result<(), LaterFault>
 }
 
 // The later of two lent point lines, each with its line feed: that part of the caller's bytes. Refused: the first line's form, RANGE or
-// EPOCH, then the second's, then IDS, then SAME.
-pub fn later_of_two<'a>(first: &'a [u8], second: &'a [u8]) -> Result<&'a [u8], LaterFault>
+// EPOCH, then the second's, then IDS, then SAME, with an empty part of the first.
+pub fn later_of_two<'a>(first: &'a [u8], second: &'a [u8]) -> Result<&'a [u8], Neither<'a>>
     ensures { Handed (later_of first.now second.now) first.entry second.entry result }
 {
-    match later_verdict(first, second)? {
-        Which::First => Ok(first),
-        Which::Second => Ok(second),
+    match later_verdict(first, second) {
+        Ok(Which::First) => Ok(first),
+        Ok(Which::Second) => Ok(second),
+        Err(fault) => Err(Neither {
+            fault,
+            part: &first[..0],
+        }),
     }
 }

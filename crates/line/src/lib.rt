@@ -128,3 +128,11 @@ pub enum Which {
     First,
     Second,
 }
+
+// Why neither of two point lines is handed back, and the part that is in their place: it is empty and begins where the first line begins, so a caller
+// that goes on from the part, whatever the answer, is still within its own bytes.
+#[derive(Clone, Copy)]
+pub struct Neither<'a> {
+    pub fault: LaterFault,
+    pub part: &'a [u8],
+}

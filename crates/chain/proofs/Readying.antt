@@ -138,30 +138,15 @@ pub ready-fault : (c : Chain) {w : ReadyChain} → w ≡ ready_chain_of c → w.
 unfolding ready_chain_of
 ready-fault c e = ap (λ (w : ReadyChain). w.refusal) e
 
--- an answer that a fault may refuse: there, or refused
-pub unless-there : {A : Type 0} (n : ℕ) (a b : A) → Ok a ≡ unless n Err (Ok b) → (n ≡ 0) × (a ≡ b)
-unless-there zero a b e = (refl, cc)
-unless-there (suc n) a b e = (cc, cc)
-
-pub unless-refused : {A : Type 0} (n m : ℕ) (b : A) → Err m ≡ unless n Err (Ok b) → (m ≡ n) × (n ≡ 0 → ⊥)
-unless-refused zero m b e = (cc, cc)
-unless-refused (suc n) m b e = (cc, λ z. absurd (omega arith))
-
 -- the steps of a chain, prepared
 abbrev pub prepared : Chain → List ℤ
 prepared c = extended_all c.profile no_numbers (steps_of c)
 
-pub ready_refused : (c : Chain) {n : ℕ} {y : ℤ} → Err n ≡ unless (first (chain_tests c)) Err (Ok (prepared c)) → y ≡ c.profile → record { refusal = n; profile = y; numbers = no_numbers } ≡ ready_chain_of c
+-- what preparing leaves, beside its refusal's number, is the chain made ready
+pub ready-made : (c : Chain) {n : ℕ} {y : ℤ} {l : List ℤ} → n ≡ first (chain_tests c) → y ≡ c.profile → l ≡ unless (first (chain_tests c)) (λ n. no_numbers) (prepared c) →
+    record { refusal = n; profile = y; numbers = l } ≡ ready_chain_of c
 unfolding ready_chain_of
-ready_refused c {n} e f =
-    let u = unless-refused (first (chain_tests c)) n _ e in
-    rw (u.0, f, unless-some (first (chain_tests c)) (λ (n : ℕ). no_numbers) (extended_all c.profile no_numbers (steps_of c)) u.1)
-
-pub ready-steps : (c : Chain) {y : ℤ} {l : List ℤ} → Ok l ≡ unless (first (chain_tests c)) Err (Ok (prepared c)) → y ≡ c.profile → record { refusal = 0; profile = y; numbers = l } ≡ ready_chain_of c
-unfolding ready_chain_of
-ready-steps c {y} {l} e f =
-    let u = unless-there (first (chain_tests c)) l _ e in
-    rw (f, u.1, u.0)
+ready-made c e f g = rw (e, f, g)
 
 -- ---- the steps of a good chain, one after the other: none is refused
 module _ (c : Chain) (good : first (chain_tests c) ≡ 0) (i : ℕ) (below : i < c.length) (inside : i < length c.steps) where

@@ -9,34 +9,33 @@ use crate::steps::kept;
 use crate::{Chain, Direction, Point, Prepared, ReadyChain, checks, faults};
 use refusal::Refusal;
 
-// A chain's steps, prepared one after the other, or what it is refused for.
-fn prepared(chain: Chain) -> Result<Prepared, Refusal>
-    ensures { told result ≡ unless (first (chain_tests chain)) Err (Ok (extended_all chain.profile no_numbers (steps_of chain))) }
+// A chain's steps, put to the prepared chain of no steps, the first first; or what the chain is refused for, and then none is put.
+// The numbers are lent: handed back in a Result they are copied twice more, which a row of few points pays for.
+fn prepare(chain: Chain, numbers: &mut Prepared) -> Result<(), Refusal>
+    requires { numbers.old ≡ no_numbers }
+    ensures { (fault_number result ≡ first (chain_tests chain))
+        × (numbers.new ≡ unless (first (chain_tests chain)) (λ n. no_numbers) (extended_all chain.profile no_numbers (steps_of chain))) }
 {
     checks::chain_fault(chain)?;
-    let mut numbers = [0i64; 72];
     for i in 0..chain.length {
-        kept::extend(chain.profile, chain.steps[i], &mut numbers)?;
+        kept::extend(chain.profile, chain.steps[i], numbers)?;
     }
-    Ok(numbers)
+    Ok(())
 }
 
 // A chain made ready for many points. A bad chain has its own refusal's number in it (Range for its profile, Ninth, then each step's), and no steps.
 pub fn ready_chain(chain: Chain) -> ReadyChain
     ensures { result ≡ ready_chain_of chain }
 {
-    let profile = chain.profile;
-    match prepared(chain) {
-        Ok(numbers) => ReadyChain {
-            refusal: 0,
-            profile,
-            numbers,
-        },
-        Err(refusal) => ReadyChain {
-            refusal: refusal.number(),
-            profile,
-            numbers: [0i64; 72],
-        },
+    let mut numbers = [0i64; 72];
+    let refusal = match prepare(chain, &mut numbers) {
+        Ok(()) => 0,
+        Err(refusal) => refusal.number(),
+    };
+    ReadyChain {
+        refusal,
+        profile: chain.profile,
+        numbers,
     }
 }
 
@@ -83,7 +82,8 @@ pub fn convert_row(
     if answers.len() < points.len() {
         return Err(Refusal::Row);
     }
-    let numbers = prepared(chain)?;
+    let mut numbers = [0i64; 72];
+    prepare(chain, &mut numbers)?;
     let ready = ReadyChain {
         refusal: 0,
         profile: chain.profile,

@@ -5,11 +5,9 @@ use Prim.Native.Nat.{ℕ, ◌+◌, ◌<◌, ◌≤◌}
 use native.Mathlib.Numerals.{add-one}
 use native.Mathlib.Omega.{arith}
 use borrow.Author.Rules.{rules}
-use lib.IntN.{ℤ}
 use lib.ListN.{length, get_or, set}
-use Rattle.std.specs.Prelude.{Ok, Err}
 use Rattle.refusal.specs.Numbers as refusal
-use Rattle.refusal.specs.Order.{first, unless}
+use Rattle.refusal.specs.Order.{first}
 use Rattle.refusal.specs.Refusals.{number, fault_number}
 use Rattle.chain.specs.declared.Point.{Point}
 use Rattle.chain.specs.declared.Chain.{Chain}
@@ -19,7 +17,9 @@ use Rattle.chain.specs.Convert.{Answer}
 use Rattle.chain.specs.Faults.{chain_tests}
 use Rattle.chain.specs.PointRow.{convert_of, ready_chain_of, convert_ready, row_fault_of, row_answers}
 use Rattle.chain.proofs.RowLaws as L
-use Rattle.chain.proofs.Readying.{ready-converts, ready-steps, unless-there, unless-refused}
+use Rattle.chain.proofs.Readying.{ready-converts, ready-made}
+use Rattle.refusal.proofs.Refusals.{not-none}
+use Rattle.refusal.specs.declared.Refusal.{Refusal}
 use Rattle.chain.proofs.row.convert_row.Goals as goal
 
 module _ (c : Chain) (d : Direction) (xs : List Point) (ys : List Answer) where
@@ -37,8 +37,8 @@ module _ (c : Chain) (d : Direction) (xs : List Point) (ys : List Answer) where
     fits : first (chain_tests c) ≡ row_fault_of c xs ys
     fits = L.row-fits c d xs ys room
 
-    refused : (n : ℕ) (l : List ℤ) → Err n ≡ unless (first (chain_tests c)) Err (Ok l) → (n ≡ row_fault_of c xs ys) × (ys ≡ row_answers c d xs ys)
-    refused n l e = let u = unless-refused _ n _ e in (u.0 ∙ fits, L.row-refused c d xs ys (λ z. u.1 (fits ∙ z)))
+    refused : (e : Refusal) → number e ≡ first (chain_tests c) → (number e ≡ row_fault_of c xs ys) × (ys ≡ row_answers c d xs ys)
+    refused e f = (f ∙ fits, L.row-refused c d xs ys (λ z. not-none e (f ∙ fits ∙ z)))
 
     -- a turn: what the ready chain answers is what the chain does
     turn : (i : ℕ) (now : List Answer) (x : Point) (r : Answer) (w : ReadyChain) → now ≡ cur i → r ≡ convert_ready w d (get_or xs i x) → w ≡ ready_chain_of c
@@ -55,11 +55,11 @@ module _ (c : Chain) (d : Direction) (xs : List Point) (ys : List Answer) where
 pub returns-then-answers-points : goal.returns-then-answers-points
 returns-then-answers-points c = let s = c.args in short s.chain s.direction s.points.now s.answers.now c.if-answers-points.true
 
-pub returns-in_err-numbers : goal.returns-in_err-numbers
-returns-in_err-numbers c =
+pub returns-in_err-prepare : goal.returns-in_err-prepare
+returns-in_err-prepare c =
     let s = c.args in
-    let e = c.in_err-numbers.field-0.0 in
-    let r = refused s.chain s.direction s.points.now s.answers.now c.if-answers-points.false (number e) _ c.in_err-numbers.ensures in
+    let e = c.in_err-prepare.field-0.0 in
+    let r = refused s.chain s.direction s.points.now s.answers.now c.if-answers-points.false e c.in_err-prepare.ensures.0 in
     let told : fault_number c.from_residual.result ≡ number e = search rules in
     (told ∙ r.0, r.1)
 
@@ -67,7 +67,7 @@ pub loop-i-preserved : goal.loop-i-preserved
 loop-i-preserved c =
     let s = c.args in
     let k = c.loop-i in
-    let w = ready-steps s.chain c.in_ok-numbers.ensures (search rules) in
+    let w = ready-made s.chain c.in_ok-prepare.ensures.0 (search rules) c.in_ok-prepare.ensures.1 in
     turn s.chain s.direction s.points.now s.answers.now c.if-answers-points.false k.i k.answers _ c.convert_ready.result _ k.invariant
     c.convert_ready.ensures w c.loop-i-test.true
 
@@ -75,6 +75,6 @@ pub returns : goal.returns
 returns c =
     let s = c.args in
     let k = c.loop-i in
-    let u = unless-there (first (chain_tests s.chain)) c.in_ok-numbers.numbers _ c.in_ok-numbers.ensures in
+    let good = sym c.in_ok-prepare.ensures.0 in
     let done : k.i ≡ length s.points.now = omega (arith, k.auto.i-end, c.loop-i-test.false) in
-    all s.chain s.direction s.points.now s.answers.now c.if-answers-points.false k.i k.answers k.invariant done u.0
+    all s.chain s.direction s.points.now s.answers.now c.if-answers-points.false k.i k.answers k.invariant done good

@@ -3,7 +3,7 @@ use lib.ListN.{take, drop}
 use Rattle.chain.specs.Faults.{steps_of}
 use Rattle.chain.specs.Prepared.{Holds}
 use Rattle.chain.specs.PointRow.{no_numbers, extended_all}
-use Rattle.chain.proofs.row.prepared.Given as goal
+use Rattle.chain.proofs.row.prepare.Given as goal
 
 -- the numbers hold the first i steps, and the others put to them give what all give
 abbrev pub invariant-loop-i : goal.invariant-loop-i

@@ -1,4 +1,4 @@
--- `chain::row::prepared` meets its contract: no step of a good chain is refused, and the steps that are left, put to the numbers so far, give what all steps give. Assumes nothing.
+-- `chain::row::prepare` meets its contract: no step of a good chain is refused, and the steps that are left, put to the numbers so far, give what all steps give. Assumes nothing.
 use mathlib.Core.Path.{◌≡◌, refl, sym, ◌∙◌, ap}
 use mathlib.Core.List.{List, []}
 use Prim.Native.Nat.{ℕ, ◌<◌}
@@ -8,24 +8,26 @@ use lib.IntN.{ℤ}
 use lib.ListN.{length, drop, get_or}
 use mir.Syntax.{w64}
 use mir.Val.{to_z, of_z}
-use Rattle.std.specs.Prelude.{Ok, Err}
 use Rattle.refusal.proofs.Orders.{head-holds, unless-none}
 use Rattle.refusal.proofs.Refusals.{not-none}
 use Rattle.ranges.specs.Ranges.{profile_range}
 use Rattle.chain.specs.Faults.{steps_of}
 use Rattle.chain.specs.Prepared.{extend_fault, extended_by}
-use Rattle.chain.specs.PointRow.{extended_all}
+use Rattle.chain.specs.PointRow.{no_numbers, extended_all}
 use Rattle.chain.proofs.Accepted.{chain-passed}
 use Rattle.chain.proofs.AtIndex.{step_past_end, none_left}
 use Rattle.chain.proofs.Keeping.{holds-none}
 use Rattle.chain.proofs.Readying.{accepted-next, holds-next, put-next}
-use Rattle.chain.proofs.row.prepared.Goals as goal
+use Rattle.chain.proofs.row.prepare.Goals as goal
 
 pub loop-i-init : goal.loop-i-init
 loop-i-init c =
     let h = c.args.chain in
     let good = sym c.in_ok-chain_fault.ensures in
-    (holds-none h.profile _ (head-holds (profile_range h.profile) _ _ good).0 refl refl, refl)
+    let none : c.args.numbers.now ≡ no_numbers = c.requires in (
+      rw none (holds-none h.profile no_numbers (head-holds (profile_range h.profile) _ _ good).0 refl refl),
+      ap (λ (l : List ℤ). extended_all h.profile l (steps_of h)) none,
+    )
 
 pub returns-in_err-extend : goal.returns-in_err-extend
 returns-in_err-extend c =
@@ -60,4 +62,4 @@ returns c =
     let good = sym c.in_ok-chain_fault.ensures in
     let e : k.i ≡ h.length = omega (arith, k.auto.i-end, c.loop-i-test.false) in
     let none : drop k.i (steps_of h) ≡ [] = ap (λ (j : ℕ). drop j (steps_of h)) e ∙ none_left h.steps h.length in
-    ap Ok (done h.profile k.numbers ∙ ap (extended_all h.profile k.numbers) (sym none) ∙ k.invariant.1) ∙ sym (unless-none _ Err _ good)
+    (sym good, done h.profile k.numbers ∙ ap (extended_all h.profile k.numbers) (sym none) ∙ k.invariant.1 ∙ sym (unless-none _ (λ n. no_numbers) _ good))

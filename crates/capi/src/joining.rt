@@ -19,7 +19,10 @@ pub(crate) fn copy(from: &[i64], out: &mut [i64], at: usize)
     requires { at + length from.now ≤ length out.old }
     ensures { out.new ≡ sets out.old at from.now }
 {
-    out[at..at + from.len()].copy_from_slice(from);
+    // stays number by number: a copy of the whole would have the archive for C ask for memmove
+    for i in 0..from.len() {
+        out[at + i] = from[i];
+    }
 }
 
 // The steps of the first chain and then of the second, at the start of `out`. The answer is the count of their numbers, or minus the refusal, or NO_ROOM.

@@ -6,8 +6,6 @@ use mathlib.Core.List.{List, [], ◌∷◌, append_assoc}
 use lib.Dec.{eqb, ltb}
 use lib.ListN.{length, get_or, take, drop, set, get_or-eq_default}
 use lib.Seq.{sets, take-nil, take_all, take-suc-set, take-set-lt, get_or-take, length-take-le, drop-drop}
-use borrow.Rule.Slice.PartMut.{put_mid}
-use Rattle.std.proofs.lemmas.List.Edits.{sets-eq}
 use native.Mathlib.Decide.{dec_lt}
 use native.Mathlib.Numerals.{add-one}
 use native.Mathlib.Omega.{arith}
@@ -71,12 +69,11 @@ keeps-in st fin (b ∷ f) n kept h = go (dec_lt n 200) (λ (k : n + 1 ≤ 200). 
         let z : 200 - n ≡ 0 = omega arith in
         ap (λ (x : Stream). keeps x f) (keep-full st n kept fin b (omega arith)) ∙ same ∙ rw (e, z)
 
--- a part of the room with other bytes in its place
-pub written : (l xs ys : List ℕ) (c n : ℕ) → ys ≡ take n xs → n ≤ length xs → c + n ≤ length l → put_mid c (c + n - c) l ys ≡ sets l c (take n xs)
-written l xs ys c n e some fits =
-    let z : c + n - c ≡ n = omega arith in
-    let k : length (take n xs) ≡ n = length-take-le n xs some in
-    rw (z, e, sets-eq (take n xs) l c (omega (arith, k)), k, drop-drop n c l) (sym (append_assoc (take c l) (take n xs) (drop (c + n) l)))
+-- one byte more of them
+pub sets_more : (xs l : List ℕ) (c i : ℕ) → i < length xs → set (sets l c (take i xs)) (c + i) (get_or xs i 0) ≡ sets l c (take (i + 1) xs)
+sets_more [] l c i h = absurd (omega arith)
+sets_more (x ∷ xs) l c zero h = let z : c + 0 ≡ c = omega arith in rw z
+sets_more (x ∷ xs) l c (suc i) h = let z : c + suc i ≡ suc c + i = omega arith in rw (z, add-one) (sets_more xs (set l c x) (suc c) i (omega arith) ∙ rw add-one)
 
 -- as many as there are, or as there is room for
 pub take_min : (xs : List ℕ) (n m : ℕ) → n ≡ min (length xs) m → take n xs ≡ take m xs

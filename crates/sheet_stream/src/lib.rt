@@ -137,7 +137,10 @@ pub fn keep_bytes(room: &mut [u8], count: usize, bytes: &[u8]) -> usize
         return size;
     }
     let n = bytes.len().min(size - count);
-    room[count..count + n].copy_from_slice(&bytes[..n]);
+    // stays byte by byte: a copy of the whole would have the archive for C ask for memmove, and costs more where a byte comes at a time
+    for i in 0..n {
+        room[count + i] = bytes[i];
+    }
     count + n
 }
 

@@ -1,5 +1,5 @@
 // A day's points in one call: rows of numbers, seven to a point and eight to an answer.
-ghost use Rattle.std.specs.Prelude.{◌≡◌, ◌*◌, ◌/◌, ◌≤◌, length, Some, None};
+ghost use Rattle.std.specs.Prelude.{◌≡◌, ◌+◌, ◌*◌, ◌/◌, ◌≤◌, length, Some, None};
 ghost use Rattle.std.proofs.lemmas.List.Edits.{sets};
 ghost use Rattle.refusal.specs.Order.{pick};
 ghost use Rattle.chain.specs.PointRow.{convert_ready};
@@ -37,15 +37,16 @@ fn direction_from(direction: i64) -> Option<Direction>
     }
 }
 
-// An answer's numbers: a refusal has zeros beside its own.
-fn answer_numbers(answer: Result<Point, u8>) -> [i64; 8]
-    ensures { result ≡ answer_numbers answer }
+// An answer's numbers from an index on: a refusal has zeros beside its own. Each is written where it is known: as one array they go through memory.
+fn put_answer(answer: Result<Point, u8>, out: &mut [i64], at: usize)
+    requires { at + 8 ≤ length out.old }
+    ensures { out.new ≡ sets out.old at (answer_numbers answer) }
 {
     match answer {
-        Err(number) => [i64::from(number), 0, 0, 0, 0, 0, 0, 0],
+        Err(number) => copy(&[i64::from(number), 0, 0, 0, 0, 0, 0, 0], out, at),
         Ok(p) => {
             let [issue, order, datum, epoch, x, y, z] = point_numbers(p);
-            [0, issue, order, datum, epoch, x, y, z]
+            copy(&[0, issue, order, datum, epoch, x, y, z], out, at);
         }
     }
 }
@@ -59,7 +60,7 @@ fn put_answers(ready: ReadyChain, direction: Direction, points: &[i64], out: &mu
     for i in 0..count {
         let point = point_from(&points[POINT * i..]);
         let answer = chain::convert_ready(ready, direction, point);
-        copy(&answer_numbers(answer), out, ANSWER * i);
+        put_answer(answer, out, ANSWER * i);
     }
 }
 

@@ -1,5 +1,5 @@
 -- `capi::row::put_answers` meets its contract: what is left to put, from the i-th answer on, makes the whole. Assumes nothing.
-use mathlib.Core.Path.{◌≡◌, refl, sym, ◌∙◌, ap}
+use mathlib.Core.Path.{◌≡◌, sym, ◌∙◌, ap}
 use mathlib.Core.List.{List}
 use Prim.Native.Nat.{ℕ, ◌+◌, ◌-◌, ◌*◌, ◌/◌, ◌≤◌}
 use native.Mathlib.Omega.{arith}
@@ -17,7 +17,7 @@ loop-i-preserved c =
     let k = c.loop-i in
     let s = c.args in
     let a = c.convert_ready-answer in
-    let e = c.copy.ensures ∙ ap (sets k.out (8 * k.i)) c.answer_numbers.ensures in
+    let e = c.put_answer.ensures in
     let whole : length (drop (7 * k.i) s.points.now) ≤ length s.points.now - 7 * k.i = simp length-drop (omega arith) in
     let p : c.point_from-point.result ≡ point_from (drop (7 * k.i) s.points.now) = c.point_from-point.ensures ∙ ap point_from (take_all _ _ whole) in
     let rest = answers_of (convert_ready s.ready s.direction) (length s.points.now / 7 - (k.i + 1)) (drop (7 * (k.i + 1)) s.points.now) in (

@@ -15,7 +15,7 @@ use Rattle.chain.specs.declared.Kind.TheVariants.{Shift, Velocity, BursaWolf, Fr
 use Rattle.chain.specs.declared.Step.{Step}
 use Rattle.chain.specs.declared.Direction.{Direction}
 use Rattle.chain.specs.declared.Direction.TheVariants.{Forward, Inverse}
-use Rattle.chain.specs.Ways.{by_way}
+use Rattle.chain.specs.Ways.{by_way, by_turns}
 use Rattle.chain.specs.declared.steps.Turn.{Turn}
 use Rattle.chain.specs.declared.steps.Scale.{Scale}
 use Rattle.chain.specs.declared.steps.Ready.{Ready}
@@ -72,6 +72,12 @@ fixed-gain g p =
 pub fixed-inverse : (g q : Position) → inverse_by (ready_parts (Fixed g)) q ≡ minus q g
 unfolding inverse_by again
 fixed-inverse g q = ap (minus q) (fixed-gain g _)
+
+-- what gains the same everywhere needs one turn: the candidate does not matter
+pub one-turn : (d : Direction) (g p : Position) → by_turns d 1 (ready_parts (Fixed g)) p ≡ by_way d (ready_parts (Fixed g)) p
+unfolding again
+one-turn Forward g p = refl
+one-turn Inverse g p = ap (minus p) (fixed-gain g p) ∙ sym (fixed-inverse g p)
 
 pub slope-gain :
     (kx ky kz a : ℤ) (p : Position) →

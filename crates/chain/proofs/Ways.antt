@@ -1,7 +1,7 @@
 -- Laws of a step taken either way by what it gains. Assumes nothing.
 use mathlib.Core.Path.{◌≡◌, refl, sym, ◌∙◌, ap}
 use mathlib.Core.List.{List, [], ◌∷◌, ◌++◌, reverse, reverse-append}
-use Prim.Native.Nat.{ℕ, zero, suc, ◌+◌, ◌-◌, ◌<◌, ◌≤◌}
+use Prim.Native.Nat.{ℕ, suc, ◌+◌, ◌-◌, ◌<◌, ◌≤◌}
 use native.Mathlib.Omega.{arith}
 use lib.IntN.{ℤ, nat_abs, ◌-ℤ◌}
 use lib.ListN.{length, take, drop, get_or}
@@ -13,12 +13,7 @@ use Rattle.chain.specs.Parts.{Parts, gain, plus, minus, forward_by, again, inver
 use Rattle.chain.specs.Axes.{Axis, on_x, on_y, on_z, coordinate, Small}
 use Rattle.chain.specs.declared.Direction.{Direction}
 use Rattle.chain.specs.declared.Direction.TheVariants.{Forward, Inverse}
-use Rattle.chain.specs.Ways.{place, in_order}
-
--- so many turns of the inverse, from q on
-abbrev pub turns : Parts → Position → ℕ → Position
-turns t q zero = q
-turns t q (suc n) = again t q (turns t q n)
+use Rattle.chain.specs.Ways.{by_way, turns, by_turns, place, in_order}
 
 less : (x y : ℤ) → nat_abs x ≤ 640000000000 → nat_abs y ≤ 180000000 → nat_abs (x -ℤ y) ≤ 650000000000
 less x y h l =
@@ -45,9 +40,10 @@ pub turn-is : (t : Parts) (q c g r : Position) (n m : ℕ) → c ≡ turns t q n
 unfolding again
 turn-is t q c g r n m e f h k = let one : m ≡ suc n = omega arith in rw one (h ∙ ap (minus q) (f ∙ ap (gain t) e))
 
-pub three-turns : (t : Parts) (q : Position) (n : ℕ) → n ≡ 3 → turns t q n ≡ inverse_by t q
+pub three-turns : (d : Direction) (t : Parts) (p : Position) → by_turns d 3 t p ≡ by_way d t p
 unfolding inverse_by
-three-turns t q n e = rw e refl
+three-turns Forward t p = refl
+three-turns Inverse t p = refl
 
 -- ---- what is left to go by after so many
 abbrev pub rest : {A : Type 0} → Direction → List A → ℕ → List A

@@ -1,9 +1,9 @@
 -- A step, steps and what belongs to them, either way: forward, or inverse.
-use Rattle.std.specs.Prelude.{◌≡◌, ℕ, ◌+◌, ◌-◌, ◌<◌, List, ◌∷◌, reverse, length, drop}
+use Rattle.std.specs.Prelude.{◌≡◌, ℕ, zero, suc, ◌+◌, ◌-◌, ◌<◌, List, ◌∷◌, reverse, length, drop}
 use Rattle.chain.specs.declared.Position.{Position}
 use Rattle.chain.specs.declared.Direction.{Direction}
 use Rattle.chain.specs.declared.Direction.TheVariants.{Forward, Inverse}
-use Rattle.chain.specs.Parts.{Parts, gain, forward_by, inverse_by}
+use Rattle.chain.specs.Parts.{Parts, gain, forward_by, inverse_by, again}
 use Rattle.chain.specs.Axes.{Small}
 
 -- one thing forward, another inverse
@@ -14,6 +14,16 @@ either Inverse a b = b
 abbrev pub by_way : Direction → Parts → Position → Position
 by_way Forward = forward_by
 by_way Inverse = inverse_by
+
+-- so many turns of the inverse, from q on
+abbrev pub turns : Parts → Position → ℕ → Position
+turns t q zero = q
+turns t q (suc n) = again t q (turns t q n)
+
+-- either way, the inverse by so many turns for its three
+abbrev pub by_turns : Direction → ℕ → Parts → Position → Position
+by_turns Forward n t p = forward_by t p
+by_turns Inverse n t p = turns t p n
 
 -- the order in which steps are gone by
 abbrev pub in_order : {A : Type 0} → Direction → List A → List A

@@ -4,7 +4,7 @@ ghost use Rattle.chain.specs.Faults.{StepOk};
 ghost use Rattle.chain.specs.Parts.{Parts, step_round, by_convention, rotation11, scaled_rotation, at_epoch, part, over11, gain, plus, minus};
 ghost use Rattle.chain.specs.Rows.{row_of};
 ghost use Rattle.chain.specs.Axes.{Small};
-ghost use Rattle.chain.specs.Ways.{by_way, GainsBy};
+ghost use Rattle.chain.specs.Ways.{by_way, by_turns, GainsBy};
 ghost use Rattle.chain.specs.Ready.{position, moved_of, turn_of, frame_scale, ready_for, turn_parts, slope_parts, ready_parts, TurnOk, ScaleOk, PartOk, LinearOk};
 
 use crate::{BursaWolf, Convention, Direction, Kind, Position, Shift, Step, Velocity};
@@ -254,19 +254,27 @@ fn minus(p: Position, g: Position) -> Position
 // ---- A step either way, by what it is ready as: a function for each form, which is so never carried through memory. What takes a direction is
 // inlined, so that each direction has a loop of its own: asked for at each step, it makes a prepared chain 1.4 times as slow.
 
-// By what it gains at a position: forward, p and what is gained there; the inverse, from p on, three times p less what is gained at the candidate.
+// The turns of the inverse.
+const TURNS: u8 = 3;
+
+// By what it gains at a position: forward, p and what is gained there; the inverse, from p on, at each turn p less what is gained at the candidate.
 #[inline(always)]
-fn moved_by<G: Fn(Position) -> Position>(direction: Direction, gain: G, p: Position) -> Position
+fn moved_by<G: Fn(Position) -> Position>(
+    direction: Direction,
+    turns: u8,
+    gain: G,
+    p: Position,
+) -> Position
     requires near { Small 640000000000 p }
     requires callable { (c : Position) → Small 650000000000 c → G.pre gain c }
     requires small { (c g : Position) → Small 650000000000 c → G.post gain c g → Small 180000000 g }
-    ensures { (t : Parts) → GainsBy t (G.post gain) → result ≡ by_way direction t p }
+    ensures { (t : Parts) → GainsBy t (G.post gain) → result ≡ by_turns direction turns t p }
 {
     match direction {
         Direction::Forward => plus(p, gain(p)),
         Direction::Inverse => {
             let mut candidate = p;
-            for _turn in 0..3u8 {
+            for _turn in 0..turns {
                 candidate = minus(p, gain(candidate));
             }
             candidate
@@ -274,13 +282,13 @@ fn moved_by<G: Fn(Position) -> Position>(direction: Direction, gain: G, p: Posit
     }
 }
 
-// What gains the same everywhere.
+// What gains the same everywhere: one turn, since the candidate does not matter.
 #[inline(always)]
 fn fixed_by(direction: Direction, g: Position, p: Position) -> Position
     requires { (Small 100000000 g) × (Small 640000000000 p) }
     ensures { result ≡ by_way direction (ready_parts (Ready.Fixed g)) p }
 {
-    moved_by(direction, |_| g, p)
+    moved_by(direction, 1, |_| g, p)
 }
 
 #[inline(always)]
@@ -288,7 +296,7 @@ fn turn_by(direction: Direction, t: Turn, p: Position) -> Position
     requires { (TurnOk t) × (Small 640000000000 p) }
     ensures { result ≡ by_way direction (ready_parts (Ready.Turned t)) p }
 {
-    moved_by(direction, |c| turn_gain(t, c), p)
+    moved_by(direction, TURNS, |c| turn_gain(t, c), p)
 }
 
 #[inline(always)]
@@ -296,5 +304,5 @@ fn scale_by(direction: Direction, t: Scale, p: Position) -> Position
     requires { (ScaleOk t) × (Small 640000000000 p) }
     ensures { result ≡ by_way direction (ready_parts (Ready.Scaled t)) p }
 {
-    moved_by(direction, |c| scale_gain(t, c), p)
+    moved_by(direction, TURNS, |c| scale_gain(t, c), p)
 }

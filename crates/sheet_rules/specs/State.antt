@@ -19,14 +19,18 @@ pub record Holds (st : State) (numbers : List ℤ) (s : Sheet) : Type 0 where
   -- no line gave more than one step: on the first there is none yet, so that an edition has none to judge
   pub counted : length s.steps < s.line
 
+-- what was decided on a line: the reply to it, and the sheet after it held
+pub record Gave (answer : Reply) (next : Sheet) (numbers : List ℤ) (r : Decided) : Type 0 where
+  pub reply : r.reply ≡ answer
+  pub holds : Holds r.state numbers next
+
 -- the state k lines on, of which nothing else is changed
 unfoldable pub passed_in : State → ℕ → State
 passed_in st k = record { line = st.line + k; profile = st.profile; refused = st.refused; closed = st.closed }
 
--- what was decided on a line: the reply to it, and, once the line is counted, the sheet after it held
-pub record Gave (answer : Reply) (next : Sheet) (numbers : List ℤ) (r : Decided) : Type 0 where
-  pub reply : r.reply ≡ answer
-  pub holds : Holds (passed_in r.state 1) numbers next
+-- what is decided on a line, once the line is counted
+abbrev pub counted_in : Decided → Decided
+counted_in d = record { reply = d.reply; state = passed_in d.state 1 }
 
 -- the state after a line that adds no step, but for the line's number
 abbrev pub after_in : State → Bool → Bool → State
@@ -41,7 +45,11 @@ refused_in st number place = record { reply = reply.Refused st.line number place
 abbrev pub Shows : Decided → List ℕ → ℕ → List ℕ → Printed → Type 0
 Shows d before at after r = Wrote before at (reply_text d.reply) after r.at × (r.state ≡ d.state)
 
--- the reply is printed, and, once the line is counted, the sheet after it held
+-- the reply is printed, and the sheet after it held
 pub record Shown (answer : Reply) (next : Sheet) (numbers : List ℤ) (before : List ℕ) (at : ℕ) (after : List ℕ) (r : Printed) : Type 0 where
   pub wrote : Wrote before at (reply_text answer) after r.at
-  pub holds : Holds (passed_in r.state 1) numbers next
+  pub holds : Holds r.state numbers next
+
+-- what is printed for a line, once the line is counted
+abbrev pub counted_too : Printed → Printed
+counted_too r = record { at = r.at; state = passed_in r.state 1 }

@@ -1,11 +1,11 @@
 // One line decided by value, with nothing printed. The whole input is a module below this one, so that what these functions ask of their caller stays theirs.
-ghost use Rattle.std.specs.Prelude.{◌≡◌, ◌<◌, ℤ, List, Ok, true, eqb, get_or};
+ghost use Rattle.std.specs.Prelude.{◌≡◌, ◌<◌, ◌≤◌, ℤ, List, Ok, true, eqb, get_or};
 ghost use Rattle.refusal.specs.Refusals.{number};
 ghost use Rattle.chain.specs.Faults.{point_fault, step_fault};
 ghost use Rattle.line.specs.Answers.{Good};
 ghost use Rattle.line.specs.Readers.{read_point, read_step, read_edition};
 ghost use Rattle.sheet_rules.specs.Sheet.{Sheet, step_reply, after_step, point_reply, after_point, edition_reply, after_edition, reply_of, next_of};
-ghost use Rattle.sheet_rules.specs.State.{Holds, Gave, after_in, refused_in};
+ghost use Rattle.sheet_rules.specs.State.{Holds, Gave, counted_in, after_in, refused_in};
 
 use crate::{Decided, Reply, State};
 use chain::{Point, Prepared, Step};
@@ -62,7 +62,7 @@ fn refuse(state: State, refusal: Refusal, place: u8) -> Decided
 // A step whose line is good by itself.
 fn take_step(state: State, step: Step, numbers: &mut Prepared) -> Decided
     requires { step_fault state.profile step ≡ 0 }
-    ensures { (s : Sheet) → Holds state numbers.old s → Gave (step_reply s (Good step)) (after_step s (Good step)) numbers.new result }
+    ensures { (s : Sheet) → Holds state numbers.old s → Gave (step_reply s (Good step)) (after_step s (Good step)) numbers.new (counted_in result) }
 {
     let refused = state.blocked();
     if state.refused {
@@ -82,7 +82,7 @@ fn take_step(state: State, step: Step, numbers: &mut Prepared) -> Decided
 
 // A line that begins with S.
 fn decide_step(state: State, numbers: &mut Prepared, text: &[u8]) -> Decided
-    ensures { (s : Sheet) → Holds state numbers.old s → Gave (step_reply s (read_step s.profile text.now)) (after_step s (read_step s.profile text.now)) numbers.new result }
+    ensures { (s : Sheet) → Holds state numbers.old s → Gave (step_reply s (read_step s.profile text.now)) (after_step s (read_step s.profile text.now)) numbers.new (counted_in result) }
 {
     match line::read_step(state.profile, text) {
         Err(Unread::Malformed(fault)) => refuse(state.blocked(), fault.refusal, fault.place),
@@ -94,7 +94,7 @@ fn decide_step(state: State, numbers: &mut Prepared, text: &[u8]) -> Decided
 // A point whose line is good by itself.
 fn convert_point(state: State, numbers: &Prepared, point: Point) -> Decided
     requires { point_fault state.profile point ≡ 0 }
-    ensures { (s : Sheet) → Holds state numbers.now s → Gave (point_reply s (Good point)) (after_point s (Good point)) numbers.now result }
+    ensures { (s : Sheet) → Holds state numbers.now s → Gave (point_reply s (Good point)) (after_point s (Good point)) numbers.now (counted_in result) }
 {
     let closed = state.closing();
     if state.refused {
@@ -111,7 +111,7 @@ fn convert_point(state: State, numbers: &Prepared, point: Point) -> Decided
 
 // A line that begins with P. A malformed one leaves the chain open; refused for what it says, it closes it.
 fn decide_point(state: State, numbers: &Prepared, text: &[u8]) -> Decided
-    ensures { (s : Sheet) → Holds state numbers.now s → Gave (point_reply s (read_point s.profile text.now)) (after_point s (read_point s.profile text.now)) numbers.now result }
+    ensures { (s : Sheet) → Holds state numbers.now s → Gave (point_reply s (read_point s.profile text.now)) (after_point s (read_point s.profile text.now)) numbers.now (counted_in result) }
 {
     match line::read_point(state.profile, text) {
         Err(Unread::Malformed(fault)) => refuse(state, fault.refusal, fault.place),
@@ -122,7 +122,7 @@ fn decide_point(state: State, numbers: &Prepared, text: &[u8]) -> Decided
 
 // An edition line of good form: accepted on the first line, where its year is a profile.
 fn take_edition(state: State, year: i64) -> Decided
-    ensures { (s : Sheet) (numbers : List ℤ) → Holds state numbers s → Gave (edition_reply s (Ok year)) (after_edition s (Ok year)) numbers result }
+    ensures { (s : Sheet) (numbers : List ℤ) → Holds state numbers s → Gave (edition_reply s (Ok year)) (after_edition s (Ok year)) numbers (counted_in result) }
 {
     let refused = state.blocked();
     if state.line != 1 {
@@ -142,7 +142,7 @@ fn take_edition(state: State, year: i64) -> Decided
 
 // A line that begins with E. Refused, it counts as a refused step.
 fn decide_edition(state: State, text: &[u8]) -> Decided
-    ensures { (s : Sheet) (numbers : List ℤ) → Holds state numbers s → Gave (edition_reply s (read_edition text.now)) (after_edition s (read_edition text.now)) numbers result }
+    ensures { (s : Sheet) (numbers : List ℤ) → Holds state numbers s → Gave (edition_reply s (read_edition text.now)) (after_edition s (read_edition text.now)) numbers (counted_in result) }
 {
     match line::read_edition(text) {
         Err(fault) => refuse(state.blocked(), fault.refusal, fault.place),
@@ -151,8 +151,8 @@ fn decide_edition(state: State, text: &[u8]) -> Decided
 }
 
 // Any line, by its first byte; the empty piece too.
-fn decide(state: State, numbers: &mut Prepared, text: &[u8]) -> Decided
-    ensures { (s : Sheet) → Holds state numbers.old s → Gave (reply_of s text.now) (next_of s text.now) numbers.new result }
+fn examine(state: State, numbers: &mut Prepared, text: &[u8]) -> Decided
+    ensures { (s : Sheet) → Holds state numbers.old s → Gave (reply_of s text.now) (next_of s text.now) numbers.new (counted_in result) }
 {
     if begins_with(text, b'S') {
         return decide_step(state, numbers, text);
@@ -165,4 +165,19 @@ fn decide(state: State, numbers: &mut Prepared, text: &[u8]) -> Decided
     }
     let fault = line::strange(text);
     refuse(state, fault.refusal, fault.place)
+}
+
+// A line decided: the reply to it, and the state after it.
+fn decide(state: State, numbers: &mut Prepared, text: &[u8]) -> Decided
+    requires { state.line ≤ 1000000 }
+    ensures { (s : Sheet) → Holds state numbers.old s → Gave (reply_of s text.now) (next_of s text.now) numbers.new result }
+{
+    let examined = examine(state, numbers, text);
+    Decided {
+        reply: examined.reply,
+        state: State {
+            line: state.line + 1,
+            ..examined.state
+        },
+    }
 }

@@ -32,14 +32,14 @@ struct State {
     closed: bool,
 }
 
-// What is decided on a line: the reply to it, and the state after it, but for the line's number, which whoever reads the lines counts on.
+// What is decided on a line: the reply to it, and the state after it; within `decide`, but for the line's number.
 #[derive(Clone, Copy)]
 struct Decided {
     reply: Reply,
     state: State,
 }
 
-// What is printed for a line: the place past it, and the state after it, likewise.
+// What is printed for a line: the place past it, and the state after it; within `print_point`, but for the line's number.
 #[derive(Clone, Copy)]
 struct Printed {
     at: usize,

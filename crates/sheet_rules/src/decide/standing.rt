@@ -95,7 +95,7 @@ fn answer_within(standing: Standing, numbers: &mut Prepared, text: &[u8]) -> Ans
     let chain = chain_after(standing.chain, decided.reply, text);
     Answered {
         standing: Standing {
-            line: next.line + 1,
+            line: next.line,
             chain: Chain {
                 profile: next.profile,
                 ..chain

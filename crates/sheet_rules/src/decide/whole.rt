@@ -24,7 +24,7 @@ fn fresh() -> State
     }
 }
 
-// The state after so many lines, of which nothing but their number is to be counted in.
+// The state after bare line feeds, which no program knows: their number is all that they change.
 fn passed(state: State, lines: usize) -> State
     requires { state.line + lines ≤ 1000000 }
     ensures { result ≡ passed_in state lines }
@@ -71,13 +71,13 @@ pub fn sheet(input: &[u8], out: &mut [u8]) -> usize
             let end = read.end;
             let done = printed::print_point(state, &numbers, &input[from..end], read, out, at);
             at = done.at;
-            state = passed(done.state, 1);
+            state = done.state;
             from = end;
         } else {
             let end = line::line_end(input, from);
             let decided = decide(state, &mut numbers, &input[from..end]);
             at = write_reply(out, at, decided.reply);
-            state = passed(decided.state, 1);
+            state = decided.state;
             from = end;
         }
     }

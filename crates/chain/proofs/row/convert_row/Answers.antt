@@ -40,12 +40,12 @@ module _ (c : Chain) (d : Direction) (xs : List Point) (ys : List Answer) where
     refused : (e : Refusal) → number e ≡ first (chain_tests c) → (number e ≡ row_fault_of c xs ys) × (ys ≡ row_answers c d xs ys)
     refused e f = (f ∙ fits, L.row-refused c d xs ys (λ z. not-none e (f ∙ fits ∙ z)))
 
-    -- a turn: what the ready chain answers is what the chain does
+    -- a turn: what the ready chain answers is what the chain does, and it is put at the point's own place
     turn : (i : ℕ) (now : List Answer) (x : Point) (r : Answer) (w : ReadyChain) → now ≡ cur i → r ≡ convert_ready w d (get_or xs i x) → w ≡ ready_chain_of c
-        → i < length xs → set now i r ≡ cur (i + 1)
-    turn i now x r w e g f small =
+        → i < length xs → {at : ℕ} → at ≡ i → set now at r ≡ cur (i + 1)
+    turn i now x r w e g f small put =
         let p = get_or xs i x in
-        ap (λ (l : List Answer). set l i r) e ∙ ap (set (cur i) i) (g ∙ ap (λ (w : ReadyChain). convert_ready w d p) f ∙ ready-converts c d p)
+        ap (λ (k : ℕ). set now k r) put ∙ ap (λ (l : List Answer). set l i r) e ∙ ap (set (cur i) i) (g ∙ ap (λ (w : ReadyChain). convert_ready w d p) f ∙ ready-converts c d p)
         ∙ L.cur-set (convert_of c d) i xs ys x small room ∙ ap cur (sym (add-one i))
 
     -- where the loop ends, all are done
@@ -67,9 +67,8 @@ pub loop-i-preserved : goal.loop-i-preserved
 loop-i-preserved c =
     let s = c.args in
     let k = c.loop-i in
-    let w = ready-made s.chain c.in_ok-prepare.ensures.0 (search rules) c.in_ok-prepare.ensures.1 in
     turn s.chain s.direction s.points.now s.answers.now c.if-answers-points.false k.i k.answers _ c.convert_ready.result _ k.invariant
-    c.convert_ready.ensures w c.loop-i-test.true
+    c.convert_ready.ensures (ready-made s.chain c.in_ok-prepare.ensures.0 (search rules) c.in_ok-prepare.ensures.1) c.loop-i-test.true (omega arith)
 
 pub returns : goal.returns
 returns c =

@@ -1,11 +1,12 @@
-use Rattle.std.proofs.Common.{refl, ◌∙◌, arith}
+use Rattle.std.proofs.Common.{refl, ap, ◌≡◌, ◌∙◌, arith}
 use mathlib.Core.Path.{subst⁻¹}
 use lib.Dec.{lit≤}
 use Rattle.chain.specs.declared.Position.{Position}
 use Rattle.chain.specs.Parts.{minus}
 use Rattle.chain.specs.Axes.{Small}
 use Rattle.chain.proofs.StepLaws.{small-le}
-use Rattle.chain.proofs.Ways.{minus-small, forward-is, turn-is, three-turns}
+use Rattle.chain.specs.Ways.{turns}
+use Rattle.chain.proofs.Ways.{minus-small, forward-is, turn-is}
 use Rattle.chain.proofs.steps.moved_by.Goals as goal
 
 pub returns-in-Forward : goal.returns-in-Forward
@@ -34,4 +35,5 @@ loop-turn-preserved g c =
 pub returns : goal.returns
 returns g c t h =
     let at = c.loop-turn in
-    rw c.in-Inverse.is (at.invariant.same t h ∙ three-turns t c.args.p at._turn (omega arith))
+    let e : at._turn ≡ c.args.turns = omega arith in
+    rw c.in-Inverse.is (at.invariant.same t h ∙ ap (turns t c.args.p) e)

@@ -2,7 +2,7 @@ use Rattle.std.proofs.Common.{◌≡◌}
 use Rattle.chain.specs.Parts.{Parts}
 use Rattle.chain.specs.Axes.{Small}
 use Rattle.chain.specs.Ways.{GainsBy}
-use Rattle.chain.proofs.Ways.{turns}
+use Rattle.chain.specs.Ways.{turns}
 use Rattle.chain.proofs.steps.moved_by.Given as goal
 
 abbrev pub invariant-loop-turn : goal.invariant-loop-turn

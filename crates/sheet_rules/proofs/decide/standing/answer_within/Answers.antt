@@ -1,11 +1,8 @@
 -- `sheet_rules::decide::standing::answer_within` meets its contract. Assumes nothing.
 use mathlib.Core.Path.{◌≡◌, sym, ◌∙◌}
-use native.Mathlib.Omega.{arith}
 use mir.Syntax.{w64}
 use mir.Val.{to_z, of_z}
 use Rattle.sheet_rules.specs.OneLine.{sheet_at}
-use Rattle.sheet_rules.specs.State.{passed_in}
-use Rattle.sheet_rules.proofs.Laws.{next-line}
 use Rattle.sheet_rules.proofs.OneLine.{held, accepted-few, chain_by, within-answered}
 use borrow.Author.Rules.{rules}
 use Rattle.sheet_rules.proofs.decide.standing.answer_within.Goals as goal
@@ -17,16 +14,7 @@ chain_after-chain-requires c =
     let g = c.decide-decided.ensures (sheet_at s.args.standing) (rw y (held s.args.standing _ s.requires.2 s.requires.3)) in
     (s.requires.1, λ t b e f. accepted-few (sheet_at s.args.standing) s.args.text.now t b (sym g.reply ∙ e) f)
 
-pub overflow_add-result : goal.overflow_add-result
-unfolding passed_in
-overflow_add-result c =
-    let s = c in
-    let y : to_z w64 (of_z w64 s.args.standing.chain.profile) ≡ s.args.standing.chain.profile = search rules in
-    let g = c.decide-decided.ensures (sheet_at s.args.standing) (rw y (held s.args.standing _ s.requires.2 s.requires.3)) in
-    record { fits = omega (arith, g.holds.line, next-line (sheet_at s.args.standing) s.args.text.now, s.requires.0) }
-
 pub returns : goal.returns
-unfolding passed_in
 returns c =
     let s = c in
     let y : to_z w64 (of_z w64 s.args.standing.chain.profile) ≡ s.args.standing.chain.profile = search rules in

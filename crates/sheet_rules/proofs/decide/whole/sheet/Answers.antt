@@ -1,5 +1,5 @@
 -- `sheet_rules::decide::whole::sheet` meets its contract. Assumes nothing.
-use Prim.Native.Nat.{ℕ, ◌+◌, ◌-◌, ◌<◌, ◌≤◌}
+use Prim.Native.Nat.{ℕ, ◌-◌, ◌<◌}
 use mathlib.Core.Path.{◌≡◌, refl, ap, ◌∙◌}
 use mathlib.Core.List.{List}
 use lib.IntN.{ℤ}
@@ -22,10 +22,8 @@ use Rattle.line.proofs.BareLines.{row_inside}
 use Rattle.listing.proofs.Fold.{printed-long}
 use Rattle.listing.proofs.Room.{prints}
 use Rattle.listing.proofs.Loop.{starts, goes-printed, goes_on, goes-past, ends}
-use Rattle.sheet_rules.specs.declared.State.{State}
-use Rattle.sheet_rules.specs.Sheet.{Sheet, fresh, rules, sheet_of}
-use Rattle.sheet_rules.specs.State.{Holds, passed_in}
-use Rattle.sheet_rules.proofs.Laws.{next-line, point-line-shown}
+use Rattle.sheet_rules.specs.Sheet.{fresh, rules, sheet_of}
+use Rattle.sheet_rules.proofs.Laws.{point-line-shown}
 use Rattle.sheet_rules.proofs.Room.{roomy}
 use Rattle.sheet_rules.proofs.BareLines.{bare, hold-feeds}
 use borrow.Author.Rules.{rules as std_rules}
@@ -54,20 +52,17 @@ passed-state-requires c =
     let l = row_inside c.write_feeds-feeds.result.lines _ c.loop-from.from c.loop-from.invariant.inside c.write_feeds-feeds.ensures.each in
     omega (arith, l, k.counted, k.held.line, c.if-input-gt-LONGEST_INPUT.false)
 
--- a line more is far below the limit
-one_more : (st : State) {l : List ℤ} {t : Sheet} (n from : ℕ) → Holds (passed_in st 1) l t → t.line ≡ n + 1 → n ≤ from + 1 → from < 65536 → st.line + 1 ≤ 1000000
-unfolding passed_in
-one_more st n from h e k f = omega (arith, h.line)
-
-pub passed-state-requires-then-input-from-eq80 : goal.passed-state-requires-then-input-from-eq80
-passed-state-requires-then-input-from-eq80 c =
+pub print_point-done-requires : goal.print_point-done-requires
+print_point-done-requires c =
     let k = c.loop-from.invariant in
-    one_more _ k.state.line c.loop-from.from (c.print_point-done.ensures _ k.held).holds refl (omega (arith, k.counted)) (omega (arith, c.if-input-gt-LONGEST_INPUT.false))
+    let r = placed-read _ _ _ c.read_placed-read.ensures in
+    let profile : to_z w64 (of_z w64 c.loop-from.state.profile) ≡ c.loop-from.state.profile = search std_rules in
+    (omega (arith, k.counted, k.held.line, c.if-input-gt-LONGEST_INPUT.false), rw profile at r.0, r.1)
 
-pub passed-state-requires-else-input-from-eq80 : goal.passed-state-requires-else-input-from-eq80
-passed-state-requires-else-input-from-eq80 c =
+pub decide-decided-requires : goal.decide-decided-requires
+decide-decided-requires c =
     let k = c.loop-from.invariant in
-    one_more _ k.state.line c.loop-from.from (c.decide-decided.ensures _ k.held).holds (next-line _ _) (omega (arith, k.counted)) (omega (arith, c.if-input-gt-LONGEST_INPUT.false))
+    omega (arith, k.counted, k.held.line, c.if-input-gt-LONGEST_INPUT.false)
 
 pub overflow_add-from : goal.overflow_add-from
 overflow_add-from c =
@@ -91,13 +86,6 @@ slice_bounds-print_point-start c = let l = piece _ _ _ (ended _ _ _ _ c.read_pla
 pub slice_bounds-print_point-end : goal.slice_bounds-print_point-end
 slice_bounds-print_point-end c = let l = piece _ _ _ (ended _ _ _ _ c.read_placed-read.ensures) (omega arith) in omega arith
 
-pub print_point-done-requires : goal.print_point-done-requires
-print_point-done-requires c =
-    let k = c.loop-from.invariant in
-    let r = placed-read _ _ _ c.read_placed-read.ensures in
-    let profile : to_z w64 (of_z w64 c.loop-from.state.profile) ≡ c.loop-from.state.profile = search std_rules in
-    (rw profile at r.0, r.1)
-
 pub loop-from-smaller-then-input-from-eq80 : goal.loop-from-smaller-then-input-from-eq80
 loop-from-smaller-then-input-from-eq80 c = let l = piece _ _ _ (ended _ _ _ _ c.read_placed-read.ensures) (omega arith) in omega arith
 
@@ -108,8 +96,7 @@ loop-from-preserved-then-input-from-eq80 c =
     let h = c7.loop-from-test.true in
     let l = piece _ _ _ e h in
     goes-printed rules _ fresh refl _ _ roomy _ e h
-    (λ s i. let w = point-line-shown s _ (first_byte _ _ _ l.some c7.if-input-from-eq80.true) (c.print_point-done.ensures s i) in
-    (w.0, rw c.passed-state-then-input-from-eq80.ensures w.1)) c7.loop-from.invariant
+    (λ s i. point-line-shown s _ (first_byte _ _ _ l.some c7.if-input-from-eq80.true) (c.print_point-done.ensures s i)) c7.loop-from.invariant
 
 pub slice_bounds-decide-count : goal.slice_bounds-decide-count
 slice_bounds-decide-count c = let l = piece _ _ _ c.line_end-end.ensures (omega arith) in omega arith
@@ -126,7 +113,7 @@ loop-from-smaller c = let l = piece _ _ _ c.line_end-end.ensures (omega arith) i
 pub loop-from-preserved : goal.loop-from-preserved
 loop-from-preserved c =
     goes_on rules _ fresh refl _ _ roomy _ _ c.line_end-end.ensures (omega (arith, c.loop-from-test.true))
-    (λ s h. let g = c.decide-decided.ensures s h in (g.reply, rw c.passed-state-else-input-from-eq80.ensures g.holds)) c.write_reply-at.ensures c.loop-from.invariant
+    (λ s h. let g = c.decide-decided.ensures s h in (g.reply, g.holds)) c.write_reply-at.ensures c.loop-from.invariant
 
 pub shape_of-out : goal.shape_of-out
 shape_of-out c = c.loop-from.invariant.size

@@ -1,6 +1,6 @@
 -- `sheet_rules::decide::whole::printed::print_point` meets its contract. Assumes nothing.
-use mathlib.Core.Path.{◌≡◌, ap}
-use Prim.Native.Nat.{ℕ, ◌+◌}
+use mathlib.Core.Path.{◌≡◌}
+use native.Mathlib.Omega.{arith}
 use borrow.Author.Rules.{rules}
 use mir.Syntax.{w64}
 use mir.Val.{to_z, of_z}
@@ -13,4 +13,4 @@ returns c =
     let st = c.print_read-printed.result.state in
     let y : to_z w64 (of_z w64 st.profile) ≡ st.profile = search rules in
     let g = c.print_read-printed.ensures s h in
-    record { wrote = g.wrote; holds = holds-on st _ _ y g.holds (ap (λ (n : ℕ). n + 1) h.line) }
+    record { wrote = g.wrote; holds = holds-on st _ _ y g.holds (omega (arith, h.line)) }

@@ -8,17 +8,16 @@ use lib.IntN.{ℤ, pos, neg_ℤ, nat_abs}
 use lib.ListN.{length, take, drop, set, length-drop, length-take}
 use lib.Seq.{sets}
 use Rattle.refusal.specs.Numbers as refusal
-use Rattle.ranges.specs.Ranges.{within, equal}
+use Rattle.ranges.specs.Ranges.{within}
 use Rattle.ranges.proofs.Ranges.{both, all, above, Natural, natural, equal-self}
 use Rattle.line.specs.Lines.{line_end}
 use Rattle.sheet_rules.specs.OneLine.{sound_standing}
-use Rattle.sheet_stream.specs.declared.Fed.{Fed}
 use Rattle.sheet_stream.specs.declared.Stream.{Stream}
 use Rattle.std.specs.Prelude.{Ok, None}
 use Rattle.sheet_stream.specs.Fragments.{sound, state_of, fed, fed_at, feed_of}
 use Rattle.sheet_stream.proofs.Laws.{sound-parts, sound-is, feed-state}
 use Rattle.sheet_stream.proofs.Scanning.{Going, fed-open}
-use Rattle.chain.specs.Numbers.{number, chain_from}
+use Rattle.chain.specs.Numbers.{number}
 use Rattle.capi.specs.Fragments.{state_range, is_flag, flag, bit, chain_in, standing_in, stream_from, head_of, numbers_with, OpenCall}
 use Rattle.capi.proofs.Streams.{counts, size_of, countable, no_line, no-new-step}
 

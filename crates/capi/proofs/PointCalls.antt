@@ -1,27 +1,26 @@
 -- A call whose fragment ends a point line: the chain stays, and of the numbers the first four move. Assumes nothing.
-use Prim.Native.Nat.{ℕ, zero, suc, ◌+◌, ◌-◌, ◌*◌, ◌≤◌, ◌<◌, min}
-use mathlib.Core.Path.{◌≡◌, refl, sym, ◌∙◌, ap, ap₂, subst}
-use mathlib.Core.Bool.{Bool, true, false, not, ◌&&◌, ◌||◌}
+use Prim.Native.Nat.{ℕ, ◌+◌, ◌-◌, ◌≤◌, ◌<◌, min}
+use mathlib.Core.Path.{◌≡◌, refl, sym, ◌∙◌, ap, subst}
+use mathlib.Core.Bool.{Bool, true, false, not, ◌||◌}
 use mathlib.Core.List.{List, [], ◌∷◌}
 use native.Mathlib.Omega.{arith}
 use borrow.Author.Tests.{ltb-true, leb-true}
 use lib.Dec.{eqb, leb, ltb}
 use lib.IntN.{ℤ, pos, neg_ℤ, nat_abs}
-use lib.ListN.{length, get_or, take, drop, set}
+use lib.ListN.{length, get_or, take, set}
 use lib.Seq.{sets, length-sets}
 use mir.Syntax.{w64}
 use mir.Val.{to_z}
 use Rattle.refusal.specs.Numbers as refusal
 use Rattle.refusal.specs.Order.{pick}
-use Rattle.ranges.proofs.Ranges.{both, all}
+use Rattle.ranges.proofs.Ranges.{all}
 use Rattle.chain.specs.declared.Chain.{Chain}
-use Rattle.chain.specs.Numbers.{number, chain_from}
+use Rattle.chain.specs.Numbers.{number}
 use Rattle.chain.proofs.LentSteps.{eight-steps}
 use Rattle.line.specs.Bytes.{letter_p, line_feed}
 use Rattle.line.specs.Lines.{line_end}
 use Rattle.sheet_rules.specs.declared.LentPoint.{LentPoint}
 use Rattle.sheet_rules.specs.declared.Reply.{Reply}
-use Rattle.sheet_rules.specs.declared.Standing.{Standing}
 use Rattle.sheet_rules.specs.OneLine.{most_lines, counted, sound_standing, reply_to, after_line, answered, PointAnswer, point_answered, PointPrinted}
 use Rattle.sheet_rules.proofs.Answers.{counted-holds}
 use Rattle.sheet_rules.proofs.Points.{point-unsound, point-replied, unsound-printed, replied-printed}
@@ -32,8 +31,8 @@ use Rattle.std.specs.Prelude.{Option, Some, None, Ok, Err}
 use Rattle.refusal.specs.declared.Refusal.TheVariants.{State}
 use Rattle.sheet_stream.specs.Fragments.{no_bytes, between, fed, unsound, ends_with, fed_at, feed_of, Short}
 use Rattle.sheet_stream.proofs.Scanning.{Going, closing-room, fed-line, ended-unsound, ended-replied}
-use Rattle.capi.specs.Fragments.{state_range, is_flag, flag, bit, chain_in, standing_in, stream_from, head_of, numbers_with, point_time, point_passed, FedCall}
-use Rattle.capi.proofs.Streams.{counts, size_of, countable, head, no-new-step, declined, line-ended}
+use Rattle.capi.specs.Fragments.{state_range, flag, bit, chain_in, standing_in, stream_from, head_of, numbers_with, point_time, point_passed, FedCall}
+use Rattle.capi.proofs.Streams.{counts, countable, head, no-new-step, declined, line-ended}
 use Rattle.capi.proofs.OpenCalls.{flag-back, count-back, flags, steps-in, profile-in}
 
 -- what the rules are asked

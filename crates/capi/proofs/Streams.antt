@@ -1,23 +1,21 @@
 -- A state of numbers and bytes, and the three ways in which a call over it ends. Assumes nothing.
-use Prim.Native.Nat.{ℕ, zero, suc, ◌+◌, ◌-◌, ◌*◌, ◌/◌, ◌<◌, ◌≤◌}
+use Prim.Native.Nat.{ℕ, ◌+◌, ◌-◌, ◌*◌, ◌<◌, ◌≤◌}
 use mathlib.Core.Path.{◌≡◌, refl, sym, ◌∙◌, ap, ap₂}
 use mathlib.Core.Bool.{Bool, true, false, ◌&&◌}
 use mathlib.Core.List.{List, [], ◌∷◌, ◌++◌}
-use native.Mathlib.Numerals.{add-one}
 use native.Mathlib.Omega.{arith}
 use borrow.Author.Tests.{eqb-true, leb-true, lt-ltb, le-ltb}
-use lib.Dec.{eqb, leb, ltb}
+use lib.Dec.{eqb, leb}
 use lib.IntN.{ℤ, pos, neg_ℤ, nat_abs}
-use lib.ListN.{length, get_or, take, drop, set, length-drop, length-take}
-use lib.Seq.{take_all, take-suc, take-suc-set, sets, sets-eq}
+use lib.ListN.{length, get_or, take, drop, length-drop, length-take}
+use lib.Seq.{sets, sets-eq}
 use mir.Syntax.{w64}
 use mir.Val.{to_z}
 use mir.ValLaws.{to_z_pos}
 use Rattle.refusal.specs.Numbers as refusal
-use Rattle.refusal.specs.Order.{pick}
 use Rattle.refusal.specs.Refusals as refusals
 use Rattle.refusal.specs.declared.Refusal.{Refusal}
-use Rattle.std.specs.Prelude.{Option, Some, None, Ok, Err}
+use Rattle.std.specs.Prelude.{Some, None, Ok, Err}
 use Rattle.ranges.specs.Ranges.{within}
 use Rattle.ranges.proofs.Ranges.{both, all, Natural, natural, natural-holds, equal-self}
 use Rattle.chain.specs.declared.Step.{Step}
@@ -36,10 +34,11 @@ use Rattle.sheet_rules.specs.OneLine.{sound_at, sound_standing}
 use Rattle.sheet_rules.proofs.Answers.{sound-is}
 use Rattle.sheet_stream.specs.declared.Fed.{Fed}
 use Rattle.sheet_stream.specs.declared.Stream.{Stream}
-use Rattle.sheet_stream.specs.Fragments.{Outcome, Countable, Short}
+use Rattle.sheet_stream.specs.Fragments.{Outcome, Countable, Short, feed_of, finish_of}
+use Rattle.sheet_stream.proofs.Laws.{fed-after-finish, finished-after-finish}
 use Rattle.chain.specs.Numbers.{number, chain_from}
 use Rattle.chain.proofs.LentSteps.{eight-none}
-use Rattle.capi.specs.Fragments.{FreshFromC, sized_state, state_range, is_flag, chain_in, standing_in, stream_from, flag, bit, head_of, convention_number, step_numbers, with_new_step, numbers_with, Called, of_outcome, called, state_call, told_of, told_after, Stated}
+use Rattle.capi.specs.Fragments.{FreshFromC, sized_state, state_range, is_flag, chain_in, standing_in, stream_from, flag, bit, head_of, convention_number, step_numbers, with_new_step, numbers_with, of_outcome, called, state_call, told_of, told_after, Stated, FedCall}
 
 -- ---- the lengths
 pub record Sized (numbers bytes out : ℕ) : Type 0 where
@@ -185,3 +184,21 @@ module _ (f : Stream → Fed) (ns : List ℤ) (bytes : List ℕ) {sized : Bool} 
     pub told-ranged : sized ≡ true → state_range ns ≡ true → {x : Fed} → x ≡ f (stream_from ns bytes) → {told' : List ℤ} → told' ≡ told_of x.taken x.outcome told → told' ≡ told_after f ns bytes sized told
     unfolding told_after
     told-ranged e g h t = rw (e, g, ← h) t
+
+-- whether a state's sheet is finished
+finished-from : (ns : List ℤ) (bytes : List ℕ) → (stream_from ns bytes).finished ≡ flag (number ns 4)
+unfolding stream_from
+finished-from ns bytes = refl
+
+-- ---- a sheet that is finished
+-- what is fed to it
+pub finished-fed : (ns : List ℤ) (bytes : List ℕ) (fragment : List ℕ) → flag (number ns 4) ≡ true → {out : List ℕ} {told : List ℤ} {r : ℤ} → r ≡ neg_ℤ (pos refusal.state)
+    → FedCall (feed_of (stream_from ns bytes) fragment) ns ns bytes bytes out out told told r
+finished-fed ns bytes fragment e h =
+    rw (fed-after-finish (stream_from ns bytes) fragment (finished-from ns bytes ∙ e)) (record { state = record { status = h; state = refl; line = refl; written = refl }; tells = refl })
+
+-- how it ends again
+pub finished-ended : (ns : List ℤ) (bytes : List ℕ) {sized : Bool} → sized ≡ true → state_range ns ≡ true → flag (number ns 4) ≡ true → {out : List ℕ} {r : ℤ} → r ≡ neg_ℤ (pos refusal.state)
+    → Stated (state_call finish_of ns bytes sized) ns ns bytes bytes out out r
+finished-ended ns bytes e g f h =
+    ranged finish_of ns bytes e g (sym (finished-after-finish (stream_from ns bytes) (finished-from ns bytes ∙ f))) (record { status = h; state = refl; line = refl; written = refl })

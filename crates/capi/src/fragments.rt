@@ -87,6 +87,10 @@ fn feed_value(
     requires { (length numbers.old ≡ 111) × (state_range numbers.old ≡ true) × (length bytes.old ≡ 200) × (200 ≤ length out.old) × (length told.old ≡ 2) }
     ensures { FedCall (feed_of (stream_from numbers.old bytes.old) fragment.now) numbers.old numbers.new bytes.old bytes.new out.old out.new told.old told.new result }
 {
+    // a sheet that is finished: its state is not made
+    if state::flag(numbers[4]) {
+        return minus(Refusal::State);
+    }
     let fed = sheet_stream::feed(state::stream_from(numbers, bytes), fragment);
     let taken = fed.taken;
     let outcome = fed.outcome;
@@ -150,6 +154,10 @@ pub fn swivelcrane_finish(numbers: &mut [i64], bytes: &mut [u8], out: &mut [u8])
         return NO_ROOM;
     }
     if !state::in_range(numbers) {
+        return minus(Refusal::State);
+    }
+    // a sheet that is finished: its state is not made
+    if state::flag(numbers[4]) {
         return minus(Refusal::State);
     }
     let fed = sheet_stream::finish(state::stream_from(numbers, bytes));

@@ -1,5 +1,5 @@
 // Two chains made one.
-ghost use Rattle.std.specs.Prelude.{◌≡◌, ◌+◌, ◌≤◌, length};
+ghost use Rattle.std.specs.Prelude.{◌≡◌, ◌+◌, ◌≤◌, length, true};
 ghost use Rattle.std.proofs.lemmas.List.Edits.{sets};
 ghost use Rattle.capi.specs.Joining.{room_for_eight, join_call, Counted};
 
@@ -25,6 +25,30 @@ pub(crate) fn copy(from: &[i64], out: &mut [i64], at: usize)
     }
 }
 
+// Two chains joined where the rows are sized. Never inlined: a call that is refused for its lengths would clear the room for two chains.
+#[inline(never)]
+fn join_sized(
+    first_profile: i64,
+    first: &[i64],
+    second_profile: i64,
+    second: &[i64],
+    out: &mut [i64],
+) -> i64
+    requires { room_for_eight (length first.now) (length second.now) (length out.old) ≡ true }
+    ensures { Counted (join_call first_profile first.now second_profile second.now out.old) out.old out.new result }
+{
+    let joined = chain::join(
+        chain_from(first_profile, first),
+        chain_from(second_profile, second),
+    );
+    if let Err(refusal) = joined {
+        return minus(refusal);
+    }
+    copy(first, out, 0);
+    copy(second, out, first.len());
+    (first.len() + second.len()) as i64
+}
+
 // The steps of the first chain and then of the second, at the start of `out`. The answer is the count of their numbers, or minus the refusal, or NO_ROOM.
 pub fn swivelcrane_join(
     first_profile: i64,
@@ -38,14 +62,5 @@ pub fn swivelcrane_join(
     if !are_sized(first.len(), second.len(), out.len()) {
         return NO_ROOM;
     }
-    let joined = chain::join(
-        chain_from(first_profile, first),
-        chain_from(second_profile, second),
-    );
-    if let Err(refusal) = joined {
-        return minus(refusal);
-    }
-    copy(first, out, 0);
-    copy(second, out, first.len());
-    (first.len() + second.len()) as i64
+    join_sized(first_profile, first, second_profile, second, out)
 }

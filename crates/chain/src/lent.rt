@@ -85,6 +85,14 @@ fn are_good(profile: i64, steps: &[i64]) -> bool
     true
 }
 
+// The refusal of the chain that the numbers say, which is made. Never inlined: the room for the chain would be cleared where none is made.
+#[inline(never)]
+fn fault_made(profile: i64, steps: &[i64]) -> Result<(), Refusal>
+    ensures { fault_number result ≡ first (chain_tests (chain_from profile steps.now)) }
+{
+    checks::chain_fault(numbers::chain_from(profile, steps))
+}
+
 // The refusal that a chain of lent numbers alone decides: that of `chain_fault` for the chain that they say. Only of a bad one is the chain made.
 pub fn fault_in(profile: i64, steps: &[i64]) -> Result<(), Refusal>
     ensures { fault_number result ≡ first (chain_tests (chain_from profile steps.now)) }
@@ -95,5 +103,5 @@ pub fn fault_in(profile: i64, steps: &[i64]) -> Result<(), Refusal>
         }
     }
     // As a new slice: one that is handed on as it came is loaded whole, and this function waits for the two stores that made it.
-    checks::chain_fault(numbers::chain_from(profile, &steps[..steps.len()]))
+    fault_made(profile, &steps[..steps.len()])
 }

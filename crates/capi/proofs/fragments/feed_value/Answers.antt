@@ -1,5 +1,5 @@
 -- `capi::fragments::feed_value` meets its contract: what the library answers is told and given. Assumes nothing.
-use mathlib.Core.Path.{◌∙◌, ap}
+use mathlib.Core.Path.{sym, ◌∙◌, ap}
 use Prim.Native.Nat.{◌<◌}
 use native.Mathlib.Omega.{arith}
 use lib.ListN.{length}
@@ -8,9 +8,14 @@ use Rattle.sheet_stream.specs.declared.Fed.{Fed}
 use Rattle.sheet_stream.specs.declared.Stream.{Stream}
 use Rattle.sheet_stream.specs.Fragments.{feed_of}
 use Rattle.sheet_stream.proofs.Laws.{within, fed-countable, fed-short}
-use Rattle.capi.specs.Fragments.{stream_from}
-use Rattle.capi.proofs.Streams.{countable}
+use Rattle.capi.specs.Fragments.{stream_from, flag}
+use Rattle.capi.proofs.Streams.{countable, finished-fed}
 use Rattle.capi.proofs.fragments.feed_value.Goals as goal
+
+pub returns-then-flag : goal.returns-then-flag
+returns-then-flag c =
+    let s = c.args in
+    rw (told c.minus.type_inv) (finished-fed s.numbers.now s.bytes.now s.fragment.now (sym (c.flag.ensures ∙ ap flag (told c.flag-arg-1.given)) ∙ c.if-flag.true) c.minus.ensures)
 
 pub tell-requires : goal.tell-requires
 tell-requires c =

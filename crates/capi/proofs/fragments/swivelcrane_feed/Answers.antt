@@ -1,6 +1,6 @@
 -- `capi::fragments::swivelcrane_feed` meets its contract: the lengths, the counts and flags, and then what the library answers. Assumes nothing.
 use mathlib.Core.Path.{refl, sym, ◌∙◌, ap}
-use mathlib.Core.Bool.{Bool, true, false, ◌&&◌}
+use mathlib.Core.Bool.{Bool, ◌&&◌}
 use borrow.Author.Tests.{eqb-true}
 use lib.Dec.{eqb}
 use lib.ListN.{length}

@@ -1,12 +1,12 @@
 -- `capi::fragments::swivelcrane_finish` meets its contract: the lengths, the counts and flags, and then what the library answers. Assumes nothing.
 use mathlib.Core.Path.{sym, ◌∙◌, ap}
-use mathlib.Core.Bool.{true}
+use native.Mathlib.Omega.{arith}
 use lib.ListN.{length}
 use Rattle.rounding.proofs.Machine.{told}
 use Rattle.sheet_stream.specs.Fragments.{finish_of}
 use Rattle.sheet_stream.proofs.Laws.{finished-countable, finished-short}
-use Rattle.capi.specs.Fragments.{stream_from}
-use Rattle.capi.proofs.Streams.{sized-parts, countable, unsized, unranged, ranged}
+use Rattle.capi.specs.Fragments.{stream_from, flag}
+use Rattle.capi.proofs.Streams.{sized-parts, countable, unsized, unranged, ranged, finished-ended}
 use Rattle.capi.proofs.fragments.swivelcrane_finish.Goals as goal
 
 pub returns-then-not-are_sized : goal.returns-then-not-are_sized
@@ -25,6 +25,18 @@ returns-then-not-in_range c =
     let s = c.args in
     let sized = sym c.are_sized.ensures ∙ c.if-not-are_sized.false in
     unranged finish_of s.numbers.now s.bytes.now sized (sym c.in_range.ensures ∙ c.if-not-in_range.true) (told c.minus.type_inv ∙ c.minus.ensures)
+
+pub slice_copy_out-flag : goal.slice_copy_out-flag
+slice_copy_out-flag c =
+    let s = c.args in
+    let sized = sym c.are_sized.ensures ∙ c.if-not-are_sized.false in
+    omega (arith, (sized-parts (length s.numbers.now) (length s.bytes.now) (length s.out.now) sized).state)
+
+pub returns-then-flag : goal.returns-then-flag
+returns-then-flag c =
+    let s = c.args in
+    finished-ended s.numbers.now s.bytes.now (sym c.are_sized.ensures ∙ c.if-not-are_sized.false) (sym c.in_range.ensures ∙ c.if-not-in_range.false)
+    (sym (c.flag.ensures ∙ ap flag (told c.flag-arg-1.given)) ∙ c.if-flag.true) (told c.minus-then-flag.type_inv ∙ c.minus-then-flag.ensures)
 
 pub stream_from-requires : goal.stream_from-requires
 stream_from-requires c =

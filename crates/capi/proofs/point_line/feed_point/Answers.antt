@@ -3,15 +3,13 @@ use mathlib.Core.Path.{◌≡◌, ◌∙◌, ap}
 use Prim.Native.Nat.{ℕ}
 use lib.ListN.{replicate}
 use mathlib.Core.List.{[], ◌∷◌}
-use native.Mathlib.Omega.{arith}
-use lib.IntN.{ℤ, pos}
+use lib.IntN.{pos}
 use mir.Syntax.{w64}
 use mir.Val.{to_z}
 use mir.ValLaws.{to_z_pos}
 use Rattle.rounding.proofs.Machine.{told}
-use Rattle.sheet_rules.proofs.Points.{printed-size}
 use Rattle.sheet_stream.proofs.Laws.{no-bytes-is}
-use Rattle.capi.proofs.PointCalls.{point-state, point-fits, point-told}
+use Rattle.capi.proofs.PointCalls.{point-state, point-told}
 use Rattle.capi.proofs.point_line.feed_point.Goals as goal
 
 pub returns-in_default : goal.returns-in_default

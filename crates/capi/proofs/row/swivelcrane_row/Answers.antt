@@ -1,18 +1,14 @@
 -- `capi::row::swivelcrane_row` meets its contract: the lengths, what is lent, the chain, and then an answer for each point. Assumes nothing.
-use mathlib.Core.Path.{◌≡◌, sym, ◌∙◌, ap}
-use mathlib.Core.Bool.{Bool, true, false}
-use Prim.Native.Nat.{ℕ, ◌/◌}
+use mathlib.Core.Path.{sym, ◌∙◌, ap}
 use native.Mathlib.Omega.{arith}
 use lib.IntN.{ℤ, pos}
-use lib.ListN.{length}
 use mir.Syntax.{w64}
 use mir.Val.{to_z, of_z}
 use Rattle.rounding.proofs.Machine.{told, rd}
-use Rattle.chain.specs.declared.Direction.{Direction}
 use Rattle.chain.specs.PointRow.{ready_chain_of}
 use Rattle.chain.proofs.Readying.{ready-fault}
 use Rattle.chain.specs.Numbers.{chain_from}
-use Rattle.capi.specs.PointRow.{direction_from, direction_range, lent_tests}
+use Rattle.capi.specs.PointRow.{direction_from, direction_range}
 use Rattle.capi.proofs.PointRows.{none-is, some-is, too_few, no-way, a-way, unsized, refused-lent, refused-chain, answered}
 use Rattle.capi.proofs.row.swivelcrane_row.Goals as goal
 

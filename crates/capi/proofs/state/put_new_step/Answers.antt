@@ -1,13 +1,12 @@
 -- `capi::state::put_new_step` meets its contract. Assumes nothing.
 use mathlib.Core.Path.{◌≡◌, ◌∙◌, ap}
 use mathlib.Core.List.{List}
-use Prim.Native.Nat.{◌+◌, ◌*◌, ◌<◌}
+use Prim.Native.Nat.{◌+◌, ◌*◌}
 use native.Mathlib.Omega.{arith}
 use lib.IntN.{ℤ}
 use lib.ListN.{length}
 use lib.Seq.{sets}
-use Rattle.capi.proofs.Streams.{counts, size_of, new-step, no-new-step}
-use Rattle.chain.specs.Numbers.{number}
+use Rattle.capi.proofs.Streams.{new-step, no-new-step}
 use borrow.Author.Rules.{rules}
 use Rattle.capi.proofs.state.put_new_step.Goals as goal
 

@@ -30,6 +30,4 @@ pub returns : goal.returns
 returns c =
     let s = c.args in
     let l = s.steps.now in
-    c.chain_fault.ensures
-    ∙ ap (λ (h : Chain). first (chain_tests h))
-    (c.chain_from.ensures ∙ ap₂ chain_from (rd c.ranges.profile) (take_all (length l) l (omega arith)))
+    c.fault_made.ensures ∙ ap (λ (h : Chain). first (chain_tests h)) (ap₂ chain_from (rd c.ranges.profile) (take_all (length l) l (omega arith)))

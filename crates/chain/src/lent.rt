@@ -102,6 +102,5 @@ pub fn fault_in(profile: i64, steps: &[i64]) -> Result<(), Refusal>
             return Ok(());
         }
     }
-    // As a new slice: one that is handed on as it came is loaded whole, and this function waits for the two stores that made it.
-    fault_made(profile, &steps[..steps.len()])
+    fault_made(profile, steps)
 }

@@ -1,15 +1,11 @@
 -- `chain::lent::fault_in` meets its contract: numbers that pass say a chain with no fault. Assumes nothing.
-use mathlib.Core.Path.{sym, ◌∙◌, ap, ap₂}
+use mathlib.Core.Path.{sym, ◌∙◌, ap}
 use lib.IntN.{ℤ}
-use lib.ListN.{length}
-use lib.Seq.{take_all}
-use native.Mathlib.Omega.{arith}
 use borrow.Author.Tests.{leb-true}
 use Rattle.refusal.specs.Order.{first}
 use Rattle.rounding.proofs.Machine.{rd}
 use Rattle.ranges.specs.Ranges.{profile_range}
 use Rattle.ranges.proofs.Ranges.{both}
-use Rattle.chain.specs.declared.Chain.{Chain}
 use Rattle.chain.specs.Faults.{chain_tests}
 use Rattle.chain.specs.Numbers.{chain_from, steps_in, good_steps}
 use Rattle.chain.proofs.LentSteps.{good-chain}
@@ -29,5 +25,4 @@ returns-then-are_good c =
 pub returns : goal.returns
 returns c =
     let s = c.args in
-    let l = s.steps.now in
-    c.fault_made.ensures ∙ ap (λ (h : Chain). first (chain_tests h)) (ap₂ chain_from (rd c.ranges.profile) (take_all (length l) l (omega arith)))
+    c.fault_made.ensures ∙ ap (λ (y : ℤ). first (chain_tests (chain_from y s.steps.now))) (rd c.ranges.profile)

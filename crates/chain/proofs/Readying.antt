@@ -138,6 +138,15 @@ pub ready-fault : (c : Chain) {w : ReadyChain} → w ≡ ready_chain_of c → w.
 unfolding ready_chain_of
 ready-fault c e = ap (λ (w : ReadyChain). w.refusal) e
 
+-- an answer that a fault may refuse: there, or refused
+pub unless-there : {A : Type 0} (n : ℕ) (a b : A) → Ok a ≡ unless n Err (Ok b) → (n ≡ 0) × (a ≡ b)
+unless-there zero a b e = (refl, cc)
+unless-there (suc n) a b e = (cc, cc)
+
+pub unless-refused : {A : Type 0} (n m : ℕ) (b : A) → Err m ≡ unless n Err (Ok b) → (m ≡ n) × (n ≡ 0 → ⊥)
+unless-refused zero m b e = (cc, cc)
+unless-refused (suc n) m b e = (cc, λ z. absurd (omega arith))
+
 -- the steps of a chain, prepared
 abbrev pub prepared : Chain → List ℤ
 prepared c = extended_all c.profile no_numbers (steps_of c)
@@ -147,6 +156,19 @@ pub ready-made : (c : Chain) {n : ℕ} {y : ℤ} {l : List ℤ} → n ≡ first 
     record { refusal = n; profile = y; numbers = l } ≡ ready_chain_of c
 unfolding ready_chain_of
 ready-made c e f g = rw (e, f, g)
+
+-- and so is what is made of an answer that has the prepared steps, or the refusal
+pub ready_refused : (c : Chain) {n : ℕ} {y : ℤ} → Err n ≡ unless (first (chain_tests c)) Err (Ok (prepared c)) → y ≡ c.profile →
+    record { refusal = n; profile = y; numbers = no_numbers } ≡ ready_chain_of c
+ready_refused c {n} e f =
+    let u = unless-refused (first (chain_tests c)) n _ e in
+    ready-made c u.0 f (sym (unless-some (first (chain_tests c)) (λ (n : ℕ). no_numbers) (prepared c) u.1))
+
+pub ready-steps : (c : Chain) {y : ℤ} {l : List ℤ} → Ok l ≡ unless (first (chain_tests c)) Err (Ok (prepared c)) → y ≡ c.profile →
+    record { refusal = 0; profile = y; numbers = l } ≡ ready_chain_of c
+ready-steps c {y} {l} e f =
+    let u = unless-there (first (chain_tests c)) l _ e in
+    ready-made c (sym u.0) f (u.1 ∙ sym (unless-none (first (chain_tests c)) (λ (n : ℕ). no_numbers) (prepared c) u.0))
 
 -- ---- the steps of a good chain, one after the other: none is refused
 module _ (c : Chain) (good : first (chain_tests c) ≡ 0) (i : ℕ) (below : i < c.length) (inside : i < length c.steps) where

@@ -1,14 +1,18 @@
 -- Rows: the list behind the answers after i turns, and what it is at the end.
-use Prim.Native.Nat.{ℕ, zero, suc, ◌*◌, ◌≤◌, ◌<◌, ◌^◌}
+use Prim.Native.Nat.{ℕ, zero, suc, ◌+◌, ◌*◌, ◌≤◌, ◌<◌, ◌^◌}
 use native.Mathlib.Nat.{mul-le-mul_right}
+use native.Mathlib.Numerals.{add-one}
 use native.Mathlib.Omega.{arith}
-use mathlib.Core.Path.{◌≡◌, refl, ap}
+use mathlib.Core.Path.{◌≡◌, refl, sym, ◌∙◌, ap}
 use mathlib.Core.List.{List, [], ◌∷◌, ◌++◌, map}
 use borrow.Author.Tests.{lt-ltb, le-ltb}
 use lib.ListN.{length, get_or, take, drop, set}
 use lib.Seq.{take-length}
 use Rattle.refusal.specs.Numbers as refusal
 use Rattle.refusal.specs.Order.{first}
+use Rattle.refusal.specs.Refusals.{number}
+use Rattle.refusal.specs.declared.Refusal.{Refusal}
+use Rattle.refusal.proofs.Refusals.{not-none}
 use Rattle.chain.specs.declared.Point.{Point}
 use Rattle.chain.specs.declared.Chain.{Chain}
 use Rattle.chain.specs.Convert.{Answer}
@@ -68,3 +72,23 @@ module _ (c : Chain) (d : Direction) (xs : List Point) (ys : List Answer) where
   pub row-fits : length xs ≤ length ys → first (chain_tests c) ≡ row_fault_of c xs ys
   unfolding row_fault
   row-fits h = rw (le-ltb (length ys) (length xs) h)
+
+  -- so with too few answers, and of a bad chain where there are enough, what the row is refused for is said and nothing is written
+  pub row-too_few : length ys < length xs → ◌≡◌ {A = ℕ} refusal.row (row_fault_of c xs ys) × (ys ≡ row_answers c d xs ys)
+  row-too_few h =
+      let e = row-short h in
+      (e, row-refused (λ z. let k : ◌≡◌ {A = ℕ} refusal.row 0 = e ∙ z in absurd (omega arith)))
+
+  module _ (room : length xs ≤ length ys) where
+    pub row-of_bad : (e : Refusal) → number e ≡ first (chain_tests c) → (number e ≡ row_fault_of c xs ys) × (ys ≡ row_answers c d xs ys)
+    row-of_bad e f = (f ∙ row-fits room, row-refused (λ z. not-none e (f ∙ row-fits room ∙ z)))
+
+    -- a turn: a point's answer is put at its own place
+    pub row-on : (i : ℕ) (now : List Answer) (x : Point) (r : Answer) → now ≡ cur (convert_of c d) xs ys i → r ≡ convert_of c d (get_or xs i x) → i < length xs
+        → {at : ℕ} → at ≡ i → set now at r ≡ cur (convert_of c d) xs ys (i + 1)
+    row-on i now x r e f small put = rw (put, e, f) (cur-set (convert_of c d) i xs ys x small room ∙ ap (cur (convert_of c d) xs ys) (sym (add-one i)))
+
+    -- where the loop ends, all are done
+    pub row-all : (i : ℕ) (now : List Answer) → now ≡ cur (convert_of c d) xs ys i → i ≡ length xs → first (chain_tests c) ≡ 0
+        → (0 ≡ row_fault_of c xs ys) × (now ≡ row_answers c d xs ys)
+    row-all i now e f good = (sym good ∙ row-fits room, e ∙ ap (cur (convert_of c d) xs ys) f ∙ row_done (sym (row-fits room) ∙ good))

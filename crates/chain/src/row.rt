@@ -9,6 +9,8 @@ use crate::steps::kept;
 use crate::{Chain, Direction, Point, Prepared, ReadyChain, checks, faults};
 use refusal::Refusal;
 
+pub mod answers;
+
 // A chain's steps, put to the prepared chain of no steps, the first first; or what the chain is refused for, and then none is put.
 // The numbers are lent: handed back in a Result they are copied twice more, which a row of few points pays for.
 fn prepare(chain: Chain, numbers: &mut Prepared) -> Result<(), Refusal>
@@ -69,8 +71,8 @@ pub fn convert_ready(ready: ReadyChain, direction: Direction, point: Point) -> R
 
 // Each point of a lent row by one chain. The first answers are those of `forward` or `inverse` for each point, in order, refused or not; answers past the
 // points are left as they were. A row of answers that is too short (Row), or a bad chain, is refused and nothing is written.
-// The u8 is that of `convert_ready`: what is lent is the caller's, and a refusal past the points can be any number.
-pub fn convert_row(
+// The u8 is that of `convert_ready`: what is lent is the caller's, and a refusal past the points can be any number. `answers::convert_row` is lent refusals.
+pub fn convert_row_numbered(
     chain: Chain,
     direction: Direction,
     points: &[Point],

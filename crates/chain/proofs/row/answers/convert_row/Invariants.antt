@@ -1,0 +1,10 @@
+use mathlib.Core.Path.{◌≡◌}
+use mathlib.Core.List.{map}
+use Rattle.refusal.specs.Refusals.{told}
+use Rattle.chain.specs.PointRow.{convert_of}
+use Rattle.chain.proofs.RowLaws.{cur}
+use Rattle.chain.proofs.row.answers.convert_row.Given as goal
+
+-- after i turns the first i answers are those of the first i points, and the others are as they were
+abbrev pub invariant-loop-i : goal.invariant-loop-i
+invariant-loop-i l = map told l.answers ≡ cur (convert_of l.fn.chain l.direction) l.points (map told l.initial.answers) l.i

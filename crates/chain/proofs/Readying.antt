@@ -158,14 +158,12 @@ unfolding ready_chain_of
 ready-made c e f g = rw (e, f, g)
 
 -- and so is what is made of an answer that has the prepared steps, or the refusal
-pub ready_refused : (c : Chain) {n : ℕ} {y : ℤ} → Err n ≡ unless (first (chain_tests c)) Err (Ok (prepared c)) → y ≡ c.profile →
-    record { refusal = n; profile = y; numbers = no_numbers } ≡ ready_chain_of c
+pub ready_refused : (c : Chain) {n : ℕ} {y : ℤ} → Err n ≡ unless (first (chain_tests c)) Err (Ok (prepared c)) → y ≡ c.profile → record { refusal = n; profile = y; numbers = no_numbers } ≡ ready_chain_of c
 ready_refused c {n} e f =
     let u = unless-refused (first (chain_tests c)) n _ e in
     ready-made c u.0 f (sym (unless-some (first (chain_tests c)) (λ (n : ℕ). no_numbers) (prepared c) u.1))
 
-pub ready-steps : (c : Chain) {y : ℤ} {l : List ℤ} → Ok l ≡ unless (first (chain_tests c)) Err (Ok (prepared c)) → y ≡ c.profile →
-    record { refusal = 0; profile = y; numbers = l } ≡ ready_chain_of c
+pub ready-steps : (c : Chain) {y : ℤ} {l : List ℤ} → Ok l ≡ unless (first (chain_tests c)) Err (Ok (prepared c)) → y ≡ c.profile → record { refusal = 0; profile = y; numbers = l } ≡ ready_chain_of c
 ready-steps c {y} {l} e f =
     let u = unless-there (first (chain_tests c)) l _ e in
     ready-made c (sym u.0) f (u.1 ∙ sym (unless-none (first (chain_tests c)) (λ (n : ℕ). no_numbers) (prepared c) u.0))
